@@ -1,0 +1,2 @@
+pub mod Z
+pub mod Sum

@@ -1,0 +1,1 @@
+// Laws of numbers and sums, in specs/. No code.
