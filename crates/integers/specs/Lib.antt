@@ -4,3 +4,4 @@ pub mod Sums
 pub mod Once
 pub mod Running
 pub mod Tests
+pub mod First

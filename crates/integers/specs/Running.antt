@@ -15,7 +15,7 @@ floorAt n g p = upTo g p / n - upTo g (pred p) / n
 
 -- a greater number has no lesser floor
 pub floor-mono : (n a b : ℕ) → a ≤ b → a / n ≤ b / n
-floor-mono zero a b h = rw (div-zero, div-zero) (omega arith)
+floor-mono zero a b h = rw (div-zero a, div-zero b) (omega arith)
 floor-mono (suc n) a b h = le-div-iff-mul-le {k = suc n} {x = a / suc n} {y = b} (omega arith) .1 (omega (arith, div-mul-le-self a (suc n)))
 
 -- summed up to p, these are the running sum rounded down once
