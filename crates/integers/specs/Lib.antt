@@ -5,3 +5,4 @@ pub mod Once
 pub mod Running
 pub mod Tests
 pub mod First
+pub mod Ranges
