@@ -32,6 +32,16 @@ unfoldable pub fixed : ℕ → ℕ → List ℕ
 fixed zero v = []
 fixed (suc n) v = (48 + above n v % 10) ∷ fixed n v
 
+-- how many digits w has, and none for 0; n is at least as many
+unfoldable pub count : ℕ → ℕ → ℕ
+count zero w = 0
+count (suc n) zero = 0
+count (suc n) (suc w) = suc (count n (suc w / 10))
+
+-- v without leading zeros: its last digit, behind those that the rest has
+unfoldable pub plain : ℕ → List ℕ
+plain v = fixed (suc (count v (v / 10))) v
+
 -- what stands at a place, read as a number of n digits
 abbrev pub pickNumber : Bool → Number → Number
 pickNumber true r = r

@@ -9,7 +9,7 @@ use native.Mathlib.Omega.{arith}
 use native.Mathlib.Nat.{pow-suc, pow-le-pow-right, div-div-eq-div-mul}
 use native.Mathlib.Numerals.{add-one}
 use borrow.Author.Tests.{le-leb, leb-true}
-use Rattle.text.specs.Decimal.{digit, digits, valueFrom, valueOf, above, fixed}
+use Rattle.text.specs.Decimal.{digit, digits, valueFrom, valueOf, above, fixed, count, plain}
 
 -- ---- the number above the last n digits
 
@@ -103,3 +103,78 @@ fixed-value l e = said 0 l e .last
 
 pub value-lt : (l : List ℕ) → digits l ≡ true → valueOf l < 10 ^ length l
 value-lt l e = below (length l) (valueOf l) (said 0 l e .before)
+
+-- ---- without leading zeros
+
+-- w has n digits: nothing stands above them, and the first of them isn't 0
+pub record Digits (n w : ℕ) : Type 0 where
+  pub top : above n w ≡ 0
+  pub lead : (m : ℕ) → n ≡ suc m → 0 < above m w
+
+pub count-is : (f n w : ℕ) → n ≤ f → Digits n w → count f w ≡ n
+unfolding count
+count-is zero zero w h d = refl
+count-is zero (suc n) w h d = absurd (omega arith)
+count-is (suc f) zero zero h d = refl
+count-is (suc f) zero (suc w) h d = absurd (omega (arith, above-zero (suc w), d .top))
+count-is (suc f) (suc n) zero h d = absurd (omega (arith, above-le n 0, d .lead n refl))
+count-is (suc f) (suc n) (suc w) h d =
+    ap suc (count-is f n (suc w / 10) (omega arith) (record {
+      top = sym (above-tail n (suc w)) ∙ d .top;
+      lead = λ m e. omega (arith, above-tail m (suc w), d .lead (suc m) (ap suc e));
+    }))
+
+-- one digit more
+digits-more : (n w : ℕ) → 0 < w → Digits n (w / 10) → Digits (suc n) w
+digits-more n w h d = record { top = above-tail n w ∙ d .top; lead = λ m e. go m (let f : n ≡ m = omega arith in f) }
+  where
+    go : (m : ℕ) → n ≡ m → 0 < above m w
+    go zero e = omega (arith, above-zero w)
+    go (suc m) e = omega (arith, above-tail m w, d .lead m e)
+
+pub count-digits : (f w : ℕ) → w ≤ f → Digits (count f w) w
+unfolding count
+count-digits zero w h = record { top = omega (arith, above-zero w); lead = λ m e. absurd (omega arith) }
+count-digits (suc f) zero h = record { top = above-zero 0; lead = λ m e. absurd (omega arith) }
+count-digits (suc f) (suc w) h = digits-more (count f (suc w / 10)) (suc w) (omega arith) (count-digits f (suc w / 10) (omega arith))
+
+pub length-plain : (v : ℕ) → length (plain v) ≡ suc (count v (v / 10))
+unfolding plain
+length-plain v = length-fixed (suc (count v (v / 10))) v
+
+-- v has fewer digits behind its first than v
+pub fewer : (n v : ℕ) → 0 < above n v → n < v
+fewer zero v h = omega (arith, above-zero v)
+fewer (suc n) v h = let e = above-tail n v in omega (arith, fewer n (v / 10) (omega arith), above-le n (v / 10))
+
+-- n digits behind a first digit, which isn't 0 if there are any, are v's
+pub plain-is : (n v : ℕ) → above n v < 10 → (0 < n → 0 < above n v) → plain v ≡ fixed (suc n) v
+unfolding plain
+plain-is n v one lead = ap (λ (k : ℕ). fixed (suc k) v) (count-is v n (v / 10) (few n lead) (record { top = omega (arith, above-tail n v, above-suc n v); lead = behind }))
+  where
+    few : (n : ℕ) → (0 < n → 0 < above n v) → n ≤ v
+    few zero l = omega arith
+    few (suc n) l = omega (arith, fewer (suc n) v (l (omega arith)))
+
+    behind : (m : ℕ) → n ≡ suc m → 0 < above m (v / 10)
+    behind m e = let p : 0 < above (suc m) v = subst (λ (k : ℕ). 0 < above k v) e (lead (omega arith)) in omega (arith, above-tail m v)
+
+-- how many digits stand behind the first, and what the first is
+pub record Plain (v n : ℕ) : Type 0 where
+  pub bytes : plain v ≡ fixed (suc n) v
+  pub one : above n v < 10
+  pub lead : 0 < n → 0 < above n v
+
+pub plain-has : (v : ℕ) → Plain v (count v (v / 10))
+unfolding plain
+plain-has v =
+    let n = count v (v / 10) in
+    let d = count-digits v (v / 10) (omega arith) in
+    record { bytes = refl; one = omega (arith, above-suc n v, above-tail n v, d .top); lead = first n (d .lead) }
+  where
+    first : (n : ℕ) → ((m : ℕ) → n ≡ suc m → 0 < above m (v / 10)) → 0 < n → 0 < above n v
+    first zero l h = absurd (omega arith)
+    first (suc m) l h = omega (arith, above-tail m v, l m refl)
+
+pub plain-fixed : (v : ℕ) → plain v ≡ fixed (length (plain v)) v
+plain-fixed v = plain-has v .bytes ∙ ap (λ (n : ℕ). fixed n v) (sym (length-plain v))

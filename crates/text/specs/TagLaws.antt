@@ -3,7 +3,7 @@ use mathlib.Core.Path.{_≡_, refl, sym, ap, _∙_}
 use mathlib.Core.Bool.{Bool, true, false, _&&_}
 use mathlib.Core.List.{List, [], _∷_, _++_}
 use Prim.Native.Nat.{ℕ, suc, _+_, _≤_, _<_}
-use lib.ListN.{length, drop, getD, drop-of-length-le}
+use lib.ListN.{length, drop, getD, length-append, drop-of-length-le}
 use lib.Seq.{drop-cons}
 use lib.Dec.{eqb}
 use native.Mathlib.Omega.{arith}
@@ -25,6 +25,9 @@ begins-split (t ∷ ts) (x ∷ s) e = go (eqb x t) refl e (begins-split ts s)
     go : (b : Bool) → eqb x t ≡ b → (b && begins ts s) ≡ true → (begins ts s ≡ true → s ≡ ts ++ drop (length ts) s) → x ∷ s ≡ t ∷ (ts ++ drop (length ts) s)
     go true f e r = ap (λ (y : ℕ). y ∷ s) (eqb-true x t f) ∙ ap (λ (l : List ℕ). t ∷ l) (r e)
     go false f e r = let z : _≡_ {A = ℕ} 0 1 = cc in absurd (omega arith)
+
+pub begins-length : (t s : List ℕ) → begins t s ≡ true → length t ≤ length s
+begins-length t s e = omega (arith, ap length (begins-split t s e), length-append t (drop (length t) s))
 
 -- ---- one byte on: what a loop over a tag goes by
 

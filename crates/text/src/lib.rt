@@ -1,9 +1,9 @@
-// Bytes of text, in and out: tags and decimals of a fixed number of digits.
+// Bytes of text, in and out: tags, decimals of a fixed number of digits and without leading zeros.
 ghost use mathlib.Core.Path.{_≡_};
 ghost use Prim.Native.Nat.{_+_, _≤_};
 ghost use lib.ListN.{length, drop};
 ghost use Rattle.text.specs.Tag.{begins};
-ghost use Rattle.text.specs.Decimal.{fixed, fixedAt};
+ghost use Rattle.text.specs.Decimal.{fixed, plain, fixedAt};
 ghost use Rattle.text.specs.Written.{Wrote};
 
 // What stands where a number is to stand.
@@ -86,4 +86,26 @@ pub fn put_fixed(out: &mut [u8], at: usize, n: usize, v: u64) -> usize
         w = w / 10;
     }
     at + n
+}
+
+// How many digits v has without leading zeros.
+pub fn width(v: u64) -> usize
+    ensures { λ r. ⌜ r ≡ length (plain v) ⌝ }
+{
+    let mut n = 1;
+    let mut w = v / 10;
+    while 0 < w {
+        n += 1;
+        w = w / 10;
+    }
+    n
+}
+
+// Writes v without leading zeros at `at`; answers the place behind it.
+pub fn put_plain(out: &mut [u8], at: usize, v: u64) -> usize
+    requires { ⌜ at + length (plain v) ≤ length (now out) ⌝ }
+    ensures { λ r. ⌜ Wrote (now (out .entry)) at (plain v) (now (out .exit)) r ⌝ }
+{
+    let n = width(v);
+    put_fixed(out, at, n, v)
 }
