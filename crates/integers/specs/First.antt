@@ -15,7 +15,7 @@ first test a (suc n) = let later : Option ℕ = first test (suc a) n in cond (te
 -- the test names some number below n
 unfoldable pub anyBelow : (ℕ → Bool) → ℕ → Bool
 anyBelow test zero = false
-anyBelow test (suc n) = test n || anyBelow test n
+anyBelow test (suc n) = anyBelow test n || test n
 
 module _ (test : ℕ → Bool) (n i : ℕ) where
   pub first-end : n ≤ i → first test i (n - i) ≡ none
@@ -32,13 +32,13 @@ module _ (test : ℕ → Bool) (n i : ℕ) where
 
 pub any-more : (test : ℕ → Bool) (i : ℕ) → test i ≡ false → anyBelow test i ≡ false → anyBelow test (i + 1) ≡ false
 unfolding anyBelow
-any-more test i t e = let s : i + 1 ≡ suc i = omega arith in rw (s, t) e
+any-more test i t e = let s : i + 1 ≡ suc i = omega arith in rw (s, t, e)
 
 pub any-of : (test : ℕ → Bool) (i n : ℕ) → i < n → test i ≡ true → anyBelow test n ≡ true
 unfolding anyBelow
 any-of test i zero h t = absurd (omega arith)
 any-of test i (suc n) h t =
     ⊎-elim
-    (λ e. let q : n ≡ i = omega arith in rw (q, t))
-    (λ l. let s : i < n = omega arith in rw (any-of test i n s t) (or-true (test n)))
+    (λ e. let q : n ≡ i = omega arith in rw (q, t) (or-true (anyBelow test i)))
+    (λ l. let s : i < n = omega arith in rw (any-of test i n s t))
     (eq-or-lt-of-le h)
