@@ -1,0 +1,8 @@
+//! Document 01 calculated once more, plainly, to be compared with the proved programs.
+
+pub mod book;
+pub mod book_cases;
+pub mod calendar;
+pub mod case_text;
+pub mod random;
+pub mod refusal;
