@@ -6,6 +6,7 @@ pub mod calendar;
 pub mod case_text;
 pub mod examples;
 pub mod message;
+pub mod message_cases;
 pub mod program;
 pub mod random;
 pub mod refusal;

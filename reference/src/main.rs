@@ -1,6 +1,6 @@
 //! Writes stored cases and their expected answers; see README.md.
 
-use reference::{book_cases, calendar, case_text, settle_cases};
+use reference::{book_cases, calendar, case_text, message_cases, settle_cases};
 use std::io::{Read, Write};
 
 fn main() {
@@ -12,6 +12,10 @@ fn main() {
         "book-answers" => book_cases::answers(&input()),
         "settle-cases" => settle_cases::cases_text(),
         "settle-answers" => settle_cases::answers(&input()),
+        "write-cases" => message_cases::write_cases_text(),
+        "write-answers" => message_cases::write_answers(&input()),
+        "read-cases" => message_cases::read_cases_text(),
+        "read-answers" => message_cases::read_answers(&input()),
         _ => panic!("no such command; see README.md"),
     };
     std::io::stdout().write_all(output.as_bytes()).unwrap();
@@ -27,8 +31,13 @@ fn input() -> String {
 fn index() -> String {
     let books = book_cases::cases().into_iter().map(|case| case.what);
     let settlings = settle_cases::cases().into_iter().map(|case| case.what);
-    "# What the stored cases test\n\nThe number is that of the case's line.\n\n".to_string()
-        + &case_text::index("book-cases: refusals 1 to 7", books)
-        + "\n"
-        + &case_text::index("settle-cases: the settling call", settlings)
+    let writings = message_cases::write_cases().into_iter().map(|case| case.what);
+    let readings = message_cases::read_whats().into_iter();
+    let sections = [
+        case_text::index("book-cases: refusals 1 to 7", books),
+        case_text::index("settle-cases: the settling call", settlings),
+        case_text::index("write-cases: writing from rows", writings),
+        case_text::index("read-cases: the reader", readings),
+    ];
+    "# What the stored cases test\n\nThe number is that of the case's line.\n\n".to_string() + &sections.join("\n")
 }

@@ -1,6 +1,6 @@
 //! The file: its text, writing from rows, and reading.
 
-use crate::calendar::{is_moment, is_transaction_id, month_length, offset_hours, Date};
+use crate::calendar::{digits, is_moment, is_transaction_id, month_length, offset_hours, Date};
 use crate::refusal::{refused, Refusal};
 
 /// "six u64 a row: partner, supply, delivery direction, position, watts, 0".
@@ -421,13 +421,15 @@ fn read_time_series(reader: &mut Reader, month: &mut Option<(u64, u64)>) -> Opti
 fn read_period(reader: &mut Reader) -> Option<(u64, u64)> {
     let start = reader.word("PeriodStart")?;
     let end = reader.word("PeriodEnd")?;
-    for year in 2018..=2099 {
-        for month in 1..=12 {
-            let (next_year, next) = next_month(year, month);
-            if start == period_moment(year, month) && end == period_moment(next_year, next) {
-                return Some((year as u64, month as u64));
-            }
-        }
+    let year = digits(start.get(0..4)?.as_bytes())?;
+    let month = digits(start.get(5..7)?.as_bytes())?;
+    if !(2018..=2099).contains(&year) || !(1..=12).contains(&month) {
+        return None;
     }
-    None
+    let (next_year, next) = next_month(year, month);
+    if start == period_moment(year, month) && end == period_moment(next_year, next) {
+        Some((year as u64, month as u64))
+    } else {
+        None
+    }
 }
