@@ -22,12 +22,12 @@ pub fn cases() -> Vec<Case> {
     cases.engagement_order();
     cases.large_books();
     cases.order_of_refusals();
-    cases.random_books();
+    cases.0.extend(random_cases(1, 110));
     cases.0
 }
 
-pub fn cases_text() -> String {
-    cases().iter().map(|case| write_sparse(&case.bytes) + "\n").collect()
+pub fn cases_text(cases: &[Case]) -> String {
+    cases.iter().map(|case| write_sparse(&case.bytes) + "\n").collect()
 }
 
 /// The expected output for a text of cases, calculated from that text.
@@ -627,19 +627,22 @@ impl Cases {
         book.choices[0].x = 0;
         self.book("a category and a choice out of range", &book);
     }
+}
 
-    fn random_books(&mut self) {
-        let mut random = Random::new(1);
-        for number in 1..=110 {
-            let book = random_book(&mut random);
-            let bytes = book.encode();
-            let (place, value) = random_damage(&mut random, &book, &bytes);
-            let mut damaged = bytes.clone();
-            damaged[place] = value;
-            self.bytes(format!("random book {number}"), bytes);
-            self.bytes(format!("random book {number}, byte {place} made {value}"), damaged);
-        }
+/// Random good books, each with one byte damaged after it.
+pub fn random_cases(seed: u64, count: usize) -> Vec<Case> {
+    let mut cases = Vec::new();
+    let mut random = Random::new(seed);
+    for number in 1..=count {
+        let book = random_book(&mut random);
+        let bytes = book.encode();
+        let (place, value) = random_damage(&mut random, &book, &bytes);
+        let mut damaged = bytes.clone();
+        damaged[place] = value;
+        cases.push(Case { what: format!("random book {number}"), bytes });
+        cases.push(Case { what: format!("random book {number}, byte {place} made {value}"), bytes: damaged });
     }
+    cases
 }
 
 /// The same points and engagements in a month with a clock-change day.

@@ -8,9 +8,11 @@ fn main() {
     let output = match command.as_str() {
         "months" => calendar::months_text(),
         "index" => index(),
-        "book-cases" => book_cases::cases_text(),
+        "book-cases" => book_cases::cases_text(&book_cases::cases()),
+        "book-random" => book_cases::cases_text(&book_cases::random_cases(argument(2), argument(3) as usize)),
         "book-answers" => book_cases::answers(&input()),
-        "settle-cases" => settle_cases::cases_text(),
+        "settle-cases" => settle_cases::cases_text(&settle_cases::cases()),
+        "settle-random" => settle_cases::cases_text(&settle_cases::random_cases(argument(2), argument(3) as usize)),
         "settle-answers" => settle_cases::answers(&input()),
         "write-cases" => message_cases::write_cases_text(),
         "write-answers" => message_cases::write_answers(&input()),
@@ -25,6 +27,10 @@ fn main() {
         _ => panic!("no such command; see README.md"),
     };
     std::io::stdout().write_all(output.as_bytes()).unwrap();
+}
+
+fn argument(index: usize) -> u64 {
+    std::env::args().nth(index).expect("SEED COUNT").parse().expect("a number")
 }
 
 fn input() -> String {

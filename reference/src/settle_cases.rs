@@ -25,13 +25,13 @@ pub fn cases() -> Vec<SettleCase> {
     cases.method_2();
     cases.volumes();
     cases.order_of_8_and_9();
-    cases.random_books();
+    cases.0.extend(random_cases(2, 200));
     cases.0
 }
 
 /// One case a line: `ROWS LENGTH OFFSET HEX ...`.
-pub fn cases_text() -> String {
-    cases().iter().map(|case| format!("{} {}\n", case.rows_length, write_sparse(&case.bytes))).collect()
+pub fn cases_text(cases: &[SettleCase]) -> String {
+    cases.iter().map(|case| format!("{} {}\n", case.rows_length, write_sparse(&case.bytes))).collect()
 }
 
 /// The expected output for a text of cases: `rows COUNT` and a line of four numbers for each row, or
@@ -525,20 +525,23 @@ impl Cases {
             book.readings[1][30] = MISSING;
         });
     }
+}
 
-    fn random_books(&mut self) {
-        let mut random = Random::new(2);
-        for number in 1..=200 {
-            let book = random_book(&mut random);
-            let exact = 4 * quarter_hours(&book);
-            let length = match random.range(0, 9) {
-                0 => exact.saturating_sub(1),
-                1 => exact + 3,
-                _ => exact,
-            };
-            self.lent(format!("random book {number}"), length, &book);
-        }
+/// Random books, now and then with rows that are too short or longer than needed.
+pub fn random_cases(seed: u64, count: usize) -> Vec<SettleCase> {
+    let mut cases = Cases(Vec::new());
+    let mut random = Random::new(seed);
+    for number in 1..=count {
+        let book = random_book(&mut random);
+        let exact = 4 * quarter_hours(&book);
+        let length = match random.range(0, 9) {
+            0 => exact.saturating_sub(1),
+            1 => exact + 3,
+            _ => exact,
+        };
+        cases.lent(format!("random book {number}"), length, &book);
     }
+    cases.0
 }
 
 /// A good book with few days that matter. Most of its engagements have days enough.
