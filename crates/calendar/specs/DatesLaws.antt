@@ -11,7 +11,7 @@ use lib.Dec.{T, eqb, leb, ltb, lit<, lit≤, eqb→eq, leb→le, eqb·suc-zero}
 use borrow.Author.Tests.{ltb-true, ltb-false, leb-true, leb-false, eqb-true, eqb-false, eq-eqb, ne-eqb, lt-ltb, le-ltb, le-leb, lt-leb}
 use lib.ListN.{List·getD-eq-default, getD, length, drop}
 use Rattle.integers.specs.Sum.{upTo}
-use Rattle.calendar.specs.Dates.{IsMonth, leap, monthLength, yearLength, dayNumber, weekday, sundayUpTo, lastSunday, marchSunday, octoberSunday, lengths, daysBeforeYear, daysBeforeMonth, calendarDays, isDay, clockChange, marchChange, octoberChange, some, hasClockChange}
+use Rattle.calendar.specs.Dates.{IsMonth, leap, monthLength, yearLength, dayNumber, weekday, sundayUpTo, lastSunday, marchSunday, octoberSunday, lengths, daysBeforeYear, daysBeforeMonth, calendarDays, isDay, clockChange, marchChange, octoberChange, some, hasClockChange, nextYear, nextMonth}
 
 -- the test by 400 decides for a century's year, that by 4 for any other
 pub leap-century : (y : ℕ) → y % 100 ≡ 0 → leap y ≡ eqb (y % 400) 0
@@ -353,3 +353,11 @@ clock-change-yes y m lead k e = rw (eq-eqb (marchSunday y + lead) (dayNumber y m
 pub clock-change-no : (y m lead k : ℕ) → (marchSunday y + lead ≡ dayNumber y m 1 + k → ⊥) → clockChange y m lead k ≡ eqb (octoberSunday y + lead) (dayNumber y m 1 + k)
 unfolding clockChange marchChange octoberChange
 clock-change-no y m lead k e = rw (ne-eqb (marchSunday y + lead) (dayNumber y m 1 + k) e)
+
+pub next-is-month : (y m : ℕ) → IsMonth y m → y ≤ 9998 → IsMonth (nextYear y m) (nextMonth m)
+unfolding nextYear nextMonth
+next-is-month y m h l = go (eqb m 12) refl
+  where
+    go : (b : Bool) → eqb m 12 ≡ b → IsMonth (cond b (y + 1) y) (cond b 1 (m + 1))
+    go true e = record { from = omega arith; to = omega arith; january = lit≤ tt; december = lit≤ tt }
+    go false e = record { from = h .from; to = h .to; january = omega arith; december = omega (arith, eqb-false m 12 e) }
