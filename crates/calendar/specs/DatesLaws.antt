@@ -41,6 +41,16 @@ pub no-month : (y m : ℕ) → 12 < m → monthLength y m ≡ 0
 unfolding monthLength
 no-month y m h = List·getD-eq-default (lengths (leap y)) 0 h
 
+-- what has days is a month
+pub is-month : (y m : ℕ) → 1 ≤ monthLength y m → (1 ≤ m) × (m ≤ 12)
+unfolding monthLength
+is-month y zero h = absurd (omega arith)
+is-month y (suc m) h = (omega arith, go (leb (suc m) 12) refl)
+  where
+    go : (b : Bool) → leb (suc m) 12 ≡ b → suc m ≤ 12
+    go true e = leb-true (suc m) 12 e
+    go false e = absurd (omega (arith, no-month y (suc m) (leb-false (suc m) 12 e)))
+
 -- a year has 365 days, a leap year one more
 pub year-length : (y : ℕ) → yearLength y ≡ 365 + cond (leap y) 1 0
 unfolding yearLength upTo monthLength

@@ -1,2 +1,4 @@
 pub mod Dates
 pub mod DatesLaws
+pub mod Moments
+pub mod MomentsLaws
