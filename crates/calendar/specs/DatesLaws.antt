@@ -1,0 +1,356 @@
+-- Laws of dates: the closed forms that the code computes are the definitions, and the definitions mean what they say.
+use mathlib.Core.Path.{_≡_, refl, sym, _∙_, ap, ap₂}
+use mathlib.Core.Bool.{Bool, true, false, cond, not, _&&_, _||_, or-true, and-true}
+use mathlib.Core.List.{List, [], _∷_}
+use Prim.Native.Nat.{ℕ, zero, suc, pred, _+_, _-_, _*_, _/_, _%_, _≤_, _<_}
+use native.Mathlib.Omega.{arith}
+use native.Mathlib.Nat.{add-zero, add-suc, le-refl, div-add-mod', mod-lt, suc-mul}
+use native.Mathlib.Numerals.{add-one, sub-one}
+use lib.Arith.{digits-div}
+use lib.Dec.{T, eqb, leb, ltb, lit<, lit≤, eqb→eq, leb→le, eqb·suc-zero}
+use borrow.Author.Tests.{ltb-true, ltb-false, leb-true, leb-false, eqb-true, eqb-false, eq-eqb, ne-eqb, lt-ltb, le-ltb, le-leb, lt-leb}
+use lib.ListN.{List·getD-eq-default, getD, length, drop}
+use Rattle.integers.specs.First.{anyBelow}
+use Rattle.integers.specs.Running.{upTo}
+use Rattle.calendar.specs.Dates.{IsMonth, leap, monthLength, yearLength, dayNumber, weekday, sundayUpTo, lastSunday, marchSunday, octoberSunday, lengths, daysBeforeYear, daysBeforeMonth, calendarDays, isDay, clockChange, marchChange, octoberChange, hasClockChange}
+
+-- the test by 400 decides for a century's year, that by 4 for any other
+pub leap-century : (y : ℕ) → y % 100 ≡ 0 → leap y ≡ eqb (y % 400) 0
+unfolding leap
+leap-century y e = rw (eq-eqb (y % 4) 0 (omega arith), eq-eqb (y % 100) 0 e)
+
+pub leap-other : (y : ℕ) → (y % 100 ≡ 0 → ⊥) → leap y ≡ eqb (y % 4) 0
+unfolding leap
+leap-other y e = rw (ne-eqb (y % 100) 0 e) (and-true _)
+
+-- only February depends on the year
+pub not-february : (y m : ℕ) → (m ≡ 2 → ⊥) → monthLength y m ≡ getD (lengths false) m 0
+unfolding monthLength
+not-february y m e = go (leap y) m e
+  where
+    go : (b : Bool) (m : ℕ) → (m ≡ 2 → ⊥) → getD (lengths b) m 0 ≡ getD (lengths false) m 0
+    go b zero e = refl
+    go b (suc zero) e = refl
+    go b (suc (suc zero)) e = absurd (e refl)
+    go b (suc (suc (suc m))) e = refl
+
+pub february : (y : ℕ) → monthLength y 2 ≡ cond (leap y) 29 28
+unfolding monthLength
+february y = refl
+
+pub no-month : (y m : ℕ) → 12 < m → monthLength y m ≡ 0
+unfolding monthLength
+no-month y m h = List·getD-eq-default (lengths (leap y)) 0 h
+
+-- a year has 365 days, a leap year one more
+pub year-length : (y : ℕ) → yearLength y ≡ 365 + cond (leap y) 1 0
+unfolding yearLength upTo monthLength
+year-length y = go (leap y)
+  where
+    go : (b : Bool) → upTo (λ m. getD (lengths b) m 0) 12 ≡ 365 + cond b 1 0
+    go true = refl
+    go false = refl
+
+-- a quotient by k gains 1 with each number that k divides
+gain : (k n : ℕ) → 0 < k → suc n / k ≡ n / k + cond (eqb (suc n % k) 0) 1 0
+gain k n h = go (suc n % k) (suc n / k) (div-add-mod' (suc n) k) (mod-lt (suc n) h)
+  where
+    go : (r q : ℕ) → q * k + r ≡ suc n → r < k → q ≡ n / k + cond (eqb r 0) 1 0
+    go zero zero e l = absurd (omega arith)
+    go zero (suc q) e l =
+        let m : n ≡ q * k + pred k = omega (arith, suc-mul q k) in
+        rw m (omega (arith, digits-div q {m = k} {r = pred k} (omega arith)))
+    go (suc r) q e l =
+        let m : n ≡ q * k + r = omega arith in
+        rw (eqb·suc-zero r, m) (omega (arith, digits-div q {m = k} {r = r} (omega arith)))
+
+-- a leap year's day: of the tests by 4, 100 and 400, where each holds the one before does
+leap-day : (y : ℕ) → cond (leap y) 1 0 + cond (eqb (y % 100) 0) 1 0 ≡ cond (eqb (y % 4) 0) 1 0 + cond (eqb (y % 400) 0) 1 0
+unfolding leap
+leap-day y = go (eqb (y % 4) 0) (eqb (y % 100) 0) (eqb (y % 400) 0) refl refl refl
+  where
+    go : (a b c : Bool) → eqb (y % 4) 0 ≡ a → eqb (y % 100) 0 ≡ b → eqb (y % 400) 0 ≡ c → cond (a && (not b || c)) 1 0 + cond b 1 0 ≡ cond a 1 0 + cond c 1 0
+    go true true true p q r = refl
+    go true true false p q r = refl
+    go true false false p q r = refl
+    go false false false p q r = refl
+    go true false true p q r = absurd (omega (arith, eqb-false (y % 100) 0 q, eqb-true (y % 400) 0 r))
+    go false false true p q r = absurd (omega (arith, eqb-false (y % 100) 0 q, eqb-true (y % 400) 0 r))
+    go false true true p q r = absurd (omega (arith, eqb-false (y % 4) 0 p, eqb-true (y % 100) 0 q))
+    go false true false p q r = absurd (omega (arith, eqb-false (y % 4) 0 p, eqb-true (y % 100) 0 q))
+
+-- the days of the years 1 to n
+pub years : (n : ℕ) → upTo yearLength n + n / 100 ≡ 365 * n + n / 4 + n / 400
+unfolding upTo
+years zero = refl
+years (suc n) = rw (gain 4 n (lit< tt), gain 100 n (lit< tt), gain 400 n (lit< tt), year-length (suc n)) (omega (arith, years n, leap-day (suc n)))
+
+pub years-before : (y : ℕ) → daysBeforeYear y ≡ 365 * (y - 1) + (y - 1) / 4 + (y - 1) / 400 - (y - 1) / 100
+years-before y = rw sub-one (omega (arith, years (pred y)))
+
+sum-none : (g : ℕ → ℕ) → upTo g 0 ≡ 0
+unfolding upTo
+sum-none g = refl
+
+pub first-before : (y : ℕ) → daysBeforeMonth y 1 ≡ 0
+first-before y = sum-none (monthLength y)
+
+pub next-before : (y m : ℕ) → 1 ≤ m → daysBeforeMonth y (m + 1) ≡ daysBeforeMonth y m + monthLength y m
+unfolding upTo
+next-before y zero h = absurd (omega arith)
+next-before y (suc m) h = rw add-one refl
+
+-- a known day: 1 January 2001 was a Monday
+pub known-monday : weekday 2001 1 1 ≡ 1
+unfolding weekday dayNumber
+known-monday = omega (arith, years 2000, sum-none (monthLength 2001))
+
+-- a test that holds of each element of a list
+abbrev every : (ℕ → Bool) → List ℕ → Bool
+every test [] = true
+every test (a ∷ l) = test a && every test l
+
+and-T : (a b : Bool) → T (a && b) → T a × T b
+and-T true b h = (tt, h)
+and-T false b h = absurd h
+
+every-at : (test : ℕ → Bool) (l : List ℕ) (k : ℕ) → T (every test l) → k < length l → T (test (getD l k 0))
+every-at test [] k h lt = absurd (omega arith)
+every-at test (a ∷ l) zero h lt = and-T (test a) (every test l) h .0
+every-at test (a ∷ l) (suc k) h lt = every-at test l k (and-T (test a) (every test l) h .1) (omega arith)
+
+-- each month has 28 to 31 days
+pub record Length (days : ℕ) : Type 0 where
+  pub least : 28 ≤ days
+  pub most : days ≤ 31
+
+abbrev lengthTest : ℕ → Bool
+lengthTest days = leb 28 days && leb days 31
+
+pub month-length : (y m : ℕ) → 1 ≤ m → m ≤ 12 → Length (monthLength y m)
+unfolding monthLength
+month-length y zero h l = absurd (omega arith)
+month-length y (suc m) h l = go (leap y)
+  where
+    test : (t : List ℕ) → T (every lengthTest t) → length t ≡ 12 → Length (getD t m 0)
+    test t all e =
+        let both = and-T (leb 28 (getD t m 0)) (leb (getD t m 0) 31) (every-at lengthTest t m all (omega arith)) in
+        record { least = leb→le 28 (getD t m 0) (both .0); most = leb→le (getD t m 0) 31 (both .1) }
+
+    go : (b : Bool) → Length (getD (lengths b) (suc m) 0)
+    go true = test (drop 1 (lengths true)) tt refl
+    go false = test (drop 1 (lengths false)) tt refl
+
+-- the last Sunday up to day d is d less d's weekday, where there is one
+pub sunday-up-to : (y m d : ℕ) → weekday y m d ≤ d → sundayUpTo y m d + weekday y m d ≡ d
+unfolding sundayUpTo weekday dayNumber
+sunday-up-to y m zero h = omega arith
+sunday-up-to y m (suc d) h = go (eqb (dayNumber y m (suc d) % 7) 0) refl (sunday-up-to y m d)
+  where
+    go : (b : Bool) → eqb (dayNumber y m (suc d) % 7) 0 ≡ b → (dayNumber y m d % 7 ≤ d → sundayUpTo y m d + dayNumber y m d % 7 ≡ d) → cond b (suc d) (sundayUpTo y m d) + dayNumber y m (suc d) % 7 ≡ suc d
+    go true e ih = omega (arith, eqb-true (dayNumber y m (suc d) % 7) 0 e)
+    go false e ih =
+        let n : dayNumber y m (suc d) % 7 ≡ suc (dayNumber y m d % 7) = omega (arith, eqb-false (dayNumber y m (suc d) % 7) 0 e) in
+        omega (arith, ih (omega arith))
+
+-- the last Sunday is the last day less its weekday
+pub last-sunday : (y m : ℕ) → 1 ≤ m → m ≤ 12 → lastSunday y m + weekday y m (monthLength y m) ≡ monthLength y m
+unfolding lastSunday weekday
+last-sunday y m h l = sunday-up-to y m (monthLength y m) (omega (arith, month-length y m h l))
+
+-- the last Sunday is a Sunday of the month, and no later day of the month is one
+pub record LastSunday (y m d : ℕ) : Type 0 where
+  pub sunday : weekday y m d ≡ 0
+  pub first : 1 ≤ d
+  pub last : d ≤ monthLength y m
+  pub no-later : (e : ℕ) → d < e → e ≤ monthLength y m → weekday y m e ≡ 0 → ⊥
+
+pub last-sunday-is : (y m : ℕ) → 1 ≤ m → m ≤ 12 → LastSunday y m (lastSunday y m)
+unfolding weekday dayNumber
+last-sunday-is y m h l =
+    record {
+      sunday = omega (arith, last-sunday y m h l, month-length y m h l);
+      first = omega (arith, last-sunday y m h l, month-length y m h l);
+      last = omega (arith, last-sunday y m h l, month-length y m h l);
+      no-later = λ e p q r. omega (arith, last-sunday y m h l, month-length y m h l);
+    }
+
+-- a sum of more terms is at least as great
+pub sum-mono : (g : ℕ → ℕ) (a n : ℕ) → upTo g a ≤ upTo g (a + n)
+unfolding upTo
+sum-mono g a zero = rw add-zero (le-refl _)
+sum-mono g a (suc n) = rw add-suc (omega (arith, sum-mono g a n))
+
+sum-le : (g : ℕ → ℕ) (a b : ℕ) → a ≤ b → upTo g a ≤ upTo g b
+sum-le g a b h =
+    let e : a + (b - a) ≡ b = omega arith in
+    rw e at (sum-mono g a (b - a))
+
+whole : (y m : ℕ) → suc m ≤ 12 → upTo (monthLength y) m + monthLength y (suc m) ≤ yearLength y
+unfolding upTo yearLength
+whole y m h = sum-le (monthLength y) (suc m) 12 h
+
+-- a date lies in its year
+pub record InYear (y number : ℕ) : Type 0 where
+  pub after : daysBeforeYear y < number
+  pub within : number ≤ daysBeforeYear y + yearLength y
+
+pub in-year : (y m d : ℕ) → 1 ≤ m → m ≤ 12 → 1 ≤ d → d ≤ monthLength y m → InYear y (dayNumber y m d)
+unfolding dayNumber
+in-year y zero d h l f t = absurd (omega arith)
+in-year y (suc m) d h l f t = record { after = omega arith; within = omega (arith, whole y m l) }
+
+-- a year ends before a later one starts
+pub year-after : (z y : ℕ) → 1 ≤ z → z < y → daysBeforeYear z + yearLength z ≤ daysBeforeYear y
+unfolding upTo
+year-after zero y h l = absurd (omega arith)
+year-after (suc z) y h l = sum-le yearLength (suc z) (pred y) (omega arith)
+
+-- the last three months after October, or more, have 33 days
+three : (y m : ℕ) → suc m ≤ 10 → upTo (monthLength y) m + monthLength y (suc m) + 33 ≤ yearLength y
+unfolding upTo yearLength
+three y m h = omega (arith, sum-le (monthLength y) (suc m) 10 h, month-length y 11 (lit≤ tt) (lit≤ tt), month-length y 12 (lit≤ tt) (lit≤ tt))
+
+-- the days of a month follow each other
+days : (y m : ℕ) → 1 ≤ monthLength y m → dayNumber y m (monthLength y m) + 1 ≡ dayNumber y m 1 + monthLength y m
+unfolding dayNumber
+days y m h = omega arith
+
+-- a day lies in its year, 33 days before its end or earlier: so do the last Sundays of March and October
+pub record Inner (y number : ℕ) : Type 0 where
+  pub after : daysBeforeYear y < number
+  pub early : number + 33 ≤ daysBeforeYear y + yearLength y
+
+inner : (y m : ℕ) → 1 ≤ m → m ≤ 10 → Inner y (dayNumber y m (lastSunday y m))
+unfolding dayNumber
+inner y zero h l = absurd (omega arith)
+inner y (suc m) h l =
+    record {
+      after = omega (arith, last-sunday-is y (suc m) h (omega arith) .first);
+      early = omega (arith, last-sunday-is y (suc m) h (omega arith) .last, three y m l);
+    }
+
+pub march-inner : (y : ℕ) → Inner y (marchSunday y)
+unfolding marchSunday
+march-inner y = inner y 3 (lit≤ tt) (lit≤ tt)
+
+pub october-inner : (y : ℕ) → Inner y (octoberSunday y)
+unfolding octoberSunday
+october-inner y = inner y 10 (lit≤ tt) (lit≤ tt)
+
+-- such a day in a calendar is one of the month's own year
+pub own-year : (y m lead k z number : ℕ) → 1 ≤ y → 1 ≤ z → 1 ≤ m → m ≤ 12 → lead ≤ 33 → k < calendarDays y m lead → Inner z number → T (isDay y m lead k number) → z ≡ y
+unfolding calendarDays
+own-year y m lead k z number hy hz h l few below i is = go (ltb z y) (ltb y z) refl refl
+  where
+    day : number + lead ≡ dayNumber y m 1 + k
+    day = eqb→eq (number + lead) (dayNumber y m 1 + k) is
+
+    first : InYear y (dayNumber y m 1)
+    first = in-year y m 1 h l (lit≤ tt) (omega (arith, month-length y m h l))
+
+    end : InYear y (dayNumber y m (monthLength y m))
+    end = in-year y m (monthLength y m) h l (omega (arith, month-length y m h l)) (le-refl _)
+
+    go : (a b : Bool) → ltb z y ≡ a → ltb y z ≡ b → z ≡ y
+    go true b p q = absurd (omega (arith, day, i, first, year-after z y hz (ltb-true z y p)))
+    go false true p q = absurd (omega (arith, day, i, end, days y m (omega (arith, month-length y m h l)), year-after y z hy (ltb-true y z q)))
+    go false false p q = omega (arith, ltb-false z y p, ltb-false y z q)
+
+-- some of n numbers, counted on from b, is a
+pub any-is : (a b n : ℕ) → anyBelow (λ k. eqb a (b + k)) n ≡ (leb b a && ltb a (b + n))
+unfolding anyBelow
+any-is a b zero = go (leb b a) refl
+  where
+    go : (x : Bool) → leb b a ≡ x → false ≡ (x && ltb a (b + 0))
+    go true e = sym (le-ltb a (b + 0) (omega (arith, leb-true b a e)))
+    go false e = refl
+any-is a b (suc n) = rw (any-is a b n) (go (leb b a) (ltb a (b + n)) (eqb a (b + n)) refl refl refl)
+  where
+    go : (x y z : Bool) → leb b a ≡ x → ltb a (b + n) ≡ y → eqb a (b + n) ≡ z → ((x && y) || z) ≡ (x && ltb a (b + suc n))
+    go true true z p q r = sym (lt-ltb a (b + suc n) (omega (arith, ltb-true a (b + n) q)))
+    go true false true p q r = sym (lt-ltb a (b + suc n) (omega (arith, eqb-true a (b + n) r)))
+    go true false false p q r = sym (le-ltb a (b + suc n) (omega (arith, ltb-false a (b + n) q, eqb-false a (b + n) r)))
+    go false y true p q r = absurd (omega (arith, leb-false b a p, eqb-true a (b + n) r))
+    go false y false p q r = refl
+
+or-swap : (a b c d : Bool) → ((a || b) || (c || d)) ≡ ((a || c) || (b || d))
+or-swap true b c d = refl
+or-swap false true c d = sym (or-true c)
+or-swap false false c d = refl
+
+pub any-or : (f g : ℕ → Bool) (n : ℕ) → anyBelow (λ k. f k || g k) n ≡ (anyBelow f n || anyBelow g n)
+unfolding anyBelow
+any-or f g zero = refl
+any-or f g (suc n) = rw (any-or f g n) (or-swap (anyBelow f n) (anyBelow g n) (f n) (g n))
+
+-- a day of that number is one of the calendar's
+abbrev pub inCalendar : ℕ → ℕ → ℕ → ℕ → Bool
+inCalendar y m lead number =
+    leb (dayNumber y m 1) (number + lead) && ltb (number + lead) (dayNumber y m 1 + calendarDays y m lead)
+
+-- a calendar has a clock-change day if one of the year's two lies in it
+pub has-clock-change : (y m lead : ℕ) → hasClockChange y m lead ≡ (inCalendar y m lead (marchSunday y) || inCalendar y m lead (octoberSunday y))
+unfolding hasClockChange clockChange marchChange octoberChange
+has-clock-change y m lead =
+    any-or _ _ (calendarDays y m lead)
+    ∙ ap₂ _||_ (any-is (marchSunday y + lead) (dayNumber y m 1) (calendarDays y m lead)) (any-is (octoberSunday y + lead) (dayNumber y m 1) (calendarDays y m lead))
+
+-- the last Sunday of a month lies in each calendar of that month
+own-month : (y m lead : ℕ) → 1 ≤ m → m ≤ 12 → inCalendar y m lead (dayNumber y m (lastSunday y m)) ≡ true
+unfolding dayNumber calendarDays
+own-month y m lead h l =
+    let s = last-sunday-is y m h l in
+    let from : dayNumber y m 1 ≤ dayNumber y m (lastSunday y m) + lead = omega (arith, s .first) in
+    let to : dayNumber y m (lastSunday y m) + lead < dayNumber y m 1 + calendarDays y m lead = omega (arith, s .last) in
+    ap₂ _&&_ (le-leb _ _ from) (lt-ltb _ _ to)
+
+-- "March always gives 3", and so does October
+pub march-has : (y lead : ℕ) → hasClockChange y 3 lead ≡ true
+unfolding marchSunday
+march-has y lead = rw (has-clock-change y 3 lead, own-month y 3 lead (lit≤ tt) (lit≤ tt))
+
+pub october-has : (y lead : ℕ) → hasClockChange y 10 lead ≡ true
+unfolding octoberSunday
+october-has y lead =
+    rw (has-clock-change y 10 lead, own-month y 10 lead (lit≤ tt) (lit≤ tt))
+    (or-true (inCalendar y 10 lead (marchSunday y)))
+
+-- ---- bounds, by which the code's sums fit
+
+pub sunday-most : (y m : ℕ) → 1 ≤ m → m ≤ 12 → lastSunday y m ≤ 31
+sunday-most y m h l = omega (arith, last-sunday-is y m h l .last, month-length y m h l)
+
+pub before-year : (y : ℕ) → y ≤ 9999 → daysBeforeYear y ≤ 3660000
+before-year y h = omega (arith, years (pred y))
+
+pub year-most : (y : ℕ) → yearLength y ≤ 366
+year-most y = go (leap y) (year-length y)
+  where
+    go : (b : Bool) → yearLength y ≡ 365 + cond b 1 0 → yearLength y ≤ 366
+    go true e = omega arith
+    go false e = omega arith
+
+pub before-month : (y m : ℕ) → m ≤ 12 → daysBeforeMonth y m ≤ 366
+unfolding yearLength
+before-month y m h = omega (arith, sum-le (monthLength y) (pred m) 12 (omega arith), year-most y)
+
+pub number-most : (y m d : ℕ) → IsMonth y m → d ≤ 31 → dayNumber y m d ≤ 4000000
+unfolding dayNumber
+number-most y m d h l = omega (arith, before-year y (h .to), before-month y m (h .december))
+
+pub inner-most : (y number : ℕ) → y ≤ 9999 → Inner y number → number ≤ 4000000
+inner-most y number h i = omega (arith, before-year y h, year-most y)
+
+pub calendar-most : (y m lead : ℕ) → IsMonth y m → lead ≤ 255 → calendarDays y m lead ≤ 286
+unfolding calendarDays
+calendar-most y m lead h l = omega (arith, month-length y m (h .january) (h .december))
+
+-- the test of a clock-change day, March first
+pub clock-change-yes : (y m lead k : ℕ) → marchSunday y + lead ≡ dayNumber y m 1 + k → clockChange y m lead k ≡ true
+unfolding clockChange marchChange octoberChange
+clock-change-yes y m lead k e = rw (eq-eqb (marchSunday y + lead) (dayNumber y m 1 + k) e)
+
+pub clock-change-no : (y m lead k : ℕ) → (marchSunday y + lead ≡ dayNumber y m 1 + k → ⊥) → clockChange y m lead k ≡ eqb (octoberSunday y + lead) (dayNumber y m 1 + k)
+unfolding clockChange marchChange octoberChange
+clock-change-no y m lead k e = rw (ne-eqb (marchSunday y + lead) (dayNumber y m 1 + k) e)
