@@ -4,7 +4,8 @@ use mathlib.Core.List.{List, [], _∷_}
 use Prim.Native.Nat.{ℕ, zero, suc, pred, _+_, _%_, _≤_}
 use lib.Dec.{eqb, leb, ltb}
 use lib.ListN.{getD}
-use Rattle.integers.specs.Sum.{upTo}
+use Rattle.integers.specs.First.{anyBelow}
+use Rattle.integers.specs.Running.{upTo}
 
 -- 4 divides a leap year; where 100 divides it too, 400 does
 unfoldable pub leap : ℕ → Bool
@@ -87,14 +88,9 @@ octoberChange year month lead k = isDay year month lead k (octoberSunday year)
 unfoldable pub clockChange : ℕ → ℕ → ℕ → ℕ → Bool
 clockChange year month lead k = marchChange year month lead k || octoberChange year month lead k
 
--- some number below n passes a test
-unfoldable pub some : (ℕ → Bool) → ℕ → Bool
-some test zero = false
-some test (suc n) = some test n || test n
-
 -- "a clock-change day in the calendar"
 unfoldable pub hasClockChange : ℕ → ℕ → ℕ → Bool
-hasClockChange year month lead = some (clockChange year month lead) (calendarDays year month lead)
+hasClockChange year month lead = anyBelow (clockChange year month lead) (calendarDays year month lead)
 
 -- the month after a month
 unfoldable pub nextYear : ℕ → ℕ → ℕ

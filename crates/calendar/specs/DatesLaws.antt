@@ -10,8 +10,9 @@ use lib.Arith.{digits-div}
 use lib.Dec.{T, eqb, leb, ltb, lit<, lit≤, eqb→eq, leb→le, eqb·suc-zero}
 use borrow.Author.Tests.{ltb-true, ltb-false, leb-true, leb-false, eqb-true, eqb-false, eq-eqb, ne-eqb, lt-ltb, le-ltb, le-leb, lt-leb}
 use lib.ListN.{List·getD-eq-default, getD, length, drop}
-use Rattle.integers.specs.Sum.{upTo}
-use Rattle.calendar.specs.Dates.{IsMonth, leap, monthLength, yearLength, dayNumber, weekday, sundayUpTo, lastSunday, marchSunday, octoberSunday, lengths, daysBeforeYear, daysBeforeMonth, calendarDays, isDay, clockChange, marchChange, octoberChange, some, hasClockChange, nextYear, nextMonth}
+use Rattle.integers.specs.First.{anyBelow}
+use Rattle.integers.specs.Running.{upTo}
+use Rattle.calendar.specs.Dates.{IsMonth, leap, monthLength, yearLength, dayNumber, weekday, sundayUpTo, lastSunday, marchSunday, octoberSunday, lengths, daysBeforeYear, daysBeforeMonth, calendarDays, isDay, clockChange, marchChange, octoberChange, hasClockChange, nextYear, nextMonth}
 
 -- the test by 400 decides for a century's year, that by 4 for any other
 pub leap-century : (y : ℕ) → y % 100 ≡ 0 → leap y ≡ eqb (y % 400) 0
@@ -267,14 +268,14 @@ own-year y m lead k z number hy hz h l few below i is = go (ltb z y) (ltb y z) r
     go false false p q = omega (arith, ltb-false z y p, ltb-false y z q)
 
 -- some of n numbers, counted on from b, is a
-pub some-is : (a b n : ℕ) → some (λ k. eqb a (b + k)) n ≡ (leb b a && ltb a (b + n))
-unfolding some
-some-is a b zero = go (leb b a) refl
+pub any-is : (a b n : ℕ) → anyBelow (λ k. eqb a (b + k)) n ≡ (leb b a && ltb a (b + n))
+unfolding anyBelow
+any-is a b zero = go (leb b a) refl
   where
     go : (x : Bool) → leb b a ≡ x → false ≡ (x && ltb a (b + 0))
     go true e = sym (le-ltb a (b + 0) (omega (arith, leb-true b a e)))
     go false e = refl
-some-is a b (suc n) = rw (some-is a b n) (go (leb b a) (ltb a (b + n)) (eqb a (b + n)) refl refl refl)
+any-is a b (suc n) = rw (any-is a b n) (go (leb b a) (ltb a (b + n)) (eqb a (b + n)) refl refl refl)
   where
     go : (x y z : Bool) → leb b a ≡ x → ltb a (b + n) ≡ y → eqb a (b + n) ≡ z → ((x && y) || z) ≡ (x && ltb a (b + suc n))
     go true true z p q r = sym (lt-ltb a (b + suc n) (omega (arith, ltb-true a (b + n) q)))
@@ -288,10 +289,10 @@ or-swap true b c d = refl
 or-swap false true c d = sym (or-true c)
 or-swap false false c d = refl
 
-pub some-or : (f g : ℕ → Bool) (n : ℕ) → some (λ k. f k || g k) n ≡ (some f n || some g n)
-unfolding some
-some-or f g zero = refl
-some-or f g (suc n) = rw (some-or f g n) (or-swap (some f n) (some g n) (f n) (g n))
+pub any-or : (f g : ℕ → Bool) (n : ℕ) → anyBelow (λ k. f k || g k) n ≡ (anyBelow f n || anyBelow g n)
+unfolding anyBelow
+any-or f g zero = refl
+any-or f g (suc n) = rw (any-or f g n) (or-swap (anyBelow f n) (anyBelow g n) (f n) (g n))
 
 -- a day of that number is one of the calendar's
 abbrev pub inCalendar : ℕ → ℕ → ℕ → ℕ → Bool
@@ -302,8 +303,8 @@ inCalendar y m lead number =
 pub has-clock-change : (y m lead : ℕ) → hasClockChange y m lead ≡ (inCalendar y m lead (marchSunday y) || inCalendar y m lead (octoberSunday y))
 unfolding hasClockChange clockChange marchChange octoberChange
 has-clock-change y m lead =
-    some-or _ _ (calendarDays y m lead)
-    ∙ ap₂ _||_ (some-is (marchSunday y + lead) (dayNumber y m 1) (calendarDays y m lead)) (some-is (octoberSunday y + lead) (dayNumber y m 1) (calendarDays y m lead))
+    any-or _ _ (calendarDays y m lead)
+    ∙ ap₂ _||_ (any-is (marchSunday y + lead) (dayNumber y m 1) (calendarDays y m lead)) (any-is (octoberSunday y + lead) (dayNumber y m 1) (calendarDays y m lead))
 
 -- the last Sunday of a month lies in each calendar of that month
 own-month : (y m lead : ℕ) → 1 ≤ m → m ≤ 12 → inCalendar y m lead (dayNumber y m (lastSunday y m)) ≡ true

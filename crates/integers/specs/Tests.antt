@@ -1,0 +1,23 @@
+-- A test that antt computes at each number below n, as the fact at each of them.
+use mathlib.Core.Path.{subst}
+use mathlib.Core.Bool.{Bool, true, false, cond, not}
+use Prim.Native.Nat.{ℕ, zero, suc, _<_, _≤_}
+use native.Mathlib.Omega.{arith}
+use lib.Dec.{T, ltb, ltb→lt, nltb→le}
+
+-- the test passes at each number below n
+abbrev pub allBelow : (ℕ → Bool) → ℕ → Bool
+allBelow test zero = true
+allBelow test (suc n) = cond (test n) (allBelow test n) false
+
+both : (a b : Bool) → T (cond a b false) → T a × T b
+both true b t = (tt, t)
+both false b t = absurd t
+
+pub all-below : (test : ℕ → Bool) (n : ℕ) → T (allBelow test n) → (x : ℕ) → x < n → T (test x)
+all-below test zero t x h = absurd (omega arith)
+all-below test (suc n) t x h = go (ltb x n) (ltb→lt x n) (nltb→le x n) (all-below test n (both (test n) (allBelow test n) t .1) x)
+  where
+    go : (b : Bool) → (T b → x < n) → (T (not b) → n ≤ x) → (x < n → T (test x)) → T (test x)
+    go true below above rest = rest (below tt)
+    go false below above rest = let e : n ≤ x = above tt in subst (λ (m : ℕ). T (test m)) (omega arith) (both (test n) (allBelow test n) t .0)

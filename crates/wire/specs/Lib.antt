@@ -1,0 +1,4 @@
+pub mod Numbers
+pub mod NumbersLaws
+pub mod Readings
+pub mod ReadingsLaws

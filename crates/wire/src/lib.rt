@@ -1,0 +1,63 @@
+// Numbers out of bytes: unsigned ones of 1, 2, 4 and 8 bytes, the least byte first, and the signed reading of 4.
+ghost use mathlib.Core.Path.{_≡_};
+ghost use Prim.Native.Nat.{_+_, _*_, _≤_};
+ghost use lib.ListN.{length};
+ghost use Rattle.wire.specs.Numbers.{numberAt};
+ghost use Rattle.wire.specs.Readings.{readingAt, raised};
+
+pub fn u8_at(s: &[u8], at: usize) -> u8
+    requires { ⌜ at + 1 ≤ length (now s) ⌝ }
+    ensures { λ r. ⌜ r ≡ numberAt (now (s .entry)) at 1 ⌝ }
+{
+    s[at]
+}
+
+pub fn u16_at(s: &[u8], at: usize) -> u16
+    requires { ⌜ at + 2 ≤ length (now s) ⌝ }
+    ensures { λ r. ⌜ r ≡ numberAt (now (s .entry)) at 2 ⌝ }
+{
+    (u8_at(s, at) as u16) + 256 * (u8_at(s, at + 1) as u16)
+}
+
+pub fn u32_at(s: &[u8], at: usize) -> u32
+    requires { ⌜ at + 4 ≤ length (now s) ⌝ }
+    ensures { λ r. ⌜ r ≡ numberAt (now (s .entry)) at 4 ⌝ }
+{
+    (u16_at(s, at) as u32) + 65536 * (u16_at(s, at + 2) as u32)
+}
+
+pub fn u64_at(s: &[u8], at: usize) -> u64
+    requires { ⌜ at + 8 ≤ length (now s) ⌝ }
+    ensures { λ r. ⌜ r ≡ numberAt (now (s .entry)) at 8 ⌝ }
+{
+    (u32_at(s, at) as u64) + 4294967296 * (u32_at(s, at + 4) as u64)
+}
+
+// A reading: watts, off-take positive, or none.
+pub enum Reading {
+    Watts(i64),
+    Missing,
+}
+
+// Reading `i` of the readings that `s` holds.
+pub fn reading_at(s: &[u8], i: usize) -> Reading
+    requires { ⌜ 4 * i + 4 ≤ length (now s) ⌝ }
+    ensures { λ r. ⌜ r ≡ readingAt (now (s .entry)) i ⌝ }
+{
+    let bits = u32_at(s, 4 * i);
+    if bits < 2147483648 {
+        return Reading::Watts(bits as i64);
+    }
+    if bits == 2147483648 {
+        return Reading::Missing;
+    }
+    Reading::Watts(bits as i64 - 4294967296)
+}
+
+// The same reading without a sign: its watts plus 2^31, and 0 where it is missing.
+pub fn raised_at(s: &[u8], i: usize) -> u32
+    requires { ⌜ 4 * i + 4 ≤ length (now s) ⌝ }
+    ensures { λ r. ⌜ r ≡ raised (readingAt (now (s .entry)) i) ⌝ }
+{
+    std::num::wrapping_add_u32(u32_at(s, 4 * i), 2147483648)
+}
