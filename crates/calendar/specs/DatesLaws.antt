@@ -12,7 +12,7 @@ use borrow.Author.Tests.{ltb-true, ltb-false, leb-true, leb-false, eqb-true, eqb
 use lib.ListN.{List·getD-eq-default, getD, length, drop}
 use Rattle.integers.specs.First.{anyBelow}
 use Rattle.integers.specs.Running.{upTo}
-use Rattle.calendar.specs.Dates.{IsMonth, leap, monthLength, yearLength, dayNumber, weekday, sundayUpTo, lastSunday, marchSunday, octoberSunday, lengths, daysBeforeYear, daysBeforeMonth, calendarDays, isDay, clockChange, marchChange, octoberChange, hasClockChange, nextYear, nextMonth}
+use Rattle.calendar.specs.Dates.{IsMonth, leap, monthLength, yearLength, dayNumber, weekday, sundayUpTo, lastSunday, marchSunday, octoberSunday, offsetHours, lengths, daysBeforeYear, daysBeforeMonth, calendarDays, isDay, clockChange, marchChange, octoberChange, hasClockChange, nextYear, nextMonth}
 
 -- the test by 400 decides for a century's year, that by 4 for any other
 pub leap-century : (y : ℕ) → y % 100 ≡ 0 → leap y ≡ eqb (y % 400) 0
@@ -325,6 +325,42 @@ unfolding octoberSunday
 october-has y lead =
     rw (has-clock-change y 10 lead, own-month y 10 lead (lit≤ tt) (lit≤ tt))
     (or-true (inCalendar y 10 lead (marchSunday y)))
+
+-- ---- the offset of the first of a month: +02:00 from April to October
+
+first-mono : (y m k : ℕ) → m ≤ k → dayNumber y m 1 ≤ dayNumber y k 1
+unfolding dayNumber
+first-mono y m k h = omega (arith, sum-le (monthLength y) (pred m) (pred k) (omega arith))
+
+-- the last Sunday comes after the first of its month and before that of the next one
+sunday-after : (y m : ℕ) → 1 ≤ m → m ≤ 12 → dayNumber y m 1 < dayNumber y m (lastSunday y m)
+unfolding dayNumber weekday
+sunday-after y m h l = omega (arith, last-sunday y m h l, month-length y m h l)
+
+sunday-before : (y m : ℕ) → 1 ≤ m → m ≤ 12 → dayNumber y m (lastSunday y m) < dayNumber y (m + 1) 1
+unfolding dayNumber
+sunday-before y m h l = omega (arith, next-before y m h, last-sunday-is y m h l .last)
+
+pub first-offset : (y m : ℕ) → offsetHours y m 1 ≡ cond (leb 4 m && leb m 10) 2 1
+unfolding offsetHours marchSunday octoberSunday
+first-offset y m = go (leb 4 m) (leb m 10) refl refl
+  where
+    march : ℕ
+    march = dayNumber y 3 (lastSunday y 3)
+
+    october : ℕ
+    october = dayNumber y 10 (lastSunday y 10)
+
+    number : ℕ
+    number = dayNumber y m 1
+
+    go : (a b : Bool) → leb 4 m ≡ a → leb m 10 ≡ b → cond {A = ℕ} (leb march number && ltb number october) 2 1 ≡ cond (a && b) 2 1
+    go true true p q =
+        rw (le-leb march number (omega (arith, sunday-before y 3 (lit≤ tt) (lit≤ tt), first-mono y 4 m (leb-true 4 m p))), lt-ltb number october (omega (arith, sunday-after y 10 (lit≤ tt) (lit≤ tt), first-mono y m 10 (leb-true m 10 q))))
+    go true false p q =
+        rw (le-leb march number (omega (arith, sunday-before y 3 (lit≤ tt) (lit≤ tt), first-mono y 4 m (leb-true 4 m p))), le-ltb number october (omega (arith, sunday-before y 10 (lit≤ tt) (lit≤ tt), first-mono y 11 m (leb-false m 10 q))))
+    go false b p q =
+        rw (lt-leb march number (omega (arith, sunday-after y 3 (lit≤ tt) (lit≤ tt), first-mono y m 3 (omega (arith, leb-false 4 m p)))))
 
 -- ---- bounds, by which the code's sums fit
 

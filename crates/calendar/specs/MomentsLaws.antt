@@ -8,15 +8,15 @@ use borrow.Author.Tests.{eqb-true, leb-true, eq-eqb, ne-eqb}
 use lib.Dec.{T, eqb, leb, lit<}
 use lib.ListN.{length, take, drop, drop-of-length-le}
 use Rattle.text.specs.Ascii.{bytes}
-use Rattle.text.specs.Decimal.{digits, valueOf, fixed, fixedAt, pickNumber}
+use Rattle.text.specs.Decimal.{digits, valueOf, above, fixed, fixedAt, pickNumber}
 use Rattle.text.specs.DecimalLaws.{digits-fixed, value-fixed}
 use Rattle.text.specs.declared.Number.the-variants.{Value, NotDigits}
 use Rattle.text.specs.Tag.{begins}
 use Rattle.text.specs.TagLaws.{begins-append, begins-split}
 use Rattle.text.specs.Written.{written}
-use Rattle.calendar.specs.Dates.{IsMonth, monthLength, dayNumber}
-use Rattle.calendar.specs.DatesLaws.{is-month, month-length}
-use Rattle.calendar.specs.Moments.{momentBytes, dateBytes, timeBytes, tailBytes, within, realDate, realTime, real, valueOr0, valueAt, parts, momentOf, pickJudged, clock, instant}
+use Rattle.calendar.specs.Dates.{IsMonth, monthLength, dayNumber, nextYear, nextMonth}
+use Rattle.calendar.specs.DatesLaws.{is-month, month-length, first-offset}
+use Rattle.calendar.specs.Moments.{momentBytes, dateBytes, timeBytes, tailBytes, within, realDate, realTime, real, valueOr0, valueAt, parts, momentOf, pickJudged, clock, instant, periodStart, periodEnd}
 use Rattle.calendar.specs.declared.moments.Moment.{Moment}
 use Rattle.calendar.specs.declared.moments.Judged.{Judged}
 use Rattle.calendar.specs.declared.moments.Judged.the-variants.{Real, Malformed}
@@ -163,3 +163,12 @@ pub real-day : (m : Moment) → RealMoment m → m .day ≤ 31
 real-day m r =
     let month = real-month m r in
     omega (arith, r .last, month-length (m .year) (m .month) (month .january) (month .december))
+
+-- case F's period, and the last one: "December 2099 ends at 2100-01-01"
+pub june-2021 : momentBytes (periodStart 2021 6) ++ momentBytes (periodEnd 2021 6) ≡ bytes "2021-06-01T00:00:00.000+02:002021-07-01T00:00:00.000+02:00"
+unfolding momentBytes dateBytes timeBytes tailBytes fixed above bytes periodStart periodEnd nextYear nextMonth
+june-2021 = rw (first-offset 2021 6, first-offset 2021 7)
+
+pub december-2099 : momentBytes (periodStart 2099 12) ++ momentBytes (periodEnd 2099 12) ≡ bytes "2099-12-01T00:00:00.000+01:002100-01-01T00:00:00.000+01:00"
+unfolding momentBytes dateBytes timeBytes tailBytes fixed above bytes periodStart periodEnd nextYear nextMonth
+december-2099 = rw (first-offset 2099 12, first-offset 2100 1)

@@ -1,3 +1,4 @@
-// Dates of the Gregorian calendar, and moments in the form of the file.
+// Dates of the Gregorian calendar, moments in the form of the file, transaction IDs.
 pub mod dates;
+pub mod ids;
 pub mod moments;

@@ -1,7 +1,12 @@
-// Prints what `calendar` computes, to be compared with a calculation made elsewhere: for each month of 2018 to 2099
-// its length, the weekday of its first, its last Sunday, the offset of its first, the next month, the offset of that
-// month's first, and the day on which the clocks change, or 0.
+// Prints what `calendar` computes, to be compared with calculations made elsewhere. First for each month of 2018 to
+// 2099 its length, the weekday of its first, its last Sunday, the offset of its first, the next month, the offset of that
+// month's first, and the day on which the clocks change, or 0. Then for each line of standard input how it is judged, as
+// a moment (with its instant) and as a transaction ID.
 use calendar::dates;
+use calendar::ids;
+use calendar::moments;
+use calendar::moments::Judged;
+use libc::STDIN_FILENO;
 use libc::STDOUT_FILENO;
 ghost use Prim.Native.Nat.{_≤_};
 ghost use Rattle.calendar.specs.Dates.{IsMonth};
@@ -64,7 +69,7 @@ fn print_month(year: u64, month: u64)
     io::write_all(STDOUT_FILENO, b"\n");
 }
 
-fn main() {
+fn print_months() {
     let mut year = 2018;
     while year <= 2099 {
         let mut month = 1;
@@ -74,4 +79,40 @@ fn main() {
         }
         year += 1;
     }
+}
+
+fn print_judged(line: &[u8]) {
+    match moments::read_moment(line) {
+        Judged::Real(m) => {
+            io::write_all(STDOUT_FILENO, b"moment");
+            field(moments::instant(m));
+        }
+        Judged::Malformed => {
+            io::write_all(STDOUT_FILENO, b"malformed");
+        }
+    }
+    if ids::transaction_id(line) {
+        io::write_all(STDOUT_FILENO, b" id\n");
+    } else {
+        io::write_all(STDOUT_FILENO, b" malformed\n");
+    }
+}
+
+fn print_lines(text: &[u8]) {
+    let mut start = 0;
+    let mut end = 0;
+    while end < text.len() {
+        if text[end] == b'\n' {
+            print_judged(&text[start..end]);
+            start = end + 1;
+        }
+        end += 1;
+    }
+}
+
+fn main() {
+    print_months();
+    let mut buffer = io::large_buffer();
+    let got = io::read_full(STDIN_FILENO, &mut buffer);
+    print_lines(&buffer[..got]);
 }

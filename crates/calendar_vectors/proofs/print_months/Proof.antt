@@ -1,8 +1,8 @@
--- `main` is safe and ends: each year and month is in range.
+-- `print_months` is safe and ends: each year and month is in range.
 use Prim.Native.Nat.{_-_, _≤_}
 use borrow.Author.Needs.{needs}
-use Rattle.calendar_vectors.proofs.main.Statement.{statement}
-use Rattle.calendar_vectors.proofs.main.Tie as tie
+use Rattle.calendar_vectors.proofs.print_months.Statement.{statement}
+use Rattle.calendar_vectors.proofs.print_months.Tie as tie
 
 abbrev Inv-loop2 : tie.InvT-loop2
 Inv-loop2 year month₀ month = (2018 ≤ year) × (year ≤ 2099) × (1 ≤ month) × (month ≤ 13)
@@ -46,8 +46,8 @@ loop-again c = search needs
 returns : tie.Need-returns Inv-loop2 μ-loop2 Inv-loop μ-loop
 returns c = search needs
 
-pub main-spec : {M : Type 1} → statement M
-main-spec =
+pub print-months-spec : {M : Type 1} → statement M
+print-months-spec =
     tie.close
     (tie.spec
     Inv-loop2
