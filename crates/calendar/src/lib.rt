@@ -1,4 +1,2 @@
-// Dates of the Gregorian calendar, moments in the form of the file, transaction IDs.
+// Dates of the Gregorian calendar.
 pub mod dates;
-pub mod ids;
-pub mod moments;

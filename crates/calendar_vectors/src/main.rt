@@ -1,13 +1,12 @@
-// Prints what `calendar` computes, to be compared with calculations made elsewhere. First for each month of 2018 to
+// Prints what `calendar` and `moments` compute, to be compared with calculations made elsewhere. First for each month of 2018 to
 // 2099 its length, the weekday of its first, its last Sunday, the offset of its first, the next month, the offset of that
 // month's first, and the day on which the clocks change, or 0. Then for each line of standard input how it is judged, as
 // a moment (with its instant) and as a transaction ID.
 use calendar::dates;
-use calendar::ids;
-use calendar::moments;
-use calendar::moments::Judged;
 use libc::STDIN_FILENO;
 use libc::STDOUT_FILENO;
+use moments::Judged;
+use moments::ids;
 ghost use Prim.Native.Nat.{_≤_};
 ghost use Rattle.calendar.specs.Dates.{IsMonth};
 

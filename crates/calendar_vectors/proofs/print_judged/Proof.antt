@@ -1,6 +1,6 @@
 -- `print_judged` is safe: what is read as a moment is real, so it has an instant.
 use mathlib.Core.Path.{sym, _∙_}
-use Rattle.calendar.specs.MomentsLaws.{judged-is}
+use Rattle.moments.specs.MomentsLaws.{judged-is}
 use borrow.Author.Needs.{needs}
 use Rattle.calendar_vectors.proofs.print_judged.Statement.{statement}
 use Rattle.calendar_vectors.proofs.print_judged.Tie as tie
