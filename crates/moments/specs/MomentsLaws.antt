@@ -1,24 +1,22 @@
 -- Moments: bytes that are judged real are a real moment's and no other's, and a real moment's bytes are judged so.
 use mathlib.Core.Path.{_≡_, refl, sym, _∙_, ap}
 use mathlib.Core.Bool.{Bool, true, false, _&&_, false≢true}
-use mathlib.Core.List.{List, [], _∷_, _++_, append-nil}
-use Prim.Native.Nat.{ℕ, _+_, _-_, _*_, _^_, _≤_, _<_}
+use mathlib.Core.List.{List, [], _++_, append-nil}
+use Prim.Native.Nat.{ℕ, _+_, _*_, _^_, _≤_, _<_}
 use native.Mathlib.Omega.{arith}
 use borrow.Author.Tests.{eqb-true, leb-true, eq-eqb, ne-eqb}
-use lib.Dec.{T, eqb, leb, lit<}
+use lib.Dec.{eqb, leb}
 use lib.ListN.{length, take, drop, drop-of-length-le}
 use Rattle.text.specs.Ascii.{bytes}
-use Rattle.text.specs.Decimal.{digits, valueOf, above, fixed, fixedAt, pickNumber}
+use Rattle.text.specs.Decimal.{digits, above, fixed, fixedAt}
 use Rattle.text.specs.DecimalLaws.{digits-fixed, value-fixed}
-use Rattle.text.specs.declared.Number.the-variants.{Value, NotDigits}
 use Rattle.text.specs.Tag.{begins}
 use Rattle.text.specs.TagLaws.{begins-append, begins-split}
 use Rattle.text.specs.Written.{written}
 use Rattle.calendar.specs.Dates.{IsMonth, monthLength, dayNumber, nextYear, nextMonth}
 use Rattle.calendar.specs.DatesLaws.{is-month, month-length, first-offset}
-use Rattle.moments.specs.Moments.{momentBytes, dateBytes, timeBytes, tailBytes, within, realDate, realTime, real, valueOr0, valueAt, parts, momentOf, pickJudged, clock, instant, periodStart, periodEnd}
+use Rattle.moments.specs.Moments.{momentBytes, dateBytes, timeBytes, tailBytes, within, realDate, realTime, real, valueAt, parts, momentOf, pickJudged, clock, instant, periodStart, periodEnd}
 use Rattle.moments.specs.declared.Moment.{Moment}
-use Rattle.moments.specs.declared.Judged.{Judged}
 use Rattle.moments.specs.declared.Judged.the-variants.{Real, Malformed}
 
 -- the form has 29 bytes
