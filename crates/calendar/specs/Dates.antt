@@ -1,5 +1,5 @@
 -- Dates: lengths of months, day numbers, weekdays, last Sundays, clock-change days, offsets (document 01, "The book" and "The file").
-use mathlib.Core.Bool.{Bool, true, false, cond, not, _&&_, _||_}
+use mathlib.Core.Bool.{Bool, cond, not, _&&_, _||_}
 use mathlib.Core.List.{List, [], _∷_}
 use Prim.Native.Nat.{ℕ, zero, suc, pred, _+_, _%_, _≤_}
 use lib.Dec.{eqb, leb, ltb}

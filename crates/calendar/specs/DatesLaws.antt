@@ -1,5 +1,5 @@
 -- Laws of dates: the closed forms that the code computes are the definitions, and the definitions mean what they say.
-use mathlib.Core.Path.{_≡_, refl, sym, _∙_, ap, ap₂}
+use mathlib.Core.Path.{_≡_, refl, sym, _∙_, ap₂}
 use mathlib.Core.Bool.{Bool, true, false, cond, not, _&&_, _||_, or-true, and-true}
 use mathlib.Core.List.{List, [], _∷_}
 use Prim.Native.Nat.{ℕ, zero, suc, pred, _+_, _-_, _*_, _/_, _%_, _≤_, _<_}
@@ -8,7 +8,7 @@ use native.Mathlib.Nat.{add-zero, add-suc, le-refl, div-add-mod', mod-lt, suc-mu
 use native.Mathlib.Numerals.{add-one, sub-one}
 use lib.Arith.{digits-div}
 use lib.Dec.{T, eqb, leb, ltb, lit<, lit≤, eqb→eq, leb→le, eqb·suc-zero}
-use borrow.Author.Tests.{ltb-true, ltb-false, leb-true, leb-false, eqb-true, eqb-false, eq-eqb, ne-eqb, lt-ltb, le-ltb, le-leb, lt-leb}
+use borrow.Author.Tests.{ltb-true, ltb-false, leb-true, leb-false, eqb-true, eqb-false, eq-eqb, ne-eqb, lt-ltb, le-ltb, le-leb}
 use lib.ListN.{List·getD-eq-default, getD, length, drop}
 use Rattle.integers.specs.First.{anyBelow}
 use Rattle.integers.specs.Running.{upTo}

@@ -130,7 +130,7 @@ pub record Recast {A B : Type 0} (F : Format A) (Ok : B → Type 0) (render : B 
   pub from-ok : (b : B) → Ok b → F .Ok (g b)
   pub back : (a : A) → F .Ok a → g (f a) ≡ a
   pub forth : (b : B) → Ok b → f (g b) ≡ b
-  pub same : (b : B) → F .render (g b) ≡ render b
+  pub same : (b : B) → Ok b → F .render (g b) ≡ render b
 
 unfoldable pub mapParse : {A B : Type 0} → (A → B) → (List ℕ → Res A) → List ℕ → Res B
 mapParse f p s = bind (p s) (λ a r. got (f a) r)
@@ -139,7 +139,7 @@ module _ {A B : Type 0} (F : Format A) (Ok : B → Type 0) (render : B → List 
   recast-sound₁ : (s : List ℕ) (x : Res A) → Sound (F .Ok) (F .render) s x → Sound Ok render s (bind x (λ a r. got (f a) r))
   recast-sound₁ s bad h = tt
   recast-sound₁ s (got a r) h =
-      (h .0 ∙ ap (λ (x : A). F .render x ++ r) (sym (fits .back a (h .1))) ∙ ap (λ (l : List ℕ). l ++ r) (fits .same (f a)), fits .to-ok a (h .1))
+      (h .0 ∙ ap (λ (x : A). F .render x ++ r) (sym (fits .back a (h .1))) ∙ ap (λ (l : List ℕ). l ++ r) (fits .same (f a) (fits .to-ok a (h .1))), fits .to-ok a (h .1))
 
   pub recast-sound : (s : List ℕ) → Sound Ok render s (mapParse f (F .parse) s)
   unfolding mapParse
@@ -147,7 +147,7 @@ module _ {A B : Type 0} (F : Format A) (Ok : B → Type 0) (render : B → List 
 
   pub recast-complete : (b : B) (rest : List ℕ) → Ok b → mapParse f (F .parse) (render b ++ rest) ≡ got b rest
   unfolding mapParse
-  recast-complete b rest ok = rw (← fits .same b) (simp (F .complete (g b) rest (fits .from-ok b ok), fits .forth b ok))
+  recast-complete b rest ok = rw (← fits .same b ok) (simp (F .complete (g b) rest (fits .from-ok b ok), fits .forth b ok))
 
   abbrev pub recast : Format B
   recast = record { Ok = Ok; render = render; parse = mapParse f (F .parse); sound = recast-sound; complete = recast-complete }

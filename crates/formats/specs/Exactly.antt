@@ -47,7 +47,7 @@ fixed-recast n =
       from-ok = λ v h. (length-fixed n v, digits-fixed n v);
       back = λ l ok. subst (λ (k : ℕ). fixed k (valueOf l) ≡ l) (ok .0) (fixed-value l (ok .1));
       forth = λ v h. value-fixed n v h;
-      same = λ v. refl;
+      same = λ v h. refl;
     }
 
 abbrev pub fixedDigits : ℕ → Format ℕ
