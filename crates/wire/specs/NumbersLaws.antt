@@ -1,10 +1,13 @@
 -- Little-endian numbers, whatever their width: a number of m + n bytes is that of its first m, and 256 ^ m times that of the n after them;
 -- and a part of a list says what the whole says.
-use mathlib.Core.Path.{_≡_, refl, ap, _∙_}
+use mathlib.Core.Path.{_≡_, refl, sym, ap, _∙_}
+use mathlib.Core.Bool.{_&&_}
 use mathlib.Core.List.{List, [], _∷_, _++_}
 use Prim.Native.Nat.{ℕ, zero, suc, _+_, _*_, _^_, _≤_, _<_}
-use native.Mathlib.Nat.{pow-suc, mul-assoc, mul-comm}
+use native.Mathlib.Nat.{pow-suc, mul-assoc, mul-comm, mul-suc, one-le-pow}
 use native.Mathlib.Omega.{arith}
+use lib.Dec.{eqb}
+use borrow.Author.Tests.{eq-eqb, ne-eqb}
 use lib.ListN.{length, take, drop, getD, length-drop}
 use lib.Seq.{take-add, take-take, drop-drop, length-take-le, drop-cons}
 use Rattle.wire.specs.Numbers.{little, numberAt}
@@ -30,3 +33,12 @@ take-drop-take k (suc at) (suc n) (x ∷ l) h = take-drop-take k at n l (omega a
 
 pub in-part : (xs : List ℕ) (a n at k : ℕ) → at + k ≤ n → numberAt (take n (drop a xs)) at k ≡ numberAt xs (a + at) k
 in-part xs a n at k h = ap little (take-drop-take k at n (drop a xs) h ∙ ap (take k) (drop-drop at a xs))
+
+-- a number is 0 where both of its parts are
+sum-zero : (a k b : ℕ) → 1 ≤ k → eqb (a + k * b) 0 ≡ (eqb a 0 && eqb b 0)
+sum-zero zero k zero h = eq-eqb (0 + k * 0) 0 (omega arith)
+sum-zero zero k (suc b) h = ne-eqb (0 + k * suc b) 0 (λ e. omega (arith, mul-suc k b)) ∙ sym (ne-eqb (suc b) 0 (λ e. omega arith))
+sum-zero (suc a) k b h = rw (ne-eqb (suc a + k * b) 0 (λ e. omega arith), ne-eqb (suc a) 0 (λ e. omega arith))
+
+pub zero-halves : (xs : List ℕ) (at m n : ℕ) → at + m ≤ length xs → eqb (numberAt xs at (m + n)) 0 ≡ (eqb (numberAt xs at m) 0 && eqb (numberAt xs (at + m) n) 0)
+zero-halves xs at m n h = rw (halves xs at m n h) (sum-zero (numberAt xs at m) (256 ^ m) (numberAt xs (at + m) n) (one-le-pow m 256 (omega arith)))

@@ -1,4 +1,5 @@
 -- "96 signed 32-bit watts, .., off-take positive, or -2^31 for missing" (document 01, "The book", section 4)
+use mathlib.Core.Path.{_≡_}
 use mathlib.Core.Bool.{Bool, true, false}
 use mathlib.Core.List.{List}
 use Prim.Native.Nat.{ℕ, suc, _*_}
@@ -6,7 +7,7 @@ use lib.Dec.{eqb}
 use lib.IntN.{ℤ, pos, negsuc, _+ℤ_}
 use mir.Syntax.{w32}
 use mir.Val.{toZ}
-use Rattle.integers.specs.Z.{up}
+use Rattle.integers.specs.Z.{up, Within}
 use Rattle.wire.specs.Numbers.{numberAt}
 use Rattle.wire.specs.declared.Reading.{Reading}
 use Rattle.wire.specs.declared.Reading.the-variants.{Watts, Missing}
@@ -31,3 +32,8 @@ readingAt xs i = readingOf (wattsAt xs i)
 unfoldable pub raised : Reading → ℕ
 raised (Watts z) = up (z +ℤ pos 2147483648)
 raised Missing = 0
+
+-- r is reading i, raised; and what stands there is a number of 32 bits
+pub record Raised (xs : List ℕ) (i r : ℕ) : Type 0 where
+  pub is : r ≡ raised (readingAt xs i)
+  pub range : Within (wattsAt xs i) 2147483648

@@ -3,7 +3,7 @@ ghost use mathlib.Core.Path.{_≡_};
 ghost use Prim.Native.Nat.{_+_, _*_, _≤_};
 ghost use lib.ListN.{length};
 ghost use Rattle.wire.specs.Numbers.{numberAt};
-ghost use Rattle.wire.specs.Readings.{readingAt, raised};
+ghost use Rattle.wire.specs.Readings.{readingAt, Raised};
 
 pub fn u8_at(s: &[u8], at: usize) -> u8
     requires { ⌜ at + 1 ≤ length (now s) ⌝ }
@@ -57,7 +57,7 @@ pub fn reading_at(s: &[u8], i: usize) -> Reading
 // The same reading without a sign: its watts plus 2^31, and 0 where it is missing.
 pub fn raised_at(s: &[u8], i: usize) -> u32
     requires { ⌜ 4 * i + 4 ≤ length (now s) ⌝ }
-    ensures { λ r. ⌜ r ≡ raised (readingAt (now (s .entry)) i) ⌝ }
+    ensures { λ r. ⌜ Raised (now (s .entry)) i r ⌝ }
 {
     std::num::wrapping_add_u32(u32_at(s, 4 * i), 2147483648)
 }

@@ -3,7 +3,7 @@ use mathlib.Core.Path.{ap, _∙_}
 use mir.Syntax.{w32}
 use mir.Val.{toZ}
 use Rattle.wire.specs.Readings.{readingOf, raised}
-use Rattle.wire.specs.ReadingsLaws.{raised-bits}
+use Rattle.wire.specs.ReadingsLaws.{raised-bits, in-range}
 use native.Mathlib.Omega.{arith}
 use borrow.Author.Needs.{needs}
 use Rattle.wire.proofs.raised_at.Statement.{statement}
@@ -21,7 +21,10 @@ wrapping-add-u32-requires c κs = search needs
 returns : tie.Need-returns
 returns c =
     let bits = c .before .u32-at in
-    c .wrapping-add-u32 .ensures ∙ raised-bits (bits .result) (omega arith) ∙ ap (λ n. raised (readingOf (toZ w32 n))) (bits .ensures)
+    record {
+      is = c .wrapping-add-u32 .ensures ∙ raised-bits (bits .result) (omega arith) ∙ ap (λ n. raised (readingOf (toZ w32 n))) (bits .ensures);
+      range = rw (← bits .ensures) (in-range (bits .result) (omega arith));
+    }
 
 pub raised-at-spec : {M : Type 1} → statement M
 raised-at-spec = tie.close (tie.spec mul-u32-at u32-at-requires wrapping-add-u32-requires returns)

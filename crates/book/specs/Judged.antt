@@ -1,0 +1,67 @@
+-- Refusals 1 to 7 of a book's bytes, in the order of document 01, "What is sent back".
+use mathlib.Core.Bool.{Bool, true, false, not, _&&_}
+use mathlib.Core.List.{List}
+use mathlib.Core.Option.{Option, none, some}
+use Prim.Native.Nat.{ℕ}
+use Rattle.calendar.specs.Dates.{hasClockChange}
+use Rattle.integers.specs.First.{first}
+use Rattle.book.specs.Refusals.{Refusal, refused, unless, unlessFound}
+use Rattle.book.specs.declared.Calendar.{Calendar}
+use Rattle.book.specs.Calendars.{daysOf}
+use Rattle.book.specs.Header.{calendarOf, pointCount, engagementCount, headerGood, layoutGood, calendarSection, pairSection, registerSection, readingSection, engagementSection}
+use Rattle.book.specs.Tables.{calendarGood, pairsGood}
+use Rattle.book.specs.Register.{badPoint}
+use Rattle.book.specs.Metering.{firstBadReading}
+use Rattle.book.specs.Engagements.{badEngagement}
+use Rattle.book.specs.declared.Judged.{Judged}
+use Rattle.book.specs.declared.Judged.the-variants.{Passed, Header, Layout, ClockChange, Tables, Register, Readings, Engagements}
+use Rattle.book.specs.declared.Found.{Found}
+use Rattle.book.specs.declared.Found.the-variants.{At, Nothing}
+
+-- "a clock-change day in the calendar"
+abbrev pub clockChangeIn : Calendar → Bool
+clockChangeIn c = hasClockChange (c .year) (c .month) (c .lead)
+
+-- "first bad register row", "first reading out of range", "first bad engagement": of so many points and engagements
+unfoldable pub rowsRefusal : Calendar → ℕ → ℕ → List ℕ → List ℕ → List ℕ → Option Refusal
+rowsRefusal c points rows register readings engagements =
+    unlessFound (first (badPoint (daysOf c) register) 0 points) 5
+    (unlessFound (firstBadReading c readings points) 6
+    (unlessFound (first (badEngagement c points engagements) 0 rows) 7 none))
+
+-- "sections 1 or 2 out of range", then the rows
+unfoldable pub sectionsRefusal : Calendar → ℕ → ℕ → List ℕ → List ℕ → List ℕ → List ℕ → List ℕ → Option Refusal
+sectionsRefusal c points rows calendar pairs register readings engagements =
+    unless (calendarGood calendar && pairsGood pairs) 4 (rowsRefusal c points rows register readings engagements)
+
+-- "Order: 1 to 7"
+unfoldable pub refusalOf : List ℕ → Option Refusal
+refusalOf book =
+    unless (headerGood book) 1
+    (unless (layoutGood book) 2
+    (unless (not (clockChangeIn (calendarOf book))) 3
+    (sectionsRefusal
+    (calendarOf book)
+    (pointCount book)
+    (engagementCount book)
+    (calendarSection book)
+    (pairSection book)
+    (registerSection book)
+    (readingSection book)
+    (engagementSection book))))
+
+-- the number and item of each answer of `judge_book`
+abbrev pub sentBack : Judged → Option Refusal
+sentBack Passed = none
+sentBack Header = refused 1 0
+sentBack Layout = refused 2 0
+sentBack ClockChange = refused 3 0
+sentBack Tables = refused 4 0
+sentBack (Register row) = refused 5 row
+sentBack (Readings point) = refused 6 point
+sentBack (Engagements row) = refused 7 row
+
+-- what a search answers
+abbrev pub foundAt : Found → Option ℕ
+foundAt (At i) = some i
+foundAt Nothing = none

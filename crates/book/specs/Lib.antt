@@ -1,0 +1,14 @@
+pub mod Refusals
+pub mod Calendars
+pub mod CalendarsLaws
+pub mod Header
+pub mod HeaderLaws
+pub mod Tables
+pub mod Register
+pub mod RegisterLaws
+pub mod Metering
+pub mod MeteringLaws
+pub mod Engagements
+pub mod EngagementsLaws
+pub mod Book
+pub mod Judged

@@ -1,0 +1,64 @@
+-- What the register's code finds at a place is what the definitions say of the row there.
+use mathlib.Core.Path.{_≡_, refl, sym, ap, ap₂, _∙_}
+use mathlib.Core.Bool.{Bool, true, false, not, _&&_}
+use mathlib.Core.List.{List}
+use Prim.Native.Nat.{ℕ, zero, suc, _+_, _-_, _*_, _/_, _^_, _≤_, _<_}
+use native.Mathlib.Nat.{div-lt-iff-lt-mul, one-le-pow}
+use native.Mathlib.Omega.{arith}
+use lib.Dec.{eqb, leb, ltb}
+use borrow.Author.Tests.{ltb-true, ltb-false, eq-eqb, ne-eqb, le-leb, lt-leb}
+use Rattle.wire.specs.Numbers.{numberAt}
+use Rattle.wire.specs.NumbersLaws.{in-part}
+use Rattle.book.specs.Header.{pointWidth, rowAt}
+use Rattle.book.specs.Register.{situationOf, takersOf, isKnown, supplyOf, methodOf, registerRow, deliveryIn, notAbove}
+use Rattle.book.specs.declared.Situation.the-variants.{Transfer, PassThrough, OptOut, NetInjector}
+use Rattle.book.specs.declared.Supply.the-variants.{OffTake, Injection}
+use Rattle.book.specs.declared.Method.the-variants.{LastQuarter, HighXOfY, Adjusted}
+use Rattle.book.specs.declared.register.Takers.the-variants.{Aggregated, Individual, Neither, Refused}
+
+-- the last case of each byte
+pub supply-else : (n : ℕ) → (n ≡ 0 → ⊥) → Injection ≡ supplyOf n
+supply-else zero h = absurd (h refl)
+supply-else (suc n) h = refl
+
+pub method-else : (n : ℕ) → (n ≡ 0 → ⊥) → (n ≡ 1 → ⊥) → Adjusted ≡ methodOf n
+method-else zero h i = absurd (h refl)
+method-else (suc zero) h i = absurd (i refl)
+method-else (suc (suc n)) h i = refl
+
+pub situation-else : (n : ℕ) → (n ≡ 0 → ⊥) → (n ≡ 1 → ⊥) → (n ≡ 2 → ⊥) → NetInjector ≡ situationOf n
+situation-else zero h i j = absurd (h refl)
+situation-else (suc zero) h i j = absurd (i refl)
+situation-else (suc (suc zero)) h i j = absurd (j refl)
+situation-else (suc (suc (suc n))) h i j = refl
+
+pub takers-else : (n : ℕ) → (n ≡ 0 → ⊥) → (n ≡ 1 → ⊥) → (n ≡ 2 → ⊥) → (n ≡ 3 → ⊥) → Refused ≡ takersOf n
+takers-else zero h i j k = absurd (h refl)
+takers-else (suc zero) h i j k = absurd (i refl)
+takers-else (suc (suc zero)) h i j k = absurd (j refl)
+takers-else (suc (suc (suc zero))) h i j k = absurd (k refl)
+takers-else (suc (suc (suc (suc n)))) h i j k = refl
+
+-- the situations that are taken or not are 0 to 3
+pub known-is : (n : ℕ) → isKnown (takersOf n) ≡ leb n 3
+known-is zero = sym (le-leb 0 3 (omega arith))
+known-is (suc zero) = sym (le-leb 1 3 (omega arith))
+known-is (suc (suc zero)) = sym (le-leb 2 3 (omega arith))
+known-is (suc (suc (suc zero))) = sym (le-leb 3 3 (omega arith))
+known-is (suc (suc (suc (suc n)))) = sym (lt-leb (suc (suc (suc (suc n)))) 3 (omega arith))
+
+-- nothing is left above bit d
+pub bits-above : (mask d : ℕ) → eqb (mask / 2 ^ d) 0 ≡ ltb mask (2 ^ d)
+bits-above mask d = go (ltb mask (2 ^ d)) refl
+  where
+    some : 1 ≤ 2 ^ d
+    some = one-le-pow d 2 (omega arith)
+
+    go : (b : Bool) → ltb mask (2 ^ d) ≡ b → eqb (mask / 2 ^ d) 0 ≡ b
+    go true e = eq-eqb (mask / 2 ^ d) 0 (omega (arith, div-lt-iff-lt-mul {k = 2 ^ d} {x = mask} {y = 1} some .1 (omega (arith, ltb-true mask (2 ^ d) e))))
+    go false e = ne-eqb (mask / 2 ^ d) 0 (λ z. omega (arith, ltb-false mask (2 ^ d) e, div-lt-iff-lt-mul {k = 2 ^ d} {x = mask} {y = 1} some .0 (omega arith)))
+
+-- the row before
+pub above-at : (register : List ℕ) (i : ℕ) → (i ≡ 0 → ⊥) → notAbove register i ≡ leb (deliveryIn (registerRow register i)) (deliveryIn (registerRow register (i - 1)))
+above-at register zero h = absurd (h refl)
+above-at register (suc i) h = let e : suc i - 1 ≡ i = omega arith in rw e

@@ -1,0 +1,80 @@
+// Refusals 1 to 7, in their order.
+use crate::Calendar;
+use crate::Found;
+use crate::Judged;
+ghost use mathlib.Core.Path.{_≡_};
+ghost use mathlib.Core.Bool.{true};
+ghost use Prim.Native.Nat.{_*_, _≤_};
+ghost use lib.ListN.{length};
+ghost use Rattle.book.specs.Calendars.{quartersOf, Ranged};
+ghost use Rattle.book.specs.Header.{sizes, adjoining, calendarSection, pairSection, registerSection, readingSection, engagementSection};
+ghost use Rattle.book.specs.Judged.{rowsRefusal, sectionsRefusal, refusalOf, sentBack};
+
+// The rows and the readings: 5 to 7.
+fn judge_rows(
+    c: Calendar,
+    points: usize,
+    rows: usize,
+    register: &[u8],
+    readings: &[u8],
+    engagements: &[u8],
+) -> Judged
+    requires { ⌜ Ranged c × (points ≤ 256) × (64 * points ≤ length (now register)) × (4 * quartersOf c * points ≤ length (now readings)) × (16 * rows ≤ length (now engagements)) ⌝ }
+    ensures { λ r. ⌜ sentBack r ≡ rowsRefusal c points rows (now (register .entry)) (now (readings .entry)) (now (engagements .entry)) ⌝ }
+{
+    let days = crate::header::days_of(c) as u32;
+    if let Found::At(row) = crate::register::judge_register(register, points, days) {
+        return Judged::Register(row);
+    }
+    let quarters = crate::header::quarters_of(c) as usize;
+    if let Found::At(i) = crate::metering::judge_readings(readings, quarters * points) {
+        return Judged::Readings(i / quarters);
+    }
+    if let Found::At(row) = crate::engagements::judge_engagements(engagements, rows, c, points) {
+        return Judged::Engagements(row);
+    }
+    Judged::Passed
+}
+
+// The sections of a book whose layout is good: 4 to 7.
+fn judge_sections(book: &[u8], c: Calendar, points: usize, rows: usize) -> Judged
+    requires { ⌜ Ranged c × (points ≤ 256) × (rows ≤ 512) × (adjoining (now book) 0 56 (sizes c points rows) ≡ true) ⌝ }
+    ensures { λ r. ⌜ sentBack r ≡ sectionsRefusal c points rows (calendarSection (now (book .entry))) (pairSection (now (book .entry))) (registerSection (now (book .entry))) (readingSection (now (book .entry))) (engagementSection (now (book .entry))) ⌝ }
+{
+    let p = crate::header::layout_at(c, points, rows);
+    let pairs = p.pairs;
+    let register = p.register;
+    let readings = p.readings;
+    let engagements = p.engagements;
+    let end = p.end;
+    let calendar = crate::tables::calendar_good(&book[56..pairs]);
+    if !(calendar & crate::tables::pairs_good(&book[pairs..register])) {
+        return Judged::Tables;
+    }
+    judge_rows(
+        c,
+        points,
+        rows,
+        &book[register..readings],
+        &book[readings..engagements],
+        &book[engagements..end],
+    )
+}
+
+pub fn judge_book(book: &[u8]) -> Judged
+    ensures { λ r. ⌜ sentBack r ≡ refusalOf (now (book .entry)) ⌝ }
+{
+    if !crate::header::header_good(book) {
+        return Judged::Header;
+    }
+    let c = crate::header::calendar_of(book);
+    let points = crate::header::point_count(book);
+    let rows = crate::header::engagement_count(book);
+    if !crate::header::layout_good(book, c, points, rows) {
+        return Judged::Layout;
+    }
+    if calendar::dates::has_clock_change(c.year, c.month, c.lead) {
+        return Judged::ClockChange;
+    }
+    judge_sections(book, c, points, rows)
+}

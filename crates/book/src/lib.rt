@@ -1,0 +1,87 @@
+// The month's book: its layout, its sections as parts of the book, and refusals 1 to 7.
+pub mod engagements;
+pub mod header;
+pub mod judge;
+pub mod metering;
+pub mod register;
+pub mod tables;
+
+// The month, and the lead days before it.
+pub struct Calendar {
+    pub year: u64,
+    pub month: u64,
+    pub lead: u64,
+}
+
+// Why an activation does or doesn't pass through the supplier.
+pub enum Situation {
+    Transfer,
+    PassThrough,
+    OptOut,
+    NetInjector,
+}
+
+pub enum Supply {
+    OffTake,
+    Injection,
+}
+
+// How a delivery point's baseline is made.
+pub enum Method {
+    LastQuarter,
+    HighXOfY,
+    Adjusted,
+}
+
+pub enum Direction {
+    Up,
+    Down,
+}
+
+// A delivery point, a row of the register.
+pub struct Point {
+    pub delivery: u64,
+    pub access: u64,
+    pub supplier: u64,
+    pub fsp: u64,
+    // Excluded days, the lowest bit being day 0.
+    pub mask: u64,
+    // The largest watts each way.
+    pub upward: u32,
+    pub downward: u32,
+    // The balance parties.
+    pub sourceparty: u16,
+    pub fspparty: u16,
+    pub situation: Situation,
+    pub supply: Supply,
+    pub method: Method,
+}
+
+// An activation of a delivery point: `count` quarter-hours from `first` on.
+pub struct Engagement {
+    pub point: u16,
+    pub day: u8,
+    pub first: u8,
+    pub count: u8,
+    pub direction: Direction,
+    pub notice: u8,
+    pub requested: u32,
+}
+
+// Where a search ended.
+pub enum Found {
+    At(usize),
+    Nothing,
+}
+
+// What judging a book finds, in the order in which it is tried.
+pub enum Judged {
+    Passed,
+    Header,
+    Layout,
+    ClockChange,
+    Tables,
+    Register(usize),
+    Readings(usize),
+    Engagements(usize),
+}

@@ -1,0 +1,42 @@
+// Section 4: the readings.
+use crate::Calendar;
+use crate::Found;
+use wire::Reading;
+ghost use mathlib.Core.Path.{_≡_};
+ghost use Prim.Native.Nat.{_+_, _*_, _≤_, _<_};
+ghost use lib.ListN.{length};
+ghost use Rattle.integers.specs.First.{first};
+ghost use Rattle.book.specs.Judged.{foundAt};
+ghost use Rattle.wire.specs.Readings.{readingAt};
+ghost use Rattle.book.specs.Metering.{isOutside, badReading};
+
+// The reading of point p at quarter-hour k of a calendar that has so many.
+pub fn reading_of(readings: &[u8], quarters: usize, p: usize, k: usize) -> Reading
+    requires { ⌜ (quarters ≤ 6144) × (p < 256) × (4 * (quarters * p + k) + 4 ≤ length (now readings)) ⌝ }
+    ensures { λ r. ⌜ r ≡ readingAt (now (readings .entry)) (quarters * p + k) ⌝ }
+{
+    wire::reading_at(readings, quarters * p + k)
+}
+
+// A raised reading is there, and more than 10^9 watts off.
+fn outside(raised: u32) -> bool
+    ensures { λ r. ⌜ r ≡ isOutside raised ⌝ }
+{
+    (raised != 0) & ((raised < 1147483648) | (3147483648 < raised))
+}
+
+// The first of n readings that is out of range.
+pub fn judge_readings(readings: &[u8], n: usize) -> Found
+    requires { ⌜ 4 * n ≤ length (now readings) ⌝ }
+    ensures { λ r. ⌜ foundAt r ≡ first (badReading (now (readings .entry))) 0 n ⌝ }
+{
+    let mut i = 0;
+    while i < n {
+        let raised = wire::raised_at(readings, i);
+        if outside(raised) {
+            return Found::At(i);
+        }
+        i += 1;
+    }
+    Found::Nothing
+}

@@ -1,0 +1,222 @@
+// Section 3: the register of delivery points.
+use crate::Found;
+use crate::Method;
+use crate::Point;
+use crate::Situation;
+use crate::Supply;
+ghost use mathlib.Core.Path.{_≡_};
+ghost use Prim.Native.Nat.{_+_, _*_, _^_, _≤_, _<_};
+ghost use lib.Dec.{ltb};
+ghost use lib.ListN.{length};
+ghost use Rattle.integers.specs.First.{first, anyBelow};
+ghost use Rattle.book.specs.Judged.{foundAt};
+ghost use Rattle.book.specs.Register.{situationOf, supplyOf, methodOf, takersOf, isKnown, pointOf, pointAt, deliveryIn, registerRow, excludes, numbersGood, bytesGood, notAbove, differs, badPoint};
+
+// The file kinds that take a delivery point: 01 and 02, 03, none; or no situation at all.
+pub enum Takers {
+    Aggregated,
+    Individual,
+    Neither,
+    Refused,
+}
+
+// The situation's byte decides which file kinds take the point.
+pub fn takers_of(situation: u8) -> Takers
+    ensures { λ r. ⌜ r ≡ takersOf situation ⌝ }
+{
+    match situation {
+        0 => Takers::Aggregated,
+        1 => Takers::Individual,
+        2 => Takers::Neither,
+        3 => Takers::Neither,
+        _ => Takers::Refused,
+    }
+}
+
+fn known(t: Takers) -> bool
+    ensures { λ r. ⌜ r ≡ isKnown t ⌝ }
+{
+    match t {
+        Takers::Aggregated => true,
+        Takers::Individual => true,
+        Takers::Neither => true,
+        Takers::Refused => false,
+    }
+}
+
+fn situation_of(byte: u8) -> Situation
+    ensures { λ r. ⌜ r ≡ situationOf byte ⌝ }
+{
+    match byte {
+        0 => Situation::Transfer,
+        1 => Situation::PassThrough,
+        2 => Situation::OptOut,
+        _ => Situation::NetInjector,
+    }
+}
+
+fn supply_of(byte: u8) -> Supply
+    ensures { λ r. ⌜ r ≡ supplyOf byte ⌝ }
+{
+    match byte {
+        0 => Supply::OffTake,
+        _ => Supply::Injection,
+    }
+}
+
+fn method_of(byte: u8) -> Method
+    ensures { λ r. ⌜ r ≡ methodOf byte ⌝ }
+{
+    match byte {
+        0 => Method::LastQuarter,
+        1 => Method::HighXOfY,
+        _ => Method::Adjusted,
+    }
+}
+
+// The delivery point that a row describes.
+fn point_of(row: &[u8]) -> Point
+    requires { ⌜ 64 ≤ length (now row) ⌝ }
+    ensures { λ r. ⌜ r ≡ pointOf (now (row .entry)) ⌝ }
+{
+    let situation = situation_of(wire::u8_at(row, 52));
+    let supply = supply_of(wire::u8_at(row, 53));
+    let method = method_of(wire::u8_at(row, 54));
+    Point {
+        delivery: wire::u64_at(row, 0),
+        access: wire::u64_at(row, 8),
+        supplier: wire::u64_at(row, 16),
+        fsp: wire::u64_at(row, 24),
+        mask: wire::u64_at(row, 32),
+        upward: wire::u32_at(row, 40),
+        downward: wire::u32_at(row, 44),
+        sourceparty: wire::u16_at(row, 48),
+        fspparty: wire::u16_at(row, 50),
+        situation,
+        supply,
+        method,
+    }
+}
+
+// Row i of the register.
+pub fn point_at(register: &[u8], i: usize) -> Point
+    requires { ⌜ 64 * i + 64 ≤ length (now register) ⌝ }
+    ensures { λ r. ⌜ r ≡ pointAt (now (register .entry)) i ⌝ }
+{
+    let a = 64 * i;
+    let e = a + 64;
+    point_of(&register[a..e])
+}
+
+// Whether the mask excludes a day: bit `day`, counted from the lowest.
+pub fn excludes(mask: u64, day: u32) -> bool
+    requires { ⌜ day < 64 ⌝ }
+    ensures { λ r. ⌜ r ≡ excludes mask day ⌝ }
+{
+    (mask >> day) % 2 == 1
+}
+
+// Bits from `days` up are 0.
+fn mask_good(mask: u64, days: u32) -> bool
+    requires { ⌜ days ≤ 64 ⌝ }
+    ensures { λ r. ⌜ r ≡ ltb mask (2 ^ days) ⌝ }
+{
+    if 64 <= days {
+        return true;
+    }
+    mask >> days == 0
+}
+
+fn numbers_good(row: &[u8], days: u32) -> bool
+    requires { ⌜ (64 ≤ length (now row)) × (days ≤ 64) ⌝ }
+    ensures { λ r. ⌜ r ≡ numbersGood days (now (row .entry)) ⌝ }
+{
+    let delivery = wire::u64_at(row, 0);
+    let access = wire::u64_at(row, 8);
+    let supplier = wire::u64_at(row, 16);
+    let fsp = wire::u64_at(row, 24);
+    let mask = mask_good(wire::u64_at(row, 32), days);
+    let upward = wire::u32_at(row, 40);
+    let downward = wire::u32_at(row, 44);
+    (delivery < 1000000000000000000)
+        & ((access < 1000000000000000000)
+            & ((supplier < 10000000000)
+                & ((fsp < 10000000000)
+                    & (mask & ((upward <= 1000000000) & (downward <= 1000000000))))))
+}
+
+fn bytes_good(row: &[u8]) -> bool
+    requires { ⌜ 64 ≤ length (now row) ⌝ }
+    ensures { λ r. ⌜ r ≡ bytesGood (now (row .entry)) ⌝ }
+{
+    let situation = known(takers_of(wire::u8_at(row, 52)));
+    let supply = wire::u8_at(row, 53);
+    let method = wire::u8_at(row, 54);
+    let zeros = (wire::u8_at(row, 55) == 0) & (wire::u64_at(row, 56) == 0);
+    situation & ((supply <= 1) & ((method <= 2) & zeros))
+}
+
+// The delivery EAN of row i is not above that of the row before it.
+fn not_above(register: &[u8], i: usize) -> bool
+    requires { ⌜ 64 * i + 64 ≤ length (now register) ⌝ }
+    ensures { λ r. ⌜ r ≡ notAbove (now (register .entry)) i ⌝ }
+{
+    if i == 0 {
+        return false;
+    }
+    wire::u64_at(register, 64 * i) <= wire::u64_at(register, 64 * i - 64)
+}
+
+// Rows i and j are of one access point, and have another supplier or supply direction.
+fn differ(register: &[u8], i: usize, j: usize) -> bool
+    requires { ⌜ (64 * i + 64 ≤ length (now register)) × (64 * j + 64 ≤ length (now register)) ⌝ }
+    ensures { λ r. ⌜ r ≡ differs (now (register .entry)) i j ⌝ }
+{
+    let a = 64 * i;
+    let b = 64 * j;
+    let access = wire::u64_at(register, a + 8) == wire::u64_at(register, b + 8);
+    let supplier = wire::u64_at(register, a + 16) == wire::u64_at(register, b + 16);
+    let supply = wire::u8_at(register, a + 53) == wire::u8_at(register, b + 53);
+    access & !(supplier & supply)
+}
+
+// Some earlier row differs from row i.
+fn differs_earlier(register: &[u8], i: usize) -> bool
+    requires { ⌜ 64 * i + 64 ≤ length (now register) ⌝ }
+    ensures { λ r. ⌜ r ≡ anyBelow (differs (now (register .entry)) i) i ⌝ }
+{
+    let mut j = 0;
+    while j < i {
+        if differ(register, i, j) {
+            return true;
+        }
+        j += 1;
+    }
+    false
+}
+
+fn bad_point(register: &[u8], i: usize, days: u32) -> bool
+    requires { ⌜ (64 * i + 64 ≤ length (now register)) × (days ≤ 64) ⌝ }
+    ensures { λ r. ⌜ r ≡ badPoint days (now (register .entry)) i ⌝ }
+{
+    let a = 64 * i;
+    let e = a + 64;
+    let row = &register[a..e];
+    let good = numbers_good(row, days) & bytes_good(row);
+    !good | (not_above(register, i) | differs_earlier(register, i))
+}
+
+// The first bad row of n.
+pub fn judge_register(register: &[u8], n: usize, days: u32) -> Found
+    requires { ⌜ (64 * n ≤ length (now register)) × (days ≤ 64) ⌝ }
+    ensures { λ r. ⌜ foundAt r ≡ first (badPoint days (now (register .entry))) 0 n ⌝ }
+{
+    let mut i = 0;
+    while i < n {
+        if bad_point(register, i, days) {
+            return Found::At(i);
+        }
+        i += 1;
+    }
+    Found::Nothing
+}

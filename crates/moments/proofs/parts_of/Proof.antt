@@ -1,0 +1,48 @@
+-- `parts_of` meets its contract: each field is the number at its place.
+use Rattle.moments.specs.Moments.{parts}
+use borrow.Author.Needs.{needs}
+use Rattle.moments.proofs.parts_of.Statement.{statement}
+use Rattle.moments.proofs.parts_of.Tie as tie
+
+value-at-requires : tie.Need-value-at-requires
+value-at-requires c κs = search needs
+
+value-at-requires-2 : tie.Need-value-at-requires-2
+value-at-requires-2 c κs = search needs
+
+value-at-requires-3 : tie.Need-value-at-requires-3
+value-at-requires-3 c κs = search needs
+
+value-at-requires-4 : tie.Need-value-at-requires-4
+value-at-requires-4 c κs = search needs
+
+value-at-requires-5 : tie.Need-value-at-requires-5
+value-at-requires-5 c κs = search needs
+
+value-at-requires-6 : tie.Need-value-at-requires-6
+value-at-requires-6 c κs = search needs
+
+value-at-requires-7 : tie.Need-value-at-requires-7
+value-at-requires-7 c κs = search needs
+
+value-at-requires-8 : tie.Need-value-at-requires-8
+value-at-requires-8 c κs = search needs
+
+returns : tie.Need-returns
+unfolding parts
+returns c =
+    rw (c .before .before .before .before .before .before .before .value-at .ensures, c .before .before .before .before .before .before .value-at2 .ensures, c .before .before .before .before .before .value-at3 .ensures, c .before .before .before .before .value-at4 .ensures, c .before .before .before .value-at5 .ensures, c .before .before .value-at6 .ensures, c .before .value-at7 .ensures, c .value-at8 .ensures)
+
+pub parts-of-spec : {M : Type 1} → statement M
+parts-of-spec =
+    tie.close
+    (tie.spec
+    value-at-requires
+    value-at-requires-2
+    value-at-requires-3
+    value-at-requires-4
+    value-at-requires-5
+    value-at-requires-6
+    value-at-requires-7
+    value-at-requires-8
+    returns)

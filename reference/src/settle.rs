@@ -1,0 +1,188 @@
+//! Baselines, delivered volumes, corrections, and refusals 8, 9 and 10.
+
+use crate::book::{decode, Book, Engagement};
+use crate::refusal::{refused, Refusal};
+
+/// "One watt is 30,240 grains; all results are whole grains."
+pub const GRAINS_PER_WATT: i128 = 30_240;
+
+/// What an engagement quarter-hour gives, in grains, and where it stands.
+#[derive(Clone, Copy, Debug, PartialEq, Eq)]
+pub struct Quarter {
+    pub point: usize,
+    pub day: usize,
+    pub quarter: usize,
+    pub downward: bool,
+    pub requested: i128,
+    pub baseline: i128,
+    pub delivered: i128,
+    pub source_correction: i128,
+    pub fsp_correction: i128,
+}
+
+/// The settling call: four numbers for each engagement quarter-hour, or a refusal.
+pub fn settle(bytes: &[u8], rows_length: usize) -> Result<Vec<i64>, Refusal> {
+    let book = decode(bytes)?;
+    let quarters = settle_book(&book)?;
+    let rows = rows(&quarters);
+    if rows_length < rows.len() {
+        return refused(10, 0);
+    }
+    Ok(rows)
+}
+
+/// "Each engagement quarter-hour, in order, gives four signed numbers: baseline, delivered, source and
+/// FSP correction."
+pub fn rows(quarters: &[Quarter]) -> Vec<i64> {
+    let four = |q: &Quarter| [q.baseline, q.delivered, q.source_correction, q.fsp_correction];
+    quarters.iter().flat_map(four).map(|grains| i64::try_from(grains).unwrap()).collect()
+}
+
+/// All engagement quarter-hours of a book that passed 1 to 7; "by engagement, 8 before 9".
+pub fn settle_book(book: &Book) -> Result<Vec<Quarter>, Refusal> {
+    let mut quarters = Vec::new();
+    for (index, engagement) in book.engagements.iter().enumerate() {
+        if !needed_readings_present(book, engagement) {
+            return refused(8, index);
+        }
+        let baselines = match book.register[engagement.point as usize].method {
+            0 => baselines_last_quarter_hour(book, engagement),
+            method => match chosen_days(book, engagement, method == 2) {
+                None => return refused(9, index),
+                Some(days) => baselines_high_x_of_y(book, engagement, &days, method == 2),
+            },
+        };
+        for (quarter, baseline) in engagement_quarters(engagement).zip(baselines) {
+            quarters.push(settle_quarter(book, engagement, quarter, baseline));
+        }
+    }
+    Ok(quarters)
+}
+
+/// The engagement's quarter-hours within a day.
+fn engagement_quarters(engagement: &Engagement) -> std::ops::Range<usize> {
+    let first = engagement.first as usize;
+    first..first + engagement.count as usize
+}
+
+/// Where the engagement starts on day `day`, counted through the whole calendar.
+fn start(engagement: &Engagement, day: usize) -> i64 {
+    96 * day as i64 + engagement.first as i64
+}
+
+/// The readings of the engagement's quarter-hours on a day; none if one is missing.
+fn day_readings(book: &Book, engagement: &Engagement, day: usize) -> Option<Vec<i64>> {
+    let point = engagement.point as usize;
+    engagement_quarters(engagement).map(|quarter| book.reading(point, (96 * day + quarter) as i64)).collect()
+}
+
+/// The 12 readings from 24 quarter-hours before the start; none if one is missing or before the calendar.
+fn window_readings(book: &Book, engagement: &Engagement, day: usize) -> Option<Vec<i64>> {
+    let from = start(engagement, day) - 24;
+    (from..from + 12).map(|place| book.reading(engagement.point as usize, place)).collect()
+}
+
+/// Method 0: "the reading just before quarter-hour 96 A + s - notice".
+fn last_quarter_hour(book: &Book, engagement: &Engagement) -> Option<i64> {
+    let place = start(engagement, engagement.day as usize) - engagement.notice as i64 - 1;
+    book.reading(engagement.point as usize, place)
+}
+
+/// 8: "a reading of A in the engagement's quarter-hours, of method 2's own 12, or of method 0 missing or
+/// before the calendar".
+fn needed_readings_present(book: &Book, engagement: &Engagement) -> bool {
+    let day = engagement.day as usize;
+    let method = book.register[engagement.point as usize].method;
+    day_readings(book, engagement, day).is_some()
+        && (method != 0 || last_quarter_hour(book, engagement).is_some())
+        && (method != 2 || window_readings(book, engagement, day).is_some())
+}
+
+fn baselines_last_quarter_hour(book: &Book, engagement: &Engagement) -> Vec<i128> {
+    let watts = last_quarter_hour(book, engagement).unwrap() as i128;
+    vec![watts * GRAINS_PER_WATT; engagement.count as usize]
+}
+
+/// "day d before A is eligible if it has A's category, isn't excluded and misses no reading in the
+/// engagement's quarter-hours"; with method 2 "an eligible day's 12 must lie in the calendar and not be
+/// missing".
+fn is_eligible(book: &Book, engagement: &Engagement, day: usize, adjusted: bool) -> bool {
+    let settled = engagement.day as usize;
+    day < settled
+        && book.calendar[day] == book.calendar[settled]
+        && !book.register[engagement.point as usize].excludes(day)
+        && day_readings(book, engagement, day).is_some()
+        && (!adjusted || window_readings(book, engagement, day).is_some())
+}
+
+/// "The Y latest eligible days are taken; of them the X with the greatest sum over the engagement's
+/// quarter-hours, the later day first among equal sums." None if fewer than Y are eligible: 9.
+fn chosen_days(book: &Book, engagement: &Engagement, adjusted: bool) -> Option<Vec<usize>> {
+    let settled = engagement.day as usize;
+    let choice = book.choices[book.calendar[settled] as usize];
+    let eligible = (0..settled).rev().filter(|&day| is_eligible(book, engagement, day, adjusted));
+    let latest: Vec<usize> = eligible.take(choice.y as usize).collect();
+    if latest.len() < choice.y as usize {
+        return None;
+    }
+    let sum = |day: usize| -> i64 { day_readings(book, engagement, day).unwrap().iter().sum() };
+    let mut ranked: Vec<(i64, usize)> = latest.into_iter().map(|day| (sum(day), day)).collect();
+    ranked.sort();
+    ranked.reverse();
+    Some(ranked.into_iter().take(choice.x as usize).map(|(_, day)| day).collect())
+}
+
+/// The mean of some whole watts, in grains; 30,240 is a multiple of every count that comes here.
+fn mean(watts: &[i64]) -> i128 {
+    let sum: i128 = watts.iter().map(|&w| w as i128).sum();
+    let count = watts.len() as i128;
+    assert_eq!(GRAINS_PER_WATT % count, 0);
+    sum * (GRAINS_PER_WATT / count)
+}
+
+/// "The baseline of a quarter-hour is the mean of its X readings"; method 2 adds "the mean of the 12
+/// readings from 96 A + s - 24 less the mean over the X days of their corresponding 12".
+fn baselines_high_x_of_y(book: &Book, engagement: &Engagement, days: &[usize], adjusted: bool) -> Vec<i128> {
+    let addend = if adjusted {
+        let own = window_readings(book, engagement, engagement.day as usize).unwrap();
+        let theirs: Vec<i64> = days.iter().flat_map(|&day| window_readings(book, engagement, day).unwrap()).collect();
+        mean(&own) - mean(&theirs)
+    } else {
+        0
+    };
+    let of_quarter = |quarter: usize| -> i128 {
+        let readings: Vec<i64> = days
+            .iter()
+            .map(|&day| book.reading(engagement.point as usize, (96 * day + quarter) as i64).unwrap())
+            .collect();
+        mean(&readings) + addend
+    };
+    engagement_quarters(engagement).map(of_quarter).collect()
+}
+
+/// "Upward: baseline less reading; downward: reading less baseline; limited to 0 below and the register's
+/// largest watts above. The source party's correction is the delivered volume, the FSP party's is requested
+/// less delivered, both negated downward."
+fn settle_quarter(book: &Book, engagement: &Engagement, quarter: usize, baseline: i128) -> Quarter {
+    let point = engagement.point as usize;
+    let day = engagement.day as usize;
+    let row = &book.register[point];
+    let downward = engagement.direction == 1;
+    let reading = book.reading(point, (96 * day + quarter) as i64).unwrap() as i128 * GRAINS_PER_WATT;
+    let (volume, largest) =
+        if downward { (reading - baseline, row.largest_down) } else { (baseline - reading, row.largest_up) };
+    let delivered = volume.max(0).min(largest as i128 * GRAINS_PER_WATT);
+    let requested = engagement.requested as i128 * GRAINS_PER_WATT;
+    let sign = if downward { -1 } else { 1 };
+    Quarter {
+        point,
+        day,
+        quarter,
+        downward,
+        requested,
+        baseline,
+        delivered,
+        source_correction: sign * delivered,
+        fsp_correction: sign * (requested - delivered),
+    }
+}

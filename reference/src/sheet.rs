@@ -1,0 +1,60 @@
+//! A balance party's sheet.
+
+use crate::book::{decode, Book};
+use crate::refusal::{refused, Refusal};
+use crate::settle::{settle_book, Quarter};
+
+/// The sheet call: 96 numbers for each day of the month, or 1 to 9, 11, 10 with item 0.
+pub fn sheet(bytes: &[u8], party: u16, sheet_length: usize) -> Result<Vec<i64>, Refusal> {
+    let book = decode(bytes)?;
+    let quarters = settle_book(&book)?;
+    if !parties(&book).contains(&party) {
+        return refused(11, 0);
+    }
+    if sheet_length < 96 * book.month_days() {
+        return refused(10, 0);
+    }
+    let numbers = sheet_numbers(&book, &quarters, party);
+    Ok(numbers.into_iter().map(|grains| i64::try_from(grains).unwrap()).collect())
+}
+
+/// All parties of both columns of the register, each once.
+pub fn parties(book: &Book) -> Vec<u16> {
+    let mut parties: Vec<u16> = book.register.iter().flat_map(|row| [row.source_party, row.fsp_party]).collect();
+    parties.sort();
+    parties.dedup();
+    parties
+}
+
+/// "A party's sheet has the sum of its corrections for each quarter-hour of the month"; "one party in both
+/// columns gets both".
+pub fn sheet_numbers(book: &Book, quarters: &[Quarter], party: u16) -> Vec<i128> {
+    let mut sheet = vec![0; 96 * book.month_days()];
+    for quarter in quarters {
+        let row = &book.register[quarter.point];
+        let place = position(book, quarter) - 1;
+        if row.source_party == party {
+            sheet[place] += quarter.source_correction;
+        }
+        if row.fsp_party == party {
+            sheet[place] += quarter.fsp_correction;
+        }
+    }
+    sheet
+}
+
+/// "Position is 96 (day - L) + q + 1."
+pub fn position(book: &Book, quarter: &Quarter) -> usize {
+    96 * (quarter.day - book.lead_days as usize) + quarter.quarter + 1
+}
+
+/// "The requested volume of a quarter-hour sums the requested watts, in grains, of the engagements that
+/// cover it, up less down."
+pub fn requested_volume(book: &Book, quarters: &[Quarter]) -> Vec<i128> {
+    let mut volume = vec![0; 96 * book.month_days()];
+    for quarter in quarters {
+        let sign = if quarter.downward { -1 } else { 1 };
+        volume[position(book, quarter) - 1] += sign * quarter.requested;
+    }
+    volume
+}
