@@ -1,6 +1,5 @@
--- Formats made of formats: a tag before, a tag after, one after the other, other contents for the same bytes, a test, a format that
--- hangs on what was read before.
-use mathlib.Core.Path.{_≡_, refl, sym, ap, _∙_, subst}
+-- Formats made of formats: a tag before, a tag after, one after the other, other contents for the same bytes, a test.
+use mathlib.Core.Path.{_≡_, refl, sym, ap, _∙_}
 use mathlib.Core.Bool.{Bool, true, false}
 use mathlib.Core.List.{List, _++_, append-assoc}
 use Prim.Native.Nat.{ℕ}
@@ -87,69 +86,71 @@ module _ {A : Type 0} (F : Format A) (t : A → List ℕ) where
 abbrev pub post : {A : Type 0} → Format A → List ℕ → Format A
 post F t = postBy F (λ a. t)
 
--- ---- one after the other
+-- ---- one after the other; the second may hang on what the first says (a counter, a kind)
 
-unfoldable pub seqParse : {A B : Type 0} → (List ℕ → Res A) → (List ℕ → Res B) → List ℕ → Res (A × B)
-seqParse f g s = bind (f s) (λ a r. bind (g r) (λ b q. got (a, b) q))
+unfoldable pub seqParse : {A B : Type 0} → (List ℕ → Res A) → (A → List ℕ → Res B) → List ℕ → Res (A × B)
+seqParse f g s = bind (f s) (λ a r. bind (g a r) (λ b q. got (a, b) q))
 
-module _ {A B : Type 0} (F : Format A) (G : Format B) where
+module _ {A B : Type 0} (F : Format A) (G : A → Format B) where
   abbrev seqRender : A × B → List ℕ
-  seqRender p = F .render (p .0) ++ G .render (p .1)
+  seqRender p = F .render (p .0) ++ G (p .0) .render (p .1)
 
   abbrev SeqOk : A × B → Type 0
-  SeqOk p = F .Ok (p .0) × G .Ok (p .1)
+  SeqOk p = F .Ok (p .0) × G (p .0) .Ok (p .1)
 
-  seq-sound₂ : (s : List ℕ) (a : A) (r : List ℕ) → s ≡ F .render a ++ r → F .Ok a → (x : Res B) → Sound (G .Ok) (G .render) r x
+  seq-sound₂ : (s : List ℕ) (a : A) (r : List ℕ) → s ≡ F .render a ++ r → F .Ok a → (x : Res B) → Sound (G a .Ok) (G a .render) r x
       → Sound SeqOk seqRender s (bind x (λ b q. got (a, b) q))
   seq-sound₂ s a r e ok bad h = tt
   seq-sound₂ s a r e ok (got b q) h =
-      (e ∙ ap (λ (l : List ℕ). F .render a ++ l) (h .0) ∙ sym (append-assoc (F .render a) (G .render b) q), (ok, h .1))
+      (e ∙ ap (λ (l : List ℕ). F .render a ++ l) (h .0) ∙ sym (append-assoc (F .render a) (G a .render b) q), (ok, h .1))
 
-  seq-sound₁ : (s : List ℕ) (x : Res A) → Sound (F .Ok) (F .render) s x → Sound SeqOk seqRender s (bind x (λ a r. bind (G .parse r) (λ b q. got (a, b) q)))
+  seq-sound₁ : (s : List ℕ) (x : Res A) → Sound (F .Ok) (F .render) s x → Sound SeqOk seqRender s (bind x (λ a r. bind (G a .parse r) (λ b q. got (a, b) q)))
   seq-sound₁ s bad h = tt
-  seq-sound₁ s (got a r) h = seq-sound₂ s a r (h .0) (h .1) (G .parse r) (G .sound r)
+  seq-sound₁ s (got a r) h = seq-sound₂ s a r (h .0) (h .1) (G a .parse r) (G a .sound r)
 
-  pub seq-sound : (s : List ℕ) → Sound SeqOk seqRender s (seqParse (F .parse) (G .parse) s)
+  pub seq-sound : (s : List ℕ) → Sound SeqOk seqRender s (seqParse (F .parse) (λ a. G a .parse) s)
   unfolding seqParse
   seq-sound s = seq-sound₁ s (F .parse s) (F .sound s)
 
-  pub seq-complete : (p : A × B) (rest : List ℕ) → SeqOk p → seqParse (F .parse) (G .parse) (seqRender p ++ rest) ≡ got p rest
+  pub seq-complete : (p : A × B) (rest : List ℕ) → SeqOk p → seqParse (F .parse) (λ a. G a .parse) (seqRender p ++ rest) ≡ got p rest
   unfolding seqParse
-  seq-complete p rest ok = simp (append-assoc, F .complete (p .0) (G .render (p .1) ++ rest) (ok .0), G .complete (p .1) rest (ok .1))
+  seq-complete p rest ok = simp (append-assoc, F .complete (p .0) (G (p .0) .render (p .1) ++ rest) (ok .0), G (p .0) .complete (p .1) rest (ok .1))
 
-  abbrev pub seq : Format (A × B)
-  seq = record { Ok = λ p. F .Ok (p .0) × G .Ok (p .1); render = λ p. F .render (p .0) ++ G .render (p .1); parse = seqParse (F .parse) (G .parse); sound = seq-sound; complete = seq-complete }
+  abbrev pub seqBy : Format (A × B)
+  seqBy = record { Ok = λ p. F .Ok (p .0) × G (p .0) .Ok (p .1); render = λ p. F .render (p .0) ++ G (p .0) .render (p .1); parse = seqParse (F .parse) (λ a. G a .parse); sound = seq-sound; complete = seq-complete }
+
+abbrev pub seq : {A B : Type 0} → Format A → Format B → Format (A × B)
+seq F G = seqBy F (λ a. G)
 
 -- ---- the same bytes for other contents
 
--- f and g take valid contents to valid contents and undo each other there
-pub record Recast {A B : Type 0} (OkA : A → Type 0) (OkB : B → Type 0) (f : A → B) (g : B → A) : Type 0 where
-  pub to-ok : (a : A) → OkA a → OkB (f a)
-  pub from-ok : (b : B) → OkB b → OkA (g b)
-  pub back : (a : A) → OkA a → g (f a) ≡ a
-  pub forth : (b : B) → OkB b → f (g b) ≡ b
+-- f and g take valid contents to valid contents and undo each other there, and the bytes are the same
+pub record Recast {A B : Type 0} (F : Format A) (Ok : B → Type 0) (render : B → List ℕ) (f : A → B) (g : B → A) : Type 0 where
+  pub to-ok : (a : A) → F .Ok a → Ok (f a)
+  pub from-ok : (b : B) → Ok b → F .Ok (g b)
+  pub back : (a : A) → F .Ok a → g (f a) ≡ a
+  pub forth : (b : B) → Ok b → f (g b) ≡ b
+  pub same : (b : B) → Ok b → F .render (g b) ≡ render b
 
 unfoldable pub mapParse : {A B : Type 0} → (A → B) → (List ℕ → Res A) → List ℕ → Res B
 mapParse f p s = bind (p s) (λ a r. got (f a) r)
 
-module _ {A B : Type 0} (OkB : B → Type 0) (f : A → B) (g : B → A) (F : Format A) (fits : Recast (F .Ok) OkB f g) where
-  abbrev recastRender : B → List ℕ
-  recastRender b = F .render (g b)
-
-  recast-sound₁ : (s : List ℕ) (x : Res A) → Sound (F .Ok) (F .render) s x → Sound OkB recastRender s (bind x (λ a r. got (f a) r))
+module _ {A B : Type 0} (F : Format A) (Ok : B → Type 0) (render : B → List ℕ) (f : A → B) (g : B → A) (fits : Recast F Ok render f g) where
+  recast-sound₁ : (s : List ℕ) (x : Res A) → Sound (F .Ok) (F .render) s x → Sound Ok render s (bind x (λ a r. got (f a) r))
   recast-sound₁ s bad h = tt
-  recast-sound₁ s (got a r) h = (h .0 ∙ ap (λ (x : A). F .render x ++ r) (sym (fits .back a (h .1))), fits .to-ok a (h .1))
+  recast-sound₁ s (got a r) h =
+      (h .0 ∙ ap (λ (x : A). F .render x ++ r) (sym (fits .back a (h .1))) ∙ ap (λ (l : List ℕ). l ++ r) (fits .same (f a) (fits .to-ok a (h .1))), fits .to-ok a (h .1))
 
-  pub recast-sound : (s : List ℕ) → Sound OkB recastRender s (mapParse f (F .parse) s)
+  pub recast-sound : (s : List ℕ) → Sound Ok render s (mapParse f (F .parse) s)
   unfolding mapParse
   recast-sound s = recast-sound₁ s (F .parse s) (F .sound s)
 
-  pub recast-complete : (b : B) (rest : List ℕ) → OkB b → mapParse f (F .parse) (recastRender b ++ rest) ≡ got b rest
+  pub recast-complete : (b : B) (rest : List ℕ) → Ok b → mapParse f (F .parse) (render b ++ rest) ≡ got b rest
   unfolding mapParse
-  recast-complete b rest ok = simp (F .complete (g b) rest (fits .from-ok b ok), fits .forth b ok)
+  recast-complete b rest ok = rw (← fits .same b ok) (simp (F .complete (g b) rest (fits .from-ok b ok), fits .forth b ok))
 
   abbrev pub recast : Format B
-  recast = record { Ok = OkB; render = λ b. F .render (g b); parse = mapParse f (F .parse); sound = recast-sound; complete = recast-complete }
+  recast = record { Ok = Ok; render = render; parse = mapParse f (F .parse); sound = recast-sound; complete = recast-complete }
 
 -- ---- a test
 
@@ -178,36 +179,3 @@ module _ {A : Type 0} (test : A → Bool) (F : Format A) where
 
   abbrev pub only : Format A
   only = record { Ok = λ a. F .Ok a × (test a ≡ true); render = F .render; parse = onlyParse test (F .parse); sound = only-sound; complete = only-complete }
-
--- ---- a format that hangs on what was read before it (a counter, a kind), which its own contents show
-
-unfoldable pub depParse : {K B : Type 0} → (List ℕ → Res K) → (K → List ℕ → Res B) → List ℕ → Res B
-depParse f g s = bind (f s) (λ k r. g k r)
-
-module _ {K B : Type 0} (F : Format K) (key : B → K) (G : K → Format B) (same : (k : K) (b : B) → G k .Ok b → key b ≡ k) where
-  abbrev depRender : B → List ℕ
-  depRender b = F .render (key b) ++ G (key b) .render b
-
-  abbrev DepOk : B → Type 0
-  DepOk b = F .Ok (key b) × G (key b) .Ok b
-
-  dep-sound₂ : (s : List ℕ) (k : K) (r : List ℕ) → s ≡ F .render k ++ r → F .Ok k → (x : Res B) → Sound (G k .Ok) (G k .render) r x → Sound DepOk depRender s x
-  dep-sound₂ s k r e ok bad h = tt
-  dep-sound₂ s k r e ok (got b q) h =
-      subst (λ (j : K). (s ≡ F .render j ++ G j .render b ++ q) × (F .Ok j × G j .Ok b)) (sym (same k b (h .1)))
-      (e ∙ ap (λ (l : List ℕ). F .render k ++ l) (h .0) ∙ sym (append-assoc (F .render k) (G k .render b) q), (ok, h .1))
-
-  dep-sound₁ : (s : List ℕ) (x : Res K) → Sound (F .Ok) (F .render) s x → Sound DepOk depRender s (bind x (λ k r. G k .parse r))
-  dep-sound₁ s bad h = tt
-  dep-sound₁ s (got k r) h = dep-sound₂ s k r (h .0) (h .1) (G k .parse r) (G k .sound r)
-
-  pub dep-sound : (s : List ℕ) → Sound DepOk depRender s (depParse (F .parse) (λ k. G k .parse) s)
-  unfolding depParse
-  dep-sound s = dep-sound₁ s (F .parse s) (F .sound s)
-
-  pub dep-complete : (b : B) (rest : List ℕ) → DepOk b → depParse (F .parse) (λ k. G k .parse) (depRender b ++ rest) ≡ got b rest
-  unfolding depParse
-  dep-complete b rest ok = simp (append-assoc, F .complete (key b) (G (key b) .render b ++ rest) (ok .0), G (key b) .complete b rest (ok .1))
-
-  abbrev pub dep : Format B
-  dep = record { Ok = λ b. F .Ok (key b) × G (key b) .Ok b; render = λ b. F .render (key b) ++ G (key b) .render b; parse = depParse (F .parse) (λ k. G k .parse); sound = dep-sound; complete = dep-complete }

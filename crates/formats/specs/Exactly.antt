@@ -40,14 +40,15 @@ module _ (n : ℕ) (test : List ℕ → Bool) where
 
 -- ---- a number of n digits
 
-pub fixed-recast : (n : ℕ) → Recast (exactly n digits .Ok) (λ v. v < 10 ^ n) valueOf (fixed n)
+pub fixed-recast : (n : ℕ) → Recast (exactly n digits) (λ v. v < 10 ^ n) (fixed n) valueOf (fixed n)
 fixed-recast n =
     record {
       to-ok = λ l ok. subst (λ (k : ℕ). valueOf l < 10 ^ k) (ok .0) (value-lt l (ok .1));
       from-ok = λ v h. (length-fixed n v, digits-fixed n v);
       back = λ l ok. subst (λ (k : ℕ). fixed k (valueOf l) ≡ l) (ok .0) (fixed-value l (ok .1));
       forth = λ v h. value-fixed n v h;
+      same = λ v h. refl;
     }
 
 abbrev pub fixedDigits : ℕ → Format ℕ
-fixedDigits n = recast (λ v. v < 10 ^ n) valueOf (fixed n) (exactly n digits) (fixed-recast n)
+fixedDigits n = recast (exactly n digits) (λ v. v < 10 ^ n) (fixed n) valueOf (fixed n) (fixed-recast n)

@@ -1,6 +1,6 @@
 -- So many items, one after the other, each under a state that those before it leave (the last position, so that they rise).
 use mathlib.Core.Path.{_≡_, refl, sym, ap, _∙_}
-use mathlib.Core.List.{List, [], _∷_, _++_, append-assoc}
+use mathlib.Core.List.{List, [], _∷_, _++_, append-assoc, flatMap}
 use Prim.Native.Nat.{ℕ, zero, suc, _+_, _-_, _≤_, _<_}
 use lib.ListN.{length}
 use native.Mathlib.Omega.{arith}
@@ -53,6 +53,13 @@ module _ {A S : Type 0} (F : S → Format A) (next : S → A → S) where
 
   abbrev pub items : ℕ → S → Format (List A)
   items n st = record { Ok = CountOk n st; render = itemsRender st; parse = itemsParse n st; sound = items-sound n st; complete = λ xs rest ok. items-complete xs n st rest ok }
+
+-- items whose bytes don't hang on the state
+pub items-bytes : {A S : Type 0} (F : S → Format A) (next : S → A → S) (bytes : A → List ℕ) → ((st : S) (a : A) → F st .render a ≡ bytes a)
+    → (st : S) (l : List A) → itemsRender F next st l ≡ flatMap bytes l
+unfolding itemsRender flatMap
+items-bytes F next bytes h st [] = refl
+items-bytes F next bytes h st (a ∷ l) = rw (h st a) (ap (λ (r : List ℕ). bytes a ++ r) (items-bytes F next bytes h (next st a) l))
 
 -- ---- one item on: what a loop over items goes by
 

@@ -3,6 +3,7 @@ pub mod FormatLaws
 pub mod Combine
 pub mod Words
 pub mod Items
+pub mod Rising
 pub mod Exactly
 pub mod Numbers
 pub mod Name

@@ -5,7 +5,7 @@ use mathlib.Core.List.{List}
 use Prim.Native.Nat.{ℕ}
 use Rattle.formats.specs.Format.{Res, got, bad, bind, pick, ends}
 use Rattle.formats.specs.FormatLaws.{bind-assoc, ends-got, ends-bad}
-use Rattle.formats.specs.Combine.{strip, seqParse, preParse, postParse, mapParse, onlyParse, depParse}
+use Rattle.formats.specs.Combine.{strip, seqParse, preParse, postParse, mapParse, onlyParse}
 
 -- f, read at x, ends at y with the value a; where nothing stands at x, or f isn't there, y is missing
 pub record Run {A : Type 0} (f : List ℕ → Res A) (x y : Res (Unit {0})) (a : A) : Type 0 where
@@ -23,20 +23,15 @@ onward {f = f} {x} {y} {a} k r = sym (bind-assoc x (λ u q. f q) k) ∙ ap (λ z
 
 -- ---- by the shape of the format
 
-module _ {A B : Type 0} {f : List ℕ → Res A} {g : List ℕ → Res B} {x y z : Res (Unit {0})} {a : A} {b : B} where
-  pub run-seq : Run f x y a → Run g y z b → Run (seqParse f g) x z (a, b)
+module _ {A B : Type 0} {f : List ℕ → Res A} (g : A → List ℕ → Res B) {x y z : Res (Unit {0})} {a : A} {b : B} where
+  pub run-seq : Run f x y a → Run (g a) y z b → Run (seqParse f g) x z (a, b)
   unfolding seqParse
-  run-seq r t = record { run = onward (λ a q. bind (g q) (λ b q. got (a, b) q)) r ∙ onward (λ b q. got (a, b) q) t }
+  run-seq r t = record { run = onward (λ a q. bind (g a q) (λ b q. got (a, b) q)) r ∙ onward (λ b q. got (a, b) q) t }
 
 module _ {A B : Type 0} (h : A → B) {f : List ℕ → Res A} {x y : Res (Unit {0})} {a : A} where
   pub run-map : Run f x y a → Run (mapParse h f) x y (h a)
   unfolding mapParse
   run-map r = record { run = onward (λ a q. got (h a) q) r }
-
-module _ {K B : Type 0} {f : List ℕ → Res K} (g : K → List ℕ → Res B) {x y z : Res (Unit {0})} {k : K} {b : B} where
-  pub run-dep : Run f x y k → Run (g k) y z b → Run (depParse f g) x z b
-  unfolding depParse
-  run-dep r t = record { run = onward (λ k q. g k q) r ∙ t .run }
 
 module _ {A : Type 0} {f : List ℕ → Res A} (t : List ℕ) {x y z : Res (Unit {0})} {a : A} where
   pub run-pre : Run (strip t) x y tt → Run f y z a → Run (preParse t f) x z a

@@ -46,3 +46,12 @@ words-complete (w ∷ ws) h (suc n) rest ok = simp (h .0 n rest (omega arith), w
 
 abbrev pub words : (ws : List (List ℕ)) → Apart ws → Format ℕ
 words ws apart = record { Ok = λ n. n < length ws; render = wordAt ws; parse = wordsParse ws; sound = words-sound ws; complete = words-complete ws apart }
+
+-- two words of which the first doesn't begin the second
+pub apart-two : (v w : List ℕ) → ((rest : List ℕ) → strip v (w ++ rest) ≡ bad) → Apart (v ∷ w ∷ [])
+unfolding Apart wordAt
+apart-two v w h = (one, ((λ n rest k. absurd (omega arith)), tt))
+  where
+    one : (n : ℕ) (rest : List ℕ) → n < 1 → strip v (wordAt (w ∷ []) n ++ rest) ≡ bad
+    one zero rest k = h rest
+    one (suc n) rest k = absurd (omega arith)
