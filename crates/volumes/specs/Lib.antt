@@ -5,4 +5,10 @@ pub mod Settlement
 pub mod Sheets
 pub mod Series
 pub mod Examples
+pub mod Order
+pub mod QuartersLaws
+pub mod RankingLaws
+pub mod DaysLaws
+pub mod BaselineLaws
+pub mod LargestLaws
 pub mod ExamplesLaws
