@@ -6,3 +6,5 @@ pub mod Sorting
 pub mod Shown
 pub mod ShownLaws
 pub mod RefersLaws
+pub mod Ranks
+pub mod RanksLaws

@@ -45,7 +45,6 @@ module _ {c : Calendar} {calendar readings : List ℕ} {point : Point} {e : Enga
       record {
         whole = sym (eligible-is ∙ ap (λ (b : Bool). b && (complete (dayReadings book e d) && windowed (point .method) (dayWindow book e d))) h);
         sum = λ z. let q : _≡_ {A = ℕ} 0 1 = cc in absurd (omega arith);
-        small = omega arith;
       }
 
   pub refers : alike calendar point e d ≡ true → (t : Tally) (good : Bool)
@@ -59,5 +58,4 @@ module _ {c : Calendar} {calendar readings : List ℕ} {point : Point} {e : Enga
       record {
         whole = ap₂ _&&_ (k .whole ∙ ap complete row) win ∙ sym (eligible-is ∙ ap (λ (b : Bool). b && (complete (dayReadings book e d) && windowed (point .method) (dayWindow book e d))) h);
         sum = λ z. rw (← row) (k .sum (first (t .whole) good z));
-        small = k .small;
       }

@@ -49,4 +49,3 @@ windowIn readings base q = map (λ i. beforeIn readings base q (24 - i)) (range 
 pub record Refers (book : Book) (e : Engagement) (d : ℕ) (t : Tally) : Type 0 where
   pub whole : t .whole ≡ eligible book e d
   pub sum : t .whole ≡ true → Over (2147483648 * e .count) (daySum book e d) (t .sum)
-  pub small : t .sum ≤ 4294967295 * e .count

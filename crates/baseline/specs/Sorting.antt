@@ -10,7 +10,7 @@ use lib.Dec.{leb, ltb}
 use lib.IntN.{ℤ, pos, _+ℤ_}
 use lib.Signed.{leZ}
 use borrow.Author.Tests.{leb-true, leb-false}
-use Rattle.integers.specs.Z.{up, dn, Over, le-yes, le-no}
+use Rattle.integers.specs.Z.{up, dn, Over, over-is, le-yes, le-no}
 use Rattle.volumes.specs.Ranking.{insert, ranked}
 use Rattle.baseline.specs.Ranking.{inserted}
 
@@ -162,3 +162,24 @@ module _ (bias : ℕ) (sum : ℕ → ℤ) where
   -- a key tells its day
   pub key-day : (d : ℕ) → d < 64 → keyOf d % 64 ≡ d
   key-day d h = omega arith
+
+  -- one more, earlier day behind days that are all at least f
+  abbrev pub Above : ℕ → List ℕ → Type 0
+  Above f [] = Unit {0}
+  Above f (d ∷ l) = (f ≤ d) × Above f l
+
+  pub days-more : (a f d : ℕ) (l : List ℕ) → f ≡ d + 1 → Days a l → Above f l → d < a → d < 64 → Over bias (sum d) (raisedSum d) → Days a (l ++ (d ∷ []))
+  days-more a f d [] e p q h k o = (record { earlier = h; small = k; over = o }, tt)
+  days-more a f d (g ∷ l) e p q h k o = (p .0, days-more g f d l e (p .1) (q .1) (omega (arith, q .0)) k o)
+
+  pub above-more : (f d : ℕ) (l : List ℕ) → f ≡ d + 1 → Above f l → Above d (l ++ (d ∷ []))
+  above-more f d [] e q = (omega arith, tt)
+  above-more f d (g ∷ l) e q = (omega (arith, q .0), above-more f d l e (q .1))
+
+  pub above-less : (f d : ℕ) (l : List ℕ) → f ≡ d + 1 → Above f l → Above d l
+  above-less f d [] e q = tt
+  above-less f d (g ∷ l) e q = (omega (arith, q .0), above-less f d l e (q .1))
+
+-- a number that is z plus the bias is the raised z
+pub raised-is : (bias : ℕ) (z : ℤ) (u : ℕ) → Over bias z u → u ≡ up (z +ℤ pos bias)
+raised-is bias z u o = ap up (over-is o)

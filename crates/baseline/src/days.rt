@@ -48,7 +48,7 @@ pub fn reference_day(
     day: usize,
 ) -> Tally
     requires { ⌜ Fits c (now calendar) (now readings) e × (day < e .day) ⌝ }
-    ensures { λ r. ⌜ ((b : Book) → Shows c (now (calendar .entry)) (now (readings .entry)) point e b → Refers b e day r) ⌝ }
+    ensures { λ r. ⌜ (r .sum ≤ 4294967295 * e .count) × ((b : Book) → Shows c (now (calendar .entry)) (now (readings .entry)) point e b → Refers b e day r) ⌝ }
 {
     let own = e.day as usize;
     let mask = point.mask;

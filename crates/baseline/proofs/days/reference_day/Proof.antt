@@ -33,9 +33,12 @@ excludes-requires c κs = let s = c .before .before .before .before .before in
     omega (arith, m .early)
 
 returns : tie.Need-returns
-returns c = λ b shows.
-    let s = c .before .before .before .before .before .before .before .args in
-    refers-not shows (s .day) (ap (λ (x : Bool). eqb (getD (s .calendar .now) (s .day) 0) (getD (s .calendar .now) (s .e .day) 0) && not x) (sym (c .before .excludes .ensures)) ∙ not-true _ (c .if1 .taken))
+returns c = (
+  omega arith,
+  λ b shows.
+      let s = c .before .before .before .before .before .before .before .args in
+      refers-not shows (s .day) (ap (λ (x : Bool). eqb (getD (s .calendar .now) (s .day) 0) (getD (s .calendar .now) (s .e .day) 0) && not x) (sym (c .before .excludes .ensures)) ∙ not-true _ (c .if1 .taken)),
+)
 
 quarters-of-requires : tie.Need-quarters-of-requires
 quarters-of-requires c κs = search needs
@@ -80,16 +83,19 @@ window-good-requires c κs = let s = c .before .before .before .before .before .
     (omega (arith, m .base, ap (λ (q : ℕ). q * s .args .e .point) (c .before .before .before .before .before .quarters-of .ensures)), omega (arith, m .inside, m .few, c .before .before .before .day-start .ensures), omega (arith, m .roomy, c .before .before .before .day-start .ensures, ap (λ (q : ℕ). q * s .args .e .point) (c .before .before .before .before .before .quarters-of .ensures)))
 
 returns-2 : tie.Need-returns-2
-returns-2 c = λ b shows.
-    let s = c .before .before .before .before .before .before .before .before .before .before .before .before .before .before .before .args in
-    let base = ap (λ (q : ℕ). q * s .e .point) (c .before .before .before .before .before .before .before .quarters-of .ensures) in
-    let q = ap (λ (n : ℕ). n + s .e .first) (c .before .before .before .before .before .day-start .ensures) in
-    refers shows (s .day)
-    (ap (λ (x : Bool). eqb (getD (s .calendar .now) (s .day) 0) (getD (s .calendar .now) (s .e .day) 0) && not x) (sym (c .before .before .before .before .before .before .before .before .before .excludes .ensures)) ∙ not-false _ (c .before .before .before .before .before .before .before .before .if1 .left))
-    (c .before .before .tally-row .result)
-    (c .before .window-good .result)
-    (subst (λ (a : ℕ). Tallied (inRow (s .readings .now) a (s .e .count)) (s .e .count) (c .before .before .tally-row .result)) (ap₂ _+_ base q) (c .before .before .tally-row .ensures))
-    (c .before .window-good .ensures ∙ ap₂ (λ (a k : ℕ). windowed (s .point .method) (windowIn (s .readings .now) a k)) base q)
+returns-2 c = (
+  c .before .before .tally-row .ensures .small,
+  λ b shows.
+      let s = c .before .before .before .before .before .before .before .before .before .before .before .before .before .before .before .args in
+      let base = ap (λ (q : ℕ). q * s .e .point) (c .before .before .before .before .before .before .before .quarters-of .ensures) in
+      let q = ap (λ (n : ℕ). n + s .e .first) (c .before .before .before .before .before .day-start .ensures) in
+      refers shows (s .day)
+      (ap (λ (x : Bool). eqb (getD (s .calendar .now) (s .day) 0) (getD (s .calendar .now) (s .e .day) 0) && not x) (sym (c .before .before .before .before .before .before .before .before .before .excludes .ensures)) ∙ not-false _ (c .before .before .before .before .before .before .before .before .if1 .left))
+      (c .before .before .tally-row .result)
+      (c .before .window-good .result)
+      (subst (λ (a : ℕ). Tallied (inRow (s .readings .now) a (s .e .count)) (s .e .count) (c .before .before .tally-row .result)) (ap₂ _+_ base q) (c .before .before .tally-row .ensures))
+      (c .before .window-good .ensures ∙ ap₂ (λ (a k : ℕ). windowed (s .point .method) (windowIn (s .readings .now) a k)) base q),
+)
 
 pub reference-day-spec : {M : Type 1} → statement M
 reference-day-spec =
