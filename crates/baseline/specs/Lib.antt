@@ -8,3 +8,7 @@ pub mod ShownLaws
 pub mod RefersLaws
 pub mod Ranks
 pub mod RanksLaws
+pub mod Rows
+pub mod RowsLaws
+pub mod Needs
+pub mod NeedsLaws

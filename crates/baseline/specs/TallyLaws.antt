@@ -62,3 +62,12 @@ tally-more l n t reading r h k small =
 pub tally-none : Tallied [] 0 (record { whole = true; sum = 0 })
 unfolding complete sumBy
 tally-none = record { whole = refl; sum = λ e. record { law = omega arith }; small = omega arith }
+
+-- two lists, one after the other
+pub tally-append : (l m : List Reading) (n k : ℕ) (t u : Tally) → Tallied l n t → Tallied m k u → Tallied (l ++ m) (n + k) (record { whole = t .whole && u .whole; sum = t .sum + u .sum })
+tally-append l m n k t u h g =
+    record {
+      whole = ap₂ _&&_ (h .whole) (g .whole) ∙ sym (complete-append l m);
+      sum = λ e. let parts = both (t .whole) (u .whole) e in rw (sum-append integers watts l m) (over-add (2147483648 * (n + k)) (h .sum (parts .0)) (g .sum (parts .1)) (omega arith));
+      small = omega (arith, h .small, g .small);
+    }
