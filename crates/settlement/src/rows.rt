@@ -50,7 +50,7 @@ fn largest(direction: Direction, point: Point) -> u32
 
 // The delivered volume, in grains, limited to `most` watts.
 fn delivered(direction: Direction, most: u32, base: u64, raised: u32) -> u64
-    ensures { λ r. ⌜ r ≡ limited (signed direction (baselineOf base -ℤ grainsZ (wattsOf raised))) most ⌝ }
+    ensures { λ r. ⌜ (r ≡ limited (signed direction (baselineOf base -ℤ grainsZ (wattsOf raised))) most) × (r ≤ grains 4294967295) ⌝ }
 {
     let reading = reading_grains(raised);
     let limit = Grains::from_watts(most).count;

@@ -1,8 +1,7 @@
--- A volume is at most the register's watts, so that all four numbers fit an i64; they are stored in their order, one behind the other.
+-- The volume is the one delivered in the point's direction; the four numbers are stored in their order, one behind the other.
 use native.Mathlib.Omega.{arith}
 use borrow.Author.Needs.{needs}
 use mathlib.Core.Path.{_≡_, sym, ap, _∙_}
-use Prim.Native.Nat.{_<_}
 use lib.IntN.{pos, _-ℤ_, +ℤ-idr}
 use lib.ListN.{length-set}
 use mir.Syntax.{w64}
@@ -10,7 +9,7 @@ use mir.Val.{toZ, ofZ}
 use Rattle.grains.specs.Grains.{grains, grainsZ}
 use Rattle.volumes.specs.Settlement.{limited, deliveredBy, signed}
 use Rattle.settlement.specs.Rows.{rowFrom, baselineOf, wattsOf}
-use Rattle.settlement.specs.RowsLaws.{delivered-by, limited-is, four-sets}
+use Rattle.settlement.specs.RowsLaws.{delivered-by, four-sets}
 use Rattle.settlement.proofs.rows.write_row.Statement.{statement}
 use Rattle.settlement.proofs.rows.write_row.Tie as tie
 
@@ -32,14 +31,8 @@ mul-out c = search needs
 slice-set-from-out : tie.Need-slice-set-from-out
 slice-set-from-out c = search needs
 
--- limited to the largest watts, of 32 bits
-small : (c : tie.After-delivered) → c .delivered .result < 9223372036854775808
-small c =
-    let a = c .before .before .args in
-    omega (arith, c .delivered .ensures, c .before .largest .ok, limited-is (signed (a .direction) (baselineOf (a .base) -ℤ grainsZ (wattsOf (a .raised)))) (c .before .largest .result))
-
 difference-requires : tie.Need-difference-requires
-difference-requires c κs = (small (c .before .before), omega arith)
+difference-requires c κs = search needs
 
 add-out : tie.Need-add-out
 add-out c = search needs
@@ -51,7 +44,7 @@ slice-set-from-out-2 : tie.Need-slice-set-from-out-2
 slice-set-from-out-2 c = simp length-set (omega arith)
 
 correction-requires : tie.Need-correction-requires
-correction-requires c κs = (small (c .before .before .before), omega arith)
+correction-requires c κs = search needs
 
 add-out-2 : tie.Need-add-out-2
 add-out-2 c = search needs
@@ -63,7 +56,7 @@ slice-set-from-out-3 : tie.Need-slice-set-from-out-3
 slice-set-from-out-3 c = simp length-set (omega arith)
 
 correction-requires-2 : tie.Need-correction-requires-2
-correction-requires-2 c κs = (omega arith, small (c .before .before .before .before))
+correction-requires-2 c κs = search needs
 
 add-t13 : tie.Need-add-t13
 add-t13 c = search needs
@@ -83,7 +76,7 @@ volume-is c =
     let a = c .before .before .args in
     let z = baselineOf (a .base) in
     let r = grainsZ (wattsOf (a .raised)) in
-    c .delivered .ensures
+    c .delivered .ensures .0
     ∙ ap (limited (signed (a .direction) (z -ℤ r))) (c .before .largest .ensures)
     ∙ sym (delivered-by (a .direction) (a .point) z r)
 
