@@ -48,10 +48,13 @@ watts (Watts w) = w
 watts Missing = pos 0
 
 -- no reading of these is missing
+unfoldable pub known : Reading → Bool
+known (Watts w) = true
+known Missing = false
+
 unfoldable pub complete : List Reading → Bool
 complete [] = true
-complete (Watts w ∷ l) = complete l
-complete (Missing ∷ l) = false
+complete (r ∷ l) = known r && complete l
 
 -- the mean of readings, in grains: whole where their number divides a watt's grains
 unfoldable pub mean : List Reading → ℤ

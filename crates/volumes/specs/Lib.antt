@@ -4,5 +4,14 @@ pub mod Baseline
 pub mod Settlement
 pub mod Sheets
 pub mod Series
+pub mod Sound
 pub mod Examples
+pub mod Order
+pub mod QuartersLaws
+pub mod RankingLaws
+pub mod DaysLaws
+pub mod BaselineLaws
+pub mod LargestLaws
+pub mod SoundLaws
+pub mod WidthsLaws
 pub mod ExamplesLaws
