@@ -11,6 +11,10 @@ pub mod QuartersLaws
 pub mod RankingLaws
 pub mod DaysLaws
 pub mod BaselineLaws
+pub mod SettlementLaws
+pub mod SheetsLaws
+pub mod SeriesLaws
+pub mod OwnPointLaws
 pub mod LargestLaws
 pub mod SoundLaws
 pub mod WidthsLaws
