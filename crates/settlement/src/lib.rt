@@ -1,0 +1,2 @@
+// Settling: the rows of the engagements.
+pub mod rows;
