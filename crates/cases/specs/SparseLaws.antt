@@ -1,5 +1,5 @@
 -- A piece ends behind its start; what is put into the part from an offset on, or into the first bytes, stands in the whole.
-use mathlib.Core.Path.{_≡_, refl, sym, ap, _∙_, subst}
+use mathlib.Core.Path.{_≡_, ap, _∙_, subst}
 use mathlib.Core.Bool.{Bool, true, false}
 use mathlib.Core.List.{List, [], _++_, append-nil}
 use Prim.Native.Nat.{ℕ, _-_, _≤_, _<_}
@@ -8,7 +8,6 @@ use lib.ListN.{length, take, drop, replicate, length-append, length-drop, length
 use lib.Seq.{take-all, take-at, drop-at, length-take-le}
 use Rattle.cases.specs.declared.Loaded.{Loaded}
 use Rattle.cases.specs.declared.Loaded.the-variants.{Bytes, Malformed}
-use Rattle.cases.specs.Words.{Ends}
 use Rattle.cases.specs.Sparse.{UnhexedBy, PutAtBy, Piece, PiecesBy, FilledBy, SparseBy}
 
 pub piece-behind : {line : List ℕ} {at : ℕ} {before after : List ℕ} {next : ℕ} → Piece line at before after next → at < length line → at < next

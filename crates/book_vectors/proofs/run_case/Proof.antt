@@ -2,7 +2,6 @@
 use mathlib.Core.Path.{sym}
 use lib.Seq.{length-take-le}
 use Rattle.cases.specs.SparseLaws.{loaded-within}
-use native.Mathlib.Omega.{arith}
 use borrow.Author.Needs.{needs}
 use Rattle.book_vectors.proofs.run_case.Statement.{statement}
 use Rattle.book_vectors.proofs.run_case.Tie as tie

@@ -1,9 +1,9 @@
 -- After i turns the list is i zeros and the rest of the first.
-use mathlib.Core.Path.{_≡_, refl, sym, ap, _∙_}
+use mathlib.Core.Path.{_≡_, refl}
 use mathlib.Core.List.{_++_}
-use Prim.Native.Nat.{ℕ, _+_, _-_, _≤_, _<_}
-use lib.ListN.{length, drop, set, replicate, length-set}
-use borrow.Author.Fill.{fill-none, fill-more}
+use Prim.Native.Nat.{_-_, _≤_}
+use lib.ListN.{length, drop, replicate, length-set}
+use borrow.Author.Fill.{fill-more}
 use borrow.Author.Needs.{needs}
 use native.Mathlib.Omega.{arith}
 use Rattle.cases.proofs.sparse.clear.Statement.{statement}

@@ -1,5 +1,5 @@
 -- Zeros, and then the pieces in them.
-use mathlib.Core.Path.{_≡_, sym, ap, _∙_}
+use mathlib.Core.Path.{sym}
 use lib.Seq.{length-take-le}
 use Rattle.cases.specs.SparseLaws.{filled-by}
 use native.Mathlib.Omega.{arith}

@@ -1,6 +1,5 @@
 -- Each return rewrites with the tests that led there.
 use borrow.Author.Tests.{lt-ltb, le-ltb, le-leb, lt-leb}
-use native.Mathlib.Omega.{arith}
 use borrow.Author.Needs.{needs}
 use Rattle.cases.proofs.sparse.nibble.Statement.{statement}
 use Rattle.cases.proofs.sparse.nibble.Tie as tie

@@ -1,8 +1,8 @@
+-- The pieces up to `at` have been put; a piece ends behind its start.
 use Rattle.cases.specs.declared.Step.{Step}
 use Rattle.cases.specs.SparseLaws.{piece-behind, piece-within}
--- The pieces up to `at` have been put; a piece ends behind its start.
-use mathlib.Core.Path.{_≡_, refl, sym, ap, _∙_, subst}
-use Prim.Native.Nat.{ℕ, _-_, _≤_, _<_}
+use mathlib.Core.Path.{_≡_, refl, _∙_, subst}
+use Prim.Native.Nat.{ℕ, _-_, _≤_}
 use lib.ListN.{length}
 use Rattle.cases.specs.Sparse.{Piece, PieceBy, Pieces}
 use Rattle.cases.specs.Sparse.Pieces.{none, more}

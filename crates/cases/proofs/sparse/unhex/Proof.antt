@@ -1,11 +1,10 @@
 -- The first i bytes stand in the list, and those from i on are as they were.
-use mathlib.Core.Path.{_≡_, refl, sym, ap, _∙_}
-use mathlib.Core.List.{List}
+use mathlib.Core.Path.{_≡_, refl, _∙_}
 use Prim.Native.Nat.{ℕ, _+_, _-_, _*_, _/_, _≤_, _<_}
 use lib.ListN.{length, set, getD, length-set}
 use lib.Seq.{getD-set-same, getD-set-other}
 use borrow.Author.Count.{below-more}
-use Rattle.cases.specs.Sparse.{nibbleOf, hexByte, Unhexed}
+use Rattle.cases.specs.Sparse.{hexByte}
 use borrow.Author.Needs.{needs}
 use native.Mathlib.Omega.{arith}
 use Rattle.cases.proofs.sparse.unhex.Statement.{statement}

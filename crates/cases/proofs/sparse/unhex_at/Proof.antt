@@ -1,6 +1,5 @@
 -- What is put at the start of the part from an offset on stands in the whole from there on.
 use Rattle.cases.specs.SparseLaws.{put-back}
-use native.Mathlib.Omega.{arith}
 use borrow.Author.Needs.{needs}
 use Rattle.cases.proofs.sparse.unhex_at.Statement.{statement}
 use Rattle.cases.proofs.sparse.unhex_at.Tie as tie

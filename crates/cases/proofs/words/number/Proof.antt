@@ -1,11 +1,11 @@
 -- The word says what its bytes from i on say behind acc. A digit that would not fit ends it: more digits say no less.
-use mathlib.Core.Path.{_≡_, refl, sym, ap, _∙_}
+use mathlib.Core.Path.{_≡_, sym, _∙_}
 use mathlib.Core.Bool.{true, false}
 use mathlib.Core.List.{List}
 use Prim.Native.Nat.{ℕ, _+_, _-_, _*_, _^_, _≤_, _<_}
 use lib.ListN.{length, drop, getD}
 use borrow.Author.Tests.{le-leb, lt-leb}
-use Rattle.text.specs.declared.Number.the-variants.{Value, NotDigits}
+use Rattle.text.specs.declared.Number.the-variants.{NotDigits}
 use Rattle.text.specs.Decimal.{digit}
 use Rattle.cases.specs.Words.{numberFrom, numberOf}
 use Rattle.cases.specs.WordsLaws.{number-large, number-step, number-stop, number-end}
