@@ -221,7 +221,7 @@ impl WriteCases {
                 });
             }
         }
-        for count in [1, 5, 7, 11] {
+        for count in [1, 2, 3, 4, 5, 7, 8, 9, 10, 11] {
             self.changed(format!("{count} numbers"), |case| case.numbers.truncate(count));
         }
         self.changed("13 numbers", |case| case.numbers.push(0));

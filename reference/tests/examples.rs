@@ -5,9 +5,9 @@ use reference::examples::*;
 use reference::program;
 use reference::refusal::Refusal;
 use reference::series::{file_call, file_rows};
-use reference::settle::{settle, settle_book};
+use reference::settle::{settle, settle_book, GRAINS_PER_WATT};
 
-const WATT: i64 = 30_240;
+const WATT: i64 = GRAINS_PER_WATT as i64;
 
 fn rows(book: &Book) -> Vec<i64> {
     settle(&book.encode(), usize::MAX).unwrap()

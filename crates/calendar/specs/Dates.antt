@@ -1,5 +1,5 @@
 -- Dates: lengths of months, day numbers, weekdays, last Sundays, clock-change days, offsets (document 01, "The book" and "The file").
-use mathlib.Core.Bool.{Bool, true, false, cond, not, _&&_, _||_}
+use mathlib.Core.Bool.{Bool, cond, not, _&&_, _||_}
 use mathlib.Core.List.{List, [], _∷_}
 use Prim.Native.Nat.{ℕ, zero, suc, pred, _+_, _%_, _≤_}
 use lib.Dec.{eqb, leb, ltb}
@@ -78,7 +78,7 @@ abbrev pub isDay : ℕ → ℕ → ℕ → ℕ → ℕ → Bool
 isDay year month lead k number = eqb (number + lead) (dayNumber year month 1 + k)
 
 -- whether day k is the day of March, or that of October, on which the clocks change.
--- The month's own year is enough: a calendar holds no such day of another year (`own-year` of DatesLaws)
+-- The month's own year is enough: a calendar has no such day of another year (`march-of-any-year`, `october-of-any-year`)
 unfoldable pub marchChange : ℕ → ℕ → ℕ → ℕ → Bool
 marchChange year month lead k = isDay year month lead k (marchSunday year)
 

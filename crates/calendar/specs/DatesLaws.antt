@@ -1,5 +1,5 @@
 -- Laws of dates: the closed forms that the code computes are the definitions, and the definitions mean what they say.
-use mathlib.Core.Path.{_≡_, refl, sym, _∙_, ap, ap₂}
+use mathlib.Core.Path.{_≡_, refl, sym, _∙_, ap₂}
 use mathlib.Core.Bool.{Bool, true, false, cond, not, _&&_, _||_, or-true, and-true}
 use mathlib.Core.List.{List, [], _∷_}
 use Prim.Native.Nat.{ℕ, zero, suc, pred, _+_, _-_, _*_, _/_, _%_, _≤_, _<_}
@@ -7,12 +7,12 @@ use native.Mathlib.Omega.{arith}
 use native.Mathlib.Nat.{add-zero, add-suc, le-refl, div-add-mod', mod-lt, suc-mul}
 use native.Mathlib.Numerals.{add-one, sub-one}
 use lib.Arith.{digits-div}
-use lib.Dec.{T, eqb, leb, ltb, lit<, lit≤, eqb→eq, leb→le, eqb·suc-zero}
+use lib.Dec.{T, eqb, leb, ltb, lit<, lit≤, leb→le, eqb·suc-zero}
 use borrow.Author.Tests.{ltb-true, ltb-false, leb-true, leb-false, eqb-true, eqb-false, eq-eqb, ne-eqb, lt-ltb, le-ltb, le-leb, lt-leb}
 use lib.ListN.{List·getD-eq-default, getD, length, drop}
 use Rattle.integers.specs.First.{anyBelow}
 use Rattle.integers.specs.Running.{upTo}
-use Rattle.calendar.specs.Dates.{IsMonth, leap, monthLength, yearLength, dayNumber, weekday, sundayUpTo, lastSunday, marchSunday, octoberSunday, lengths, daysBeforeYear, daysBeforeMonth, calendarDays, isDay, clockChange, marchChange, octoberChange, hasClockChange}
+use Rattle.calendar.specs.Dates.{IsMonth, leap, monthLength, yearLength, dayNumber, weekday, sundayUpTo, lastSunday, marchSunday, octoberSunday, offsetHours, lengths, daysBeforeYear, daysBeforeMonth, calendarDays, clockChange, marchChange, octoberChange, hasClockChange, nextYear, nextMonth}
 
 -- the test by 400 decides for a century's year, that by 4 for any other
 pub leap-century : (y : ℕ) → y % 100 ≡ 0 → leap y ≡ eqb (y % 400) 0
@@ -41,6 +41,16 @@ february y = refl
 pub no-month : (y m : ℕ) → 12 < m → monthLength y m ≡ 0
 unfolding monthLength
 no-month y m h = List·getD-eq-default (lengths (leap y)) 0 h
+
+-- what has days is a month
+pub is-month : (y m : ℕ) → 1 ≤ monthLength y m → (1 ≤ m) × (m ≤ 12)
+unfolding monthLength
+is-month y zero h = absurd (omega arith)
+is-month y (suc m) h = (omega arith, go (leb (suc m) 12) refl)
+  where
+    go : (b : Bool) → leb (suc m) 12 ≡ b → suc m ≤ 12
+    go true e = leb-true (suc m) 12 e
+    go false e = absurd (omega (arith, no-month y (suc m) (leb-false (suc m) 12 e)))
 
 -- a year has 365 days, a leap year one more
 pub year-length : (y : ℕ) → yearLength y ≡ 365 + cond (leap y) 1 0
@@ -239,13 +249,10 @@ unfolding octoberSunday
 october-inner y = inner y 10 (lit≤ tt) (lit≤ tt)
 
 -- such a day in a calendar is one of the month's own year
-pub own-year : (y m lead k z number : ℕ) → 1 ≤ y → 1 ≤ z → 1 ≤ m → m ≤ 12 → lead ≤ 33 → k < calendarDays y m lead → Inner z number → T (isDay y m lead k number) → z ≡ y
+pub own-year : (y m lead k z number : ℕ) → 1 ≤ y → 1 ≤ z → 1 ≤ m → m ≤ 12 → lead ≤ 33 → k < calendarDays y m lead → Inner z number → number + lead ≡ dayNumber y m 1 + k → z ≡ y
 unfolding calendarDays
-own-year y m lead k z number hy hz h l few below i is = go (ltb z y) (ltb y z) refl refl
+own-year y m lead k z number hy hz h l few below i day = go (ltb z y) (ltb y z) refl refl
   where
-    day : number + lead ≡ dayNumber y m 1 + k
-    day = eqb→eq (number + lead) (dayNumber y m 1 + k) is
-
     first : InYear y (dayNumber y m 1)
     first = in-year y m 1 h l (lit≤ tt) (omega (arith, month-length y m h l))
 
@@ -316,6 +323,63 @@ october-has y lead =
     rw (has-clock-change y 10 lead, own-month y 10 lead (lit≤ tt) (lit≤ tt))
     (or-true (inCalendar y 10 lead (marchSunday y)))
 
+-- the test of a clock-change day, March first
+pub clock-change-yes : (y m lead k : ℕ) → marchSunday y + lead ≡ dayNumber y m 1 + k → clockChange y m lead k ≡ true
+unfolding clockChange marchChange octoberChange
+clock-change-yes y m lead k e = rw (eq-eqb (marchSunday y + lead) (dayNumber y m 1 + k) e)
+
+pub clock-change-no : (y m lead k : ℕ) → (marchSunday y + lead ≡ dayNumber y m 1 + k → ⊥) → clockChange y m lead k ≡ eqb (octoberSunday y + lead) (dayNumber y m 1 + k)
+unfolding clockChange marchChange octoberChange
+clock-change-no y m lead k e = rw (ne-eqb (marchSunday y + lead) (dayNumber y m 1 + k) e)
+
+-- the day on which the clocks change, of whatever year, is one by the definition
+pub march-of-any-year : (y m lead k z : ℕ) → 1 ≤ y → 1 ≤ z → 1 ≤ m → m ≤ 12 → lead ≤ 33 → k < calendarDays y m lead → marchSunday z + lead ≡ dayNumber y m 1 + k → clockChange y m lead k ≡ true
+march-of-any-year y m lead k z hy hz h l few below day =
+    let own : z ≡ y = own-year y m lead k z (marchSunday z) hy hz h l few below (march-inner z) day in
+    clock-change-yes y m lead k (rw own at day)
+
+pub october-of-any-year : (y m lead k z : ℕ) → 1 ≤ y → 1 ≤ z → 1 ≤ m → m ≤ 12 → lead ≤ 33 → k < calendarDays y m lead → octoberSunday z + lead ≡ dayNumber y m 1 + k → clockChange y m lead k ≡ true
+unfolding clockChange octoberChange
+october-of-any-year y m lead k z hy hz h l few below day =
+    let own : z ≡ y = own-year y m lead k z (octoberSunday z) hy hz h l few below (october-inner z) day in
+    rw (eq-eqb (octoberSunday y + lead) (dayNumber y m 1 + k) (rw own at day)) (or-true (marchChange y m lead k))
+
+-- ---- the offset of the first of a month: +02:00 from April to October
+
+first-mono : (y m k : ℕ) → m ≤ k → dayNumber y m 1 ≤ dayNumber y k 1
+unfolding dayNumber
+first-mono y m k h = omega (arith, sum-le (monthLength y) (pred m) (pred k) (omega arith))
+
+-- the last Sunday comes after the first of its month and before that of the next one
+sunday-after : (y m : ℕ) → 1 ≤ m → m ≤ 12 → dayNumber y m 1 < dayNumber y m (lastSunday y m)
+unfolding dayNumber weekday
+sunday-after y m h l = omega (arith, last-sunday y m h l, month-length y m h l)
+
+sunday-before : (y m : ℕ) → 1 ≤ m → m ≤ 12 → dayNumber y m (lastSunday y m) < dayNumber y (m + 1) 1
+unfolding dayNumber
+sunday-before y m h l = omega (arith, next-before y m h, last-sunday-is y m h l .last)
+
+pub first-offset : (y m : ℕ) → offsetHours y m 1 ≡ cond (leb 4 m && leb m 10) 2 1
+unfolding offsetHours marchSunday octoberSunday
+first-offset y m = go (leb 4 m) (leb m 10) refl refl
+  where
+    march : ℕ
+    march = dayNumber y 3 (lastSunday y 3)
+
+    october : ℕ
+    october = dayNumber y 10 (lastSunday y 10)
+
+    number : ℕ
+    number = dayNumber y m 1
+
+    go : (a b : Bool) → leb 4 m ≡ a → leb m 10 ≡ b → cond {A = ℕ} (leb march number && ltb number october) 2 1 ≡ cond (a && b) 2 1
+    go true true p q =
+        rw (le-leb march number (omega (arith, sunday-before y 3 (lit≤ tt) (lit≤ tt), first-mono y 4 m (leb-true 4 m p))), lt-ltb number october (omega (arith, sunday-after y 10 (lit≤ tt) (lit≤ tt), first-mono y m 10 (leb-true m 10 q))))
+    go true false p q =
+        rw (le-leb march number (omega (arith, sunday-before y 3 (lit≤ tt) (lit≤ tt), first-mono y 4 m (leb-true 4 m p))), le-ltb number october (omega (arith, sunday-before y 10 (lit≤ tt) (lit≤ tt), first-mono y 11 m (leb-false m 10 q))))
+    go false b p q =
+        rw (lt-leb march number (omega (arith, sunday-after y 3 (lit≤ tt) (lit≤ tt), first-mono y m 3 (omega (arith, leb-false 4 m p)))))
+
 -- ---- bounds, by which the code's sums fit
 
 pub sunday-most : (y m : ℕ) → 1 ≤ m → m ≤ 12 → lastSunday y m ≤ 31
@@ -346,11 +410,10 @@ pub calendar-most : (y m lead : ℕ) → IsMonth y m → lead ≤ 255 → calend
 unfolding calendarDays
 calendar-most y m lead h l = omega (arith, month-length y m (h .january) (h .december))
 
--- the test of a clock-change day, March first
-pub clock-change-yes : (y m lead k : ℕ) → marchSunday y + lead ≡ dayNumber y m 1 + k → clockChange y m lead k ≡ true
-unfolding clockChange marchChange octoberChange
-clock-change-yes y m lead k e = rw (eq-eqb (marchSunday y + lead) (dayNumber y m 1 + k) e)
-
-pub clock-change-no : (y m lead k : ℕ) → (marchSunday y + lead ≡ dayNumber y m 1 + k → ⊥) → clockChange y m lead k ≡ eqb (octoberSunday y + lead) (dayNumber y m 1 + k)
-unfolding clockChange marchChange octoberChange
-clock-change-no y m lead k e = rw (ne-eqb (marchSunday y + lead) (dayNumber y m 1 + k) e)
+pub next-is-month : (y m : ℕ) → IsMonth y m → y ≤ 9998 → IsMonth (nextYear y m) (nextMonth m)
+unfolding nextYear nextMonth
+next-is-month y m h l = go (eqb m 12) refl
+  where
+    go : (b : Bool) → eqb m 12 ≡ b → IsMonth (cond b (y + 1) y) (cond b 1 (m + 1))
+    go true e = record { from = omega arith; to = omega arith; january = lit≤ tt; december = lit≤ tt }
+    go false e = record { from = h .from; to = h .to; january = omega arith; december = omega (arith, eqb-false m 12 e) }

@@ -1,2 +1,2 @@
-// Dates of the Gregorian calendar, and moments in the form of the file.
+// Dates of the Gregorian calendar.
 pub mod dates;

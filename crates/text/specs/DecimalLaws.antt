@@ -11,6 +11,9 @@ use native.Mathlib.Numerals.{add-one}
 use borrow.Author.Tests.{le-leb, leb-true}
 use Rattle.text.specs.Decimal.{digit, digits, valueFrom, valueOf, above, fixed, count, plain}
 
+pub true-false : true ≡ false → ⊥
+true-false e = let z : _≡_ {A = ℕ} 0 1 = cc in omega arith
+
 -- ---- the number above the last n digits
 
 pub above-zero : (v : ℕ) → above 0 v ≡ v
@@ -54,6 +57,21 @@ below-within m n v h e = let k : 10 ^ n ≤ 10 ^ m = pow-le-pow-right (omega ari
 
 -- ---- digits and the number that they say
 
+pub record Digit (x : ℕ) : Type 0 where
+  pub lo : 48 ≤ x
+  pub hi : x ≤ 57
+
+pub digit-is : (x : ℕ) → digit x ≡ true → Digit x
+digit-is x e = go (leb 48 x) refl (leb x 57) refl e
+  where
+    go : (b : Bool) → leb 48 x ≡ b → (d : Bool) → leb x 57 ≡ d → (b && d) ≡ true → Digit x
+    go true f true g e = record { lo = leb-true 48 x f; hi = leb-true x 57 g }
+    go true f false g e = absurd (true-false (sym e))
+    go false f d g e = absurd (true-false (sym e))
+
+pub is-digit : (x : ℕ) → 48 ≤ x → x ≤ 57 → digit x ≡ true
+is-digit x lo hi = rw (le-leb 48 x lo, le-leb x 57 hi)
+
 pub length-fixed : (n v : ℕ) → length (fixed n v) ≡ n
 unfolding fixed
 length-fixed zero v = refl
@@ -62,7 +80,7 @@ length-fixed (suc n) v = ap suc (length-fixed n v)
 pub digits-fixed : (n v : ℕ) → digits (fixed n v) ≡ true
 unfolding fixed digits
 digits-fixed zero v = refl
-digits-fixed (suc n) v = rw (le-leb 48 (48 + above n v % 10) (omega arith), le-leb (48 + above n v % 10) 57 (omega arith)) (digits-fixed n v)
+digits-fixed (suc n) v = rw (is-digit (48 + above n v % 10) (omega arith) (omega arith)) (digits-fixed n v)
 
 -- behind the digits above them, v's last n digits say v
 pub value-above : (n v : ℕ) → valueFrom (above n v) (fixed n v) ≡ v
@@ -83,16 +101,13 @@ pub record Said (acc : ℕ) (l : List ℕ) (v : ℕ) : Type 0 where
 pub said : (acc : ℕ) (l : List ℕ) → digits l ≡ true → Said acc l (valueFrom acc l)
 unfolding valueFrom digits fixed
 said acc [] e = record { before = above-zero acc; last = refl }
-said acc (x ∷ l) e = go (leb 48 x) refl (leb x 57) refl e (said (acc * 10 + (x - 48)) l)
+said acc (x ∷ l) e = go (digit x) refl e (said (acc * 10 + (x - 48)) l)
   where
-    go : (b : Bool) → leb 48 x ≡ b → (d : Bool) → leb x 57 ≡ d → ((b && d) && digits l) ≡ true
-        → (digits l ≡ true → Said (acc * 10 + (x - 48)) l (valueFrom (acc * 10 + (x - 48)) l))
+    go : (b : Bool) → digit x ≡ b → (b && digits l) ≡ true → (digits l ≡ true → Said (acc * 10 + (x - 48)) l (valueFrom (acc * 10 + (x - 48)) l))
         → Said acc (x ∷ l) (valueFrom (acc * 10 + (x - 48)) l)
-    go false f d g e r = let z : _≡_ {A = ℕ} 0 1 = cc in absurd (omega arith)
-    go true f false g e r = let z : _≡_ {A = ℕ} 0 1 = cc in absurd (omega arith)
-    go true f true g e r =
-        let lo = leb-true 48 x f in
-        let hi = leb-true x 57 g in
+    go false f e r = absurd (true-false (sym e))
+    go true f e r =
+        let d = digit-is x f in
         let v = valueFrom (acc * 10 + (x - 48)) l in
         let b = r e .before in
         let k : 48 + above (length l) v % 10 ≡ x = omega arith in

@@ -1,7 +1,7 @@
 -- Writes one behind the other are one write; a write moves by one element; a write in a part of a list is a write in the list.
-use mathlib.Core.Path.{_≡_, refl, sym, ap, _∙_}
+use mathlib.Core.Path.{_≡_, sym, ap, _∙_}
 use mathlib.Core.List.{List, [], _∷_, _++_, append-assoc, append-nil}
-use Prim.Native.Nat.{ℕ, suc, _+_, _-_, _≤_, _<_}
+use Prim.Native.Nat.{ℕ, suc, _+_, _≤_, _<_}
 use native.Mathlib.Omega.{arith}
 use native.Mathlib.Nat.{add-zero, add-assoc, add-suc, suc-add}
 use lib.ListN.{length, take, drop, set, getD, length-append, length-drop, take-append-drop}

@@ -3,7 +3,7 @@ ghost use mathlib.Core.Path.{_≡_};
 ghost use Prim.Native.Nat.{_+_, _≤_};
 ghost use lib.ListN.{length, drop};
 ghost use Rattle.text.specs.Tag.{begins};
-ghost use Rattle.text.specs.Decimal.{fixed, plain, fixedAt};
+ghost use Rattle.text.specs.Decimal.{digit, fixed, plain, fixedAt};
 ghost use Rattle.text.specs.Written.{Wrote};
 
 // What stands where a number is to stand.
@@ -31,6 +31,16 @@ pub fn matches(s: &[u8], at: usize, tag: &[u8]) -> bool
     true
 }
 
+// Whether the byte is a digit.
+pub fn is_digit(x: u8) -> bool
+    ensures { λ r. ⌜ r ≡ digit x ⌝ }
+{
+    if x < 48 {
+        return false;
+    }
+    x <= 57
+}
+
 // The number of n digits that stands at `at`.
 pub fn fixed_at(s: &[u8], at: usize, n: usize) -> Number
     requires { ⌜ n ≤ 18 ⌝ }
@@ -46,10 +56,7 @@ pub fn fixed_at(s: &[u8], at: usize, n: usize) -> Number
     let mut acc: u64 = 0;
     while i < n {
         let x = s[at + i];
-        if x < 48 {
-            return Number::NotDigits;
-        }
-        if 57 < x {
+        if !is_digit(x) {
             return Number::NotDigits;
         }
         acc = acc * 10 + ((x - 48) as u64);

@@ -1,5 +1,5 @@
 -- The loop stands behind i digits that say acc: what is read at `at` is what the other n - i bytes say behind acc.
-use mathlib.Core.Path.{_≡_, refl, sym, ap, _∙_}
+use mathlib.Core.Path.{_≡_, sym, ap, _∙_}
 use mathlib.Core.Bool.{true, false}
 use mathlib.Core.List.{List, _∷_}
 use Prim.Native.Nat.{ℕ, suc, _+_, _-_, _*_, _≤_, _<_}
@@ -8,11 +8,11 @@ use lib.Seq.{length-take-le, drop-cons, getD-take, getD-drop}
 use native.Mathlib.Omega.{arith}
 use native.Mathlib.Numerals.{add-one}
 use borrow.Author.Needs.{needs}
-use borrow.Author.Tests.{le-leb, lt-leb}
+use borrow.Author.Tests.{le-leb, lt-leb, not-true, not-false}
 use Rattle.text.specs.declared.Number.{Number}
 use Rattle.text.specs.declared.Number.the-variants.{Value, NotDigits}
 use Rattle.text.specs.Decimal.{digit, digits, valueFrom, above, pickNumber, fixedAt}
-use Rattle.text.specs.DecimalLaws.{above-zero, above-push, below-within}
+use Rattle.text.specs.DecimalLaws.{digit-is, above-zero, above-push, below-within}
 use Rattle.text.proofs.fixed_at.Statement.{statement}
 use Rattle.text.proofs.fixed_at.Tie as tie
 
@@ -62,13 +62,13 @@ module _ (s : List ℕ) (at n : ℕ) where
       ap (numberFrom acc) (drop-of-length-le (part s at n) {i = i} (omega arith))
 
 abbrev S : tie.At-loop Inv-loop μ-loop → List ℕ
-S l = l .before .before .before .args .s .now
+S l = l .before .before .before .before .args .s .now
 
 abbrev A : tie.At-loop Inv-loop μ-loop → ℕ
-A l = l .before .before .before .args .at
+A l = l .before .before .before .before .args .at
 
 abbrev N : tie.At-loop Inv-loop μ-loop → ℕ
-N l = l .before .before .before .args .n
+N l = l .before .before .before .before .args .n
 
 abbrev byte : tie.At-loop Inv-loop μ-loop → ℕ
 byte l = getD (S l) (A l + l .loop .i) 0
@@ -85,16 +85,16 @@ ended : (l : tie.At-loop Inv-loop μ-loop) → l .loop .i < N l → room l → d
 ended l h k e = l .loop .inv .2 ∙ stop (S l) (A l) (N l) (l .loop .i) (l .loop .acc) h k e
 
 returns : tie.Need-returns Inv-loop μ-loop
-returns c = sym (short (c .before .args .s .now) (c .before .args .at) (c .before .args .n) (omega arith))
+returns c = sym (short (c .before .before .args .s .now) (c .before .before .args .at) (c .before .before .args .n) (omega arith))
 
 sub-if2 : tie.Need-sub-if2 Inv-loop μ-loop
 sub-if2 c = search needs
 
 returns-2 : tie.Need-returns-2 Inv-loop μ-loop
-returns-2 c = sym (short (c .before .before .args .s .now) (c .before .before .args .at) (c .before .before .args .n) (omega arith))
+returns-2 c = sym (short (c .before .before .before .args .s .now) (c .before .before .before .args .at) (c .before .before .before .args .n) (omega arith))
 
 loop-holds : tie.Need-loop-holds Inv-loop μ-loop
-loop-holds c = (search needs, above-zero 0, begin (c .before .before .args .s .now) (c .before .before .args .at) (c .before .before .args .n) (omega arith))
+loop-holds c = (search needs, above-zero 0, begin (c .before .before .before .args .s .now) (c .before .before .before .args .at) (c .before .before .before .args .n) (omega arith))
 
 add-x : tie.Need-add-x Inv-loop μ-loop
 add-x c = search needs
@@ -102,23 +102,27 @@ add-x c = search needs
 shared-slice-read-x : tie.Need-shared-slice-read-x Inv-loop μ-loop
 shared-slice-read-x c = search needs
 
-returns-3 : tie.Need-returns-3 Inv-loop μ-loop
-returns-3 c = sym (ended (c .before .before .before) (search needs) (omega arith) (rw (lt-leb _ _ (c .if3 .taken))))
+is-digit-requires : tie.Need-is-digit-requires Inv-loop μ-loop
+is-digit-requires c κs = search needs
 
-returns-4 : tie.Need-returns-4 Inv-loop μ-loop
-returns-4 c = sym (ended (c .before .before .before .before) (search needs) (omega arith) (rw (le-leb _ _ (c .before .if3 .left), lt-leb _ _ (c .if4 .taken))))
+returns-3 : tie.Need-returns-3 Inv-loop μ-loop
+returns-3 c = sym (ended (c .before .before .before .before) (search needs) (omega arith) (sym (c .before .is-digit .ensures) ∙ not-true _ (c .if3 .taken)))
 
 mul-acc : tie.Need-mul-acc Inv-loop μ-loop
 mul-acc c =
     let l = c .before .before .before .before .loop in
     omega (arith, below-within 17 (l .i) (l .acc) (search needs) (l .inv .1))
 
+sub-acc : tie.Need-sub-acc Inv-loop μ-loop
+sub-acc c = digit-is (byte (c .before .before .before .before)) (sym (c .before .is-digit .ensures) ∙ not-false _ (c .if3 .left)) .lo
+
 cast-acc : tie.Need-cast-acc Inv-loop μ-loop
-cast-acc c = search needs
+cast-acc c = omega (arith, digit-is (byte (c .before .before .before .before)) (sym (c .before .is-digit .ensures) ∙ not-false _ (c .if3 .left)))
 
 add-acc : tie.Need-add-acc Inv-loop μ-loop
 add-acc c =
     let l = c .before .before .before .before .loop in
+    let d = digit-is (byte (c .before .before .before .before)) (sym (c .before .is-digit .ensures) ∙ not-false _ (c .if3 .left)) in
     omega (arith, below-within 17 (l .i) (l .acc) (search needs) (l .inv .1))
 
 add-i : tie.Need-add-i Inv-loop μ-loop
@@ -129,14 +133,13 @@ loop-less c = search needs
 
 loop-again : tie.Need-loop-again Inv-loop μ-loop
 loop-again c =
-    let l = c .before .before .before .before in (
-      search needs,
-      above-push (l .loop .i) (l .loop .acc) (byte l - 48) (omega arith) ∙ l .loop .inv .1,
-      passed l (search needs) (omega arith) (rw (le-leb _ _ (c .before .if3 .left), le-leb _ _ (c .if4 .left))),
-    )
+    let l = c .before .before .before .before in
+    let is : digit (byte l) ≡ true = sym (c .before .is-digit .ensures) ∙ not-false _ (c .if3 .left) in
+    let d = digit-is (byte l) is in
+    (search needs, above-push (l .loop .i) (l .loop .acc) (byte l - 48) (omega arith) ∙ l .loop .inv .1, passed l (search needs) (omega arith) is)
 
-returns-5 : tie.Need-returns-5 Inv-loop μ-loop
-returns-5 c =
+returns-4 : tie.Need-returns-4 Inv-loop μ-loop
+returns-4 c =
     let l = c .before in
     sym (l .loop .inv .2 ∙ end (S l) (A l) (N l) (l .loop .i) (l .loop .acc) (c .loop-test .left) (omega arith))
 
@@ -152,12 +155,13 @@ fixed-at-spec =
     loop-holds
     add-x
     shared-slice-read-x
+    is-digit-requires
     returns-3
-    returns-4
     mul-acc
+    sub-acc
     cast-acc
     add-acc
     add-i
     loop-less
     loop-again
-    returns-5)
+    returns-4)

@@ -1,5 +1,5 @@
 -- The digits are written from the last: after n - k of them the list is the first with v's last n - k digits written at `at` + k.
-use mathlib.Core.Path.{_≡_, refl, sym, ap, _∙_}
+use mathlib.Core.Path.{_≡_, refl, sym}
 use mathlib.Core.List.{List}
 use Prim.Native.Nat.{ℕ, suc, _+_, _-_, _/_, _%_, _≤_, _<_}
 use lib.ListN.{length, set, length-set}

@@ -1,5 +1,5 @@
 -- The loop has counted n digits, above which w is left; where n isn't 1 the first of them isn't 0.
-use mathlib.Core.Path.{_≡_, refl, sym, ap, _∙_}
+use mathlib.Core.Path.{_≡_, sym, ap, _∙_}
 use Prim.Native.Nat.{ℕ, zero, suc, _+_, _-_, _≤_, _<_}
 use lib.ListN.{length}
 use native.Mathlib.Omega.{arith}

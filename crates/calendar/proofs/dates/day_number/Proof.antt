@@ -13,10 +13,14 @@ days-before-month-requires : tie.Need-days-before-month-requires
 days-before-month-requires c κs = search needs
 
 add-result : tie.Need-add-result
-add-result c = omega (arith, before-year (c .before .before .args .year) (search needs), before-month (c .before .before .args .year) (c .before .before .args .month) (search needs))
+add-result c =
+    let a = c .before .before .args in
+    omega (arith, before-year (a .year) (search needs), before-month (a .year) (a .month) (search needs))
 
 add-result-2 : tie.Need-add-result-2
-add-result-2 c = omega (arith, before-year (c .before .before .args .year) (search needs), before-month (c .before .before .args .year) (c .before .before .args .month) (search needs))
+add-result-2 c =
+    let a = c .before .before .args in
+    omega (arith, before-year (a .year) (search needs), before-month (a .year) (a .month) (search needs))
 
 returns : tie.Need-returns
 unfolding dayNumber

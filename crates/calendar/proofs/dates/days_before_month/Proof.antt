@@ -23,7 +23,8 @@ month-length-requires c κs = search needs
 -- the month that is added has at most 31 days
 passed : (c : tie.After-month-length Inv-loop μ-loop) → Length (c .month-length .result)
 passed c =
-    rw (c .month-length .ensures) (month-length (c .before .before .before .args .year) (c .before .before .loop .m) (search needs) (search needs))
+    let at = c .before .before in
+    rw (c .month-length .ensures) (month-length (at .before .args .year) (at .loop .m) (search needs) (search needs))
 
 add-days : tie.Need-add-days Inv-loop μ-loop
 add-days c = omega (arith, passed c)
@@ -35,10 +36,14 @@ loop-less : tie.Need-loop-less Inv-loop μ-loop
 loop-less c = search needs
 
 loop-again : tie.Need-loop-again Inv-loop μ-loop
-loop-again c = (search needs, search needs, omega (arith, next-before (c .before .before .before .args .year) (c .before .before .loop .m) (search needs)), omega (arith, passed c))
+loop-again c =
+    let at = c .before .before in
+    (search needs, search needs, omega (arith, next-before (at .before .args .year) (at .loop .m) (search needs)), omega (arith, passed c))
 
 returns : tie.Need-returns Inv-loop μ-loop
-returns c = let e : c .before .loop .m ≡ c .before .before .args .month = omega arith in rw (← e) (c .before .loop .inv .2)
+returns c =
+    let e : c .before .loop .m ≡ c .before .before .args .month = omega arith in
+    rw (← e) (c .before .loop .inv .2)
 
 pub days-before-month-spec : {M : Type 1} → statement M
 days-before-month-spec =

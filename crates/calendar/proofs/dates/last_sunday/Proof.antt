@@ -12,12 +12,16 @@ month-length-requires : tie.Need-month-length-requires
 month-length-requires c κs = search needs
 
 weekday-requires : tie.Need-weekday-requires
-weekday-requires c κs = (c .before .pre, omega (arith, month-length (c .before .args .year) (c .before .args .month) (c .before .pre .january) (c .before .pre .december)))
+weekday-requires c κs =
+    let a = c .before .args in
+    (c .before .pre, omega (arith, month-length (a .year) (a .month) (c .before .pre .january) (c .before .pre .december)))
 
 -- the last day less its weekday is the last Sunday
 less : (c : tie.After-weekday) → lastSunday (c .before .before .args .year) (c .before .before .args .month) + c .weekday .result ≡ c .before .month-length .result
 less c =
-    rw (c .weekday .ensures, c .before .month-length .ensures) (last-sunday (c .before .before .args .year) (c .before .before .args .month) (c .before .before .pre .january) (c .before .before .pre .december))
+    let start = c .before .before in
+    rw (c .weekday .ensures, c .before .month-length .ensures)
+    (last-sunday (start .args .year) (start .args .month) (start .pre .january) (start .pre .december))
 
 sub-result : tie.Need-sub-result
 sub-result c = omega (arith, less c)

@@ -18,11 +18,17 @@ between-requires c κs = search needs
 
 returns : tie.Need-returns
 unfolding offsetHours
-returns c = rw (← c .before .before .before .before .day-number .ensures, ← c .before .before .before .march-sunday .ensures, ← c .before .before .october-sunday .ensures, ← c .before .between .ensures, c .if1 .taken)
+returns c =
+    let october = c .before .before in
+    let march = october .before in
+    rw (← march .before .day-number .ensures, ← march .march-sunday .ensures, ← october .october-sunday .ensures, ← c .before .between .ensures, c .if1 .taken)
 
 returns-2 : tie.Need-returns-2
 unfolding offsetHours
-returns-2 c = rw (← c .before .before .before .before .day-number .ensures, ← c .before .before .before .march-sunday .ensures, ← c .before .before .october-sunday .ensures, ← c .before .between .ensures, c .if1 .left)
+returns-2 c =
+    let october = c .before .before in
+    let march = october .before in
+    rw (← march .before .day-number .ensures, ← march .march-sunday .ensures, ← october .october-sunday .ensures, ← c .before .between .ensures, c .if1 .left)
 
 pub offset-hours-spec : {M : Type 1} → statement M
 offset-hours-spec =

@@ -1,0 +1,10 @@
+pub mod Ranking
+pub mod RankingLaws
+pub mod Tally
+pub mod TallyLaws
+pub mod Sorting
+pub mod Shown
+pub mod ShownLaws
+pub mod RefersLaws
+pub mod Ranks
+pub mod RanksLaws

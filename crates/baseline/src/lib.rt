@@ -1,0 +1,4 @@
+// Baselines: reference days, their ranking, and what each method makes of them.
+pub mod days;
+pub mod ranking;
+pub mod tally;

@@ -1,0 +1,117 @@
+// Prints what `calendar` and `moments` compute, to be compared with calculations made elsewhere. First for each month of 2018 to
+// 2099 its length, the weekday of its first, its last Sunday, the offset of its first, the next month, the offset of that
+// month's first, and the day on which the clocks change, or 0. Then for each line of standard input how it is judged, as
+// a moment (with its instant) and as a transaction ID.
+use calendar::dates;
+use libc::STDIN_FILENO;
+use libc::STDOUT_FILENO;
+use moments::Judged;
+use moments::ids;
+ghost use Prim.Native.Nat.{_≤_};
+ghost use Rattle.calendar.specs.Dates.{IsMonth};
+
+fn number(n: u64) {
+    io::print_decimal(STDOUT_FILENO, n);
+}
+
+fn field(n: u64) {
+    io::write_all(STDOUT_FILENO, b" ");
+    number(n);
+}
+
+// A month as 2021-06.
+fn month_name(year: u64, month: u64) {
+    number(year);
+    if month < 10 {
+        io::write_all(STDOUT_FILENO, b"-0");
+    } else {
+        io::write_all(STDOUT_FILENO, b"-");
+    }
+    number(month);
+}
+
+// The day of the month on which the clocks change, or 0. With a lead of 1 the day of the month is the day of the
+// calendar.
+fn change(year: u64, month: u64) -> u64
+    requires { ⌜ IsMonth year month ⌝ }
+{
+    let days = dates::month_length(year, month);
+    let mut day = 1;
+    while day <= days {
+        if dates::clock_change(year, month, 1, day) {
+            return day;
+        }
+        day += 1;
+    }
+    0
+}
+
+fn next_field(year: u64, month: u64)
+    requires { ⌜ IsMonth year month × (year ≤ 2099) ⌝ }
+{
+    let next = dates::next_month(year, month);
+    io::write_all(STDOUT_FILENO, b" ");
+    month_name(next.year, next.month);
+    field(dates::offset_hours(next.year, next.month, 1));
+}
+
+fn print_month(year: u64, month: u64)
+    requires { ⌜ IsMonth year month × (year ≤ 2099) ⌝ }
+{
+    month_name(year, month);
+    field(dates::month_length(year, month));
+    field(dates::weekday(year, month, 1));
+    field(dates::last_sunday(year, month));
+    field(dates::offset_hours(year, month, 1));
+    next_field(year, month);
+    field(change(year, month));
+    io::write_all(STDOUT_FILENO, b"\n");
+}
+
+fn print_months() {
+    let mut year = 2018;
+    while year <= 2099 {
+        let mut month = 1;
+        while month <= 12 {
+            print_month(year, month);
+            month += 1;
+        }
+        year += 1;
+    }
+}
+
+fn print_judged(line: &[u8]) {
+    match moments::read_moment(line) {
+        Judged::Real(m) => {
+            io::write_all(STDOUT_FILENO, b"moment");
+            field(moments::instant(m));
+        }
+        Judged::Malformed => {
+            io::write_all(STDOUT_FILENO, b"malformed");
+        }
+    }
+    if ids::transaction_id(line) {
+        io::write_all(STDOUT_FILENO, b" id\n");
+    } else {
+        io::write_all(STDOUT_FILENO, b" malformed\n");
+    }
+}
+
+fn print_lines(text: &[u8]) {
+    let mut start = 0;
+    let mut end = 0;
+    while end < text.len() {
+        if text[end] == b'\n' {
+            print_judged(&text[start..end]);
+            start = end + 1;
+        }
+        end += 1;
+    }
+}
+
+fn main() {
+    print_months();
+    let mut buffer = io::large_buffer();
+    let got = io::read_full(STDIN_FILENO, &mut buffer);
+    print_lines(&buffer[..got]);
+}

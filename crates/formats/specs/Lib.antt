@@ -1,0 +1,12 @@
+pub mod Format
+pub mod FormatLaws
+pub mod Combine
+pub mod Words
+pub mod Items
+pub mod Rising
+pub mod Exactly
+pub mod Numbers
+pub mod Name
+pub mod Run
+pub mod Place
+pub mod PlaceLaws

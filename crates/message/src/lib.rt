@@ -1,0 +1,8 @@
+// The file of document 01.
+
+// TOE01, TOE02 and TOE03.
+pub enum Kind {
+    Toe01,
+    Toe02,
+    Toe03,
+}

@@ -1,0 +1,4 @@
+pub mod Moments
+pub mod MomentsLaws
+pub mod Ids
+pub mod IdsLaws

@@ -1,0 +1,14 @@
+pub mod Quarters
+pub mod Ranking
+pub mod Baseline
+pub mod Settlement
+pub mod Sheets
+pub mod Series
+pub mod Examples
+pub mod Order
+pub mod QuartersLaws
+pub mod RankingLaws
+pub mod DaysLaws
+pub mod BaselineLaws
+pub mod LargestLaws
+pub mod ExamplesLaws
