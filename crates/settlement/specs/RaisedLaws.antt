@@ -73,7 +73,7 @@ raised-watts {xs} {i} {r} h k =
     ap wattsOf (h .is) ∙ sym (is-watts (raised-over (wattsAt xs i) (h .range))) ∙ sym (known-watts (wattsAt xs i) k)
 
 -- of readings none of which is missing, one
-both : (t u : Bool) → (t && u) ≡ true → (t ≡ true) × (u ≡ true)
+pub both : (t u : Bool) → (t && u) ≡ true → (t ≡ true) × (u ≡ true)
 both true u h = (refl, h)
 both false u h = let z : _≡_ {A = ℕ} 0 1 = cc in absurd (omega arith)
 

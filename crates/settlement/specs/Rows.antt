@@ -1,6 +1,6 @@
 -- Settlement rows from what they depend on (document 01, "Delivered volume, corrections, series").
 use mathlib.Core.List.{List, [], _∷_, map, flatMap}
-use Prim.Native.Nat.{ℕ, _+_, _≤_, _<_}
+use Prim.Native.Nat.{ℕ, _+_, _*_, _≤_, _<_}
 use lib.IntN.{ℤ, pos, _-ℤ_}
 use lib.ListN.{getD}
 use Rattle.wire.specs.declared.Reading.{Reading}
@@ -10,7 +10,9 @@ use Rattle.book.specs.declared.Direction.{Direction}
 use Rattle.book.specs.declared.Direction.the-variants.{Up, Down}
 use Rattle.book.specs.declared.Point.{Point}
 use Rattle.book.specs.declared.Engagement.{Engagement}
-use Rattle.volumes.specs.Quarters.{quarterHours}
+use Rattle.book.specs.declared.Calendar.{Calendar}
+use Rattle.book.specs.Calendars.{quartersOf}
+use Rattle.volumes.specs.Quarters.{quarterHours, start}
 use Rattle.volumes.specs.Baseline.{watts}
 use Rattle.volumes.specs.Settlement.{deliveredBy, signed}
 use Rattle.settlement.specs.Raised.{baselineOf}
@@ -25,6 +27,10 @@ rowFrom direction point requested base read =
 unfoldable pub largest : Direction → Point → ℕ
 largest Up point = point .upward
 largest Down point = point .downward
+
+-- the place of an engagement's first reading among those of all points
+abbrev pub firstReading : Calendar → Engagement → ℕ
+firstReading c e = quartersOf c * e .point + start c e
 
 -- an engagement's own readings, where they stand in a row from `first` on
 abbrev pub readingsFrom : Engagement → List ℕ → ℕ → List Reading

@@ -15,6 +15,9 @@ ghost use Rattle.volumes.specs.Settlement.{rowWidth, limited, signed};
 ghost use Rattle.settlement.specs.Raised.{bias, greatest, baselineOf, wattsOf};
 ghost use Rattle.settlement.specs.Rows.{rowFrom, rowsFrom, largest, readingsFrom, AllAtMost};
 
+// The numbers of a row.
+pub const ROW_WIDTH: usize = 4;
+
 // The bias of a raised baseline: 3 times 2^31 watts, 2^31 being that of a raised reading.
 pub fn bias() -> u64
     ensures { λ r. ⌜ r ≡ bias ⌝ }
@@ -91,7 +94,7 @@ pub fn baseline_of(base: u64) -> i64
     difference(base, bias())
 }
 
-// A quarter-hour's row, in the four places from `at` on.
+// A quarter-hour's row, from `at` on.
 pub fn write_row(
     out: &mut [i64],
     at: usize,
@@ -134,7 +137,7 @@ pub fn write_rows(
         let raised = wire::raised_at(readings, first + k);
         write_row(
             out,
-            at + 4 * k,
+            at + ROW_WIDTH * k,
             direction,
             point,
             requested,
