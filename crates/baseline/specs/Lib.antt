@@ -17,3 +17,5 @@ pub mod TakenLaws
 pub mod LevelsLaws
 pub mod Levels
 pub mod LevelLaws
+pub mod Bases
+pub mod BasesLaws

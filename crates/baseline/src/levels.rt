@@ -17,7 +17,7 @@ ghost use Rattle.baseline.specs.Rows.{daysIn, dayRows, Lie};
 ghost use Rattle.baseline.specs.Levels.{Means, Adds, Lasts};
 
 // 2^32 watts.
-fn lift() -> u64
+pub fn lift() -> u64
     ensures { λ r. ⌜ r ≡ grains 4294967296 ⌝ }
 {
     2 * Grains::from_watts(2147483648).count

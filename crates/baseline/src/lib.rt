@@ -1,4 +1,5 @@
 // Baselines: reference days, their ranking, and what each method makes of them.
+pub mod bases;
 pub mod days;
 pub mod judge;
 pub mod levels;
