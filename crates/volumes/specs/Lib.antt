@@ -16,6 +16,8 @@ pub mod SheetsLaws
 pub mod SeriesLaws
 pub mod OwnPointLaws
 pub mod LargestLaws
+pub mod BookLaws
 pub mod SoundLaws
 pub mod WidthsLaws
+pub mod RunningLaws
 pub mod ExamplesLaws

@@ -40,6 +40,14 @@ module _ {ℓ κ} {A : Type ℓ} {B : Type κ} where
   length-flatMap n f h [] = omega (arith, mul-zero n)
   length-flatMap n f h (a ∷ l) = simp (length-append, h, length-flatMap n f h l) (omega (arith, mul-suc n (length l)))
 
+-- no day has more quarter-hours
+abbrev pub longestDay : ℕ
+longestDay = 96
+
+pub quarters-most : (c : Calendar) (d : ℕ) → quarters c d ≤ longestDay
+unfolding quarters
+quarters-most c d = omega arith
+
 -- days start one after another
 pub day-start-mono : (c : Calendar) (a b : ℕ) → a ≤ b → dayStart c a ≤ dayStart c b
 day-start-mono c a zero h = let e : a ≡ 0 = omega arith in rw e (omega arith)
