@@ -19,5 +19,6 @@ pub mod LargestLaws
 pub mod BookLaws
 pub mod SoundLaws
 pub mod WidthsLaws
+pub mod RaisedLaws
 pub mod RunningLaws
 pub mod ExamplesLaws
