@@ -1,5 +1,5 @@
 -- The points and engagements of a book, as its sections have them.
-use mathlib.Core.Path.{_≡_, refl, ap, _∙_}
+use mathlib.Core.Path.{_≡_, ap, _∙_}
 use mathlib.Core.List.{List, map}
 use Prim.Native.Nat.{ℕ, zero, suc, _+_, _<_}
 use native.Mathlib.Nat.{zero-add}
@@ -10,7 +10,7 @@ use Rattle.book.specs.declared.Engagement.{Engagement}
 use Rattle.book.specs.Header.{pointCount, engagementCount, registerSection, engagementSection}
 use Rattle.book.specs.Register.{pointAt}
 use Rattle.book.specs.Engagements.{engagementAt}
-use Rattle.book.specs.Book.{Book, bookOf}
+use Rattle.book.specs.Book.{bookOf}
 use Rattle.volumes.specs.Baseline.{noPoint, pointOf}
 
 pub getD-map-range : {A : Type 0} (f : ℕ → A) (a n i : ℕ) (z : A) → i < n → getD (map f (range a n)) i z ≡ f (a + i)

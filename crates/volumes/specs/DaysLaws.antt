@@ -13,7 +13,7 @@ use Rattle.book.specs.declared.Engagement.{Engagement}
 use Rattle.book.specs.Book.{Book}
 use Rattle.volumes.specs.Ranking.{ranked}
 use Rattle.volumes.specs.RankingLaws.{insertLast, ranked-next}
-use Rattle.volumes.specs.Baseline.{eligible, before, keep, eligibleDays, yOf, latest}
+use Rattle.volumes.specs.Baseline.{before, keep, eligibleDays, yOf, latest}
 
 -- the days that pass a test among a - 1 down to d
 unfoldable pub scanned : (ℕ → Bool) → ℕ → ℕ → List ℕ

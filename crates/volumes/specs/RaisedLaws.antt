@@ -1,16 +1,16 @@
 -- What readings that are raised by 2^31, and so without a sign, tell of watts: sums of equally many compare alike, a mean is raised by one reading's,
 -- and the delivered volume is their difference, which is 0 below by itself.
-use mathlib.Core.Path.{_≡_, refl, sym, ap, _∙_}
-use mathlib.Core.Bool.{Bool, true, false, not, _&&_, false≢true, and-eq-true-iff}
+use mathlib.Core.Path.{_≡_, refl, sym}
+use mathlib.Core.Bool.{Bool, true, false, not, false≢true, and-eq-true-iff}
 use mathlib.Core.List.{List, [], _∷_, List·Memᴰ, List·Memᴰ·head, List·Memᴰ·tail}
-use Prim.Native.Nat.{ℕ, zero, suc, _+_, _-_, _*_, _^_, _≤_, _<_, min}
+use Prim.Native.Nat.{ℕ, suc, _+_, _-_, _*_, _^_, min}
 use native.Mathlib.Omega.{arith}
 use lib.Dec.{eqb, leb}
-use lib.IntN.{ℤ, pos, negsuc, _+ℤ_, _-ℤ_, _*ℤ_}
+use lib.IntN.{ℤ, pos, negsuc, _+ℤ_, _-ℤ_}
 use lib.ListN.{length}
 use lib.Signed.{leZ}
-use borrow.Author.Tests.{eq-eqb, ne-eqb, le-leb, lt-leb, leb-true, leb-false}
-use Rattle.integers.specs.Z.{up, dn, one-0, sum, dif, mul, le-yes, le-no, Over, over-add}
+use borrow.Author.Tests.{ne-eqb, le-leb, lt-leb}
+use Rattle.integers.specs.Z.{up, dn, one-0, sum, dif, le-yes, le-no, Over, over-add}
 use Rattle.integers.specs.Sums.{sumBy, sumOf, sumZ}
 use Rattle.wire.specs.Readings.{raised}
 use Rattle.wire.specs.declared.Reading.{Reading}

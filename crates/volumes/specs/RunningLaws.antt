@@ -1,17 +1,15 @@
 -- A series' running sum of grains fits 64 bits: an engagement adds to no more positions than it has quarter-hours, and no more than the largest volume to each.
-use mathlib.Core.Path.{_≡_, refl, sym, _∙_}
+use mathlib.Core.Path.{_≡_, refl}
 use mathlib.Core.Bool.{Bool, true, false, cond, _&&_, and-eq-true-iff}
 use mathlib.Core.List.{List, [], _∷_, List·Memᴰ, List·Memᴰ·head, List·Memᴰ·tail}
 use Prim.Native.Nat.{ℕ, zero, suc, _+_, _-_, _*_, _^_, _≤_, _<_, min}
-use native.Mathlib.Nat.{mul-suc, mul-add, mul-zero, mul-le-mul-left}
+use native.Mathlib.Nat.{mul-suc, mul-le-mul-left}
 use native.Mathlib.Omega.{arith}
 use lib.Dec.{leb, ltb}
 use lib.ListN.{length}
 use borrow.Author.Tests.{leb-true, ltb-true}
 use Rattle.integers.specs.Sums.{sumBy, sumOf}
 use Rattle.integers.specs.Running.{upTo, upTo-zero, upTo-add}
-use Rattle.grains.specs.Grains.{perWatt, grains}
-use Rattle.book.specs.declared.Calendar.{Calendar}
 use Rattle.book.specs.declared.Engagement.{Engagement}
 use Rattle.book.specs.Book.{Book}
 use Rattle.volumes.specs.Settlement.{delivered, rowCount}

@@ -1,15 +1,15 @@
 -- The corrections of a quarter-hour make up what was requested, so at each position all sheets sum to the requested volume.
-use mathlib.Core.Path.{_≡_, refl, sym, ap, _∙_}
+use mathlib.Core.Path.{_≡_, ap, _∙_}
 use mathlib.Core.Logic.{⊎-elim}
 use mathlib.Core.Bool.{Bool, true, false, cond, and-false}
-use mathlib.Core.List.{List, [], _∷_, map, flatMap, zip, zipWith, List·Memᴰ, List·Memᴰ·head, List·Memᴰ·tail, List·Memᴰ·not-nil, List·Memᴰ·cases-cons, Memᴰ·append-left, Memᴰ·append-right}
-use Prim.Native.Nat.{ℕ, zero, suc, _+_, _-_, _≤_, _<_}
+use mathlib.Core.List.{List, [], _∷_, flatMap, zip, zipWith, List·Memᴰ, List·Memᴰ·head, List·Memᴰ·tail, List·Memᴰ·not-nil, List·Memᴰ·cases-cons, Memᴰ·append-left, Memᴰ·append-right}
+use Prim.Native.Nat.{ℕ, zero, suc, _+_, _≤_, _<_}
 use native.Mathlib.Omega.{arith}
 use lib.Dec.{eqb, leb}
 use lib.IntN.{ℤ, pos, negℤ, _+ℤ_, _-ℤ_}
 use lib.ListN.{length, getD, length-map}
 use borrow.Author.Tests.{le-leb, lt-leb, lt-ltb, le-ltb}
-use Rattle.integers.specs.Z.{up, dn, eqZ, sum, dif, neg}
+use Rattle.integers.specs.Z.{eqZ, sum, dif, neg}
 use Rattle.integers.specs.Counts.{times}
 use Rattle.integers.specs.Ranges.{range, length-range}
 use Rattle.integers.specs.Sums.{integers, sumBy, sumZ, sum-zero, sum-cong, sum-swap, sum-once}
