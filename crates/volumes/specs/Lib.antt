@@ -12,6 +12,7 @@ pub mod RankingLaws
 pub mod DaysLaws
 pub mod BaselineLaws
 pub mod SettlementLaws
+pub mod UsedLaws
 pub mod SheetsLaws
 pub mod SeriesLaws
 pub mod OwnPointLaws
