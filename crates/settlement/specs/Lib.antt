@@ -3,3 +3,4 @@ pub mod RaisedLaws
 pub mod Rows
 pub mod RowsLaws
 pub mod StoresLaws
+pub mod FillLaws

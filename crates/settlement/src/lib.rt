@@ -1,3 +1,4 @@
 // Settling: the rows of the engagements, and the cells of a sheet.
+pub mod fill;
 pub mod rows;
 pub mod sheets;
