@@ -17,12 +17,13 @@ use Rattle.formats.specs.Exactly.{fixedDigits}
 use Rattle.formats.specs.Numbers.{number}
 use Rattle.formats.specs.Items.{ItemsOk}
 use Rattle.formats.specs.Rising.{rises, All, and-left, and-right, and-both, risingItems, to-all, from-all}
-use Rattle.calendar.specs.Dates.{monthLength, nextYear, nextMonth}
+use Rattle.calendar.specs.Dates.{monthLength}
+use Rattle.moments.specs.Moments.{momentBytes, dateBytes, timeBytes, tailBytes, periodStart, periodEnd}
 use Rattle.calendar.specs.DatesLaws.{month-length, no-month}
 use Rattle.message.specs.declared.Kind.{Kind}
 use Rattle.message.specs.declared.Kind.the-variants.{Toe03}
 use Rattle.message.specs.Contents.{Observation, position, Series, place}
-use Rattle.message.specs.Bytes.{opening, ending, closing, element, quantityBytes, observationBytes, monthBytes, periodBytes, supplies, deliveries, supplyBytes, volumeBytes, seriesBytes, inSeries}
+use Rattle.message.specs.Bytes.{opening, ending, closing, element, quantityBytes, observationBytes, periodBytes, supplies, deliveries, supplyBytes, volumeBytes, seriesBytes, inSeries}
 use Rattle.message.specs.Valid.{monthOf, most, IsObservation, IsVolume, IsSeries, Counted, IsPeriod, lastPosition}
 
 -- a number without leading zeros and the < that ends it
@@ -123,13 +124,14 @@ monthBody = only isPeriod (pre (opening "PeriodStart") (seq (post (fixedDigits 4
 
 unfoldable pub behindMonth : ℕ × ℕ → List ℕ
 behindMonth q =
-    drop 7 (monthBytes (q .0) (q .1)) ++ closing "PeriodStart"
-    ++ element "PeriodEnd" (monthBytes (nextYear (q .0) (q .1)) (nextMonth (q .1)))
+    drop 7 (momentBytes (periodStart (q .0) (q .1))) ++ closing "PeriodStart"
+    ++ element "PeriodEnd" (momentBytes (periodEnd (q .0) (q .1)))
     ++ element "PeriodResolution" (bytes "PT15M")
 
--- a month's first bytes are its year and month
-month-split : (year month : ℕ) → monthBytes year month ≡ fixed 4 year ++ bytes "-" ++ fixed 2 month ++ drop 7 (monthBytes year month)
-unfolding monthBytes fixed bytes
+-- the first bytes are the year and the month
+month-split : (year month : ℕ)
+    → momentBytes (periodStart year month) ≡ fixed 4 year ++ bytes "-" ++ fixed 2 month ++ drop 7 (momentBytes (periodStart year month))
+unfolding momentBytes dateBytes timeBytes tailBytes periodStart fixed bytes
 month-split year month = refl
 
 join : (o x t c e r m : List ℕ) → m ≡ x ++ t → o ++ x ++ (t ++ c ++ e ++ r) ≡ (o ++ m ++ c) ++ e ++ r
@@ -143,9 +145,9 @@ period-recast =
       from-ok = λ q ok. ((omega (arith, ok .to), omega (arith, ok .december)), from-period q ok);
       back = λ q ok. refl;
       forth = λ q ok. refl;
-      same = λ q ok. join (opening "PeriodStart") (fixed 4 (q .0) ++ bytes "-" ++ fixed 2 (q .1)) (drop 7 (monthBytes (q .0) (q .1))) (closing "PeriodStart")
-          (element "PeriodEnd" (monthBytes (nextYear (q .0) (q .1)) (nextMonth (q .1)))) (element "PeriodResolution" (bytes "PT15M"))
-          (monthBytes (q .0) (q .1)) (month-split (q .0) (q .1));
+      same = λ q ok. join (opening "PeriodStart") (fixed 4 (q .0) ++ bytes "-" ++ fixed 2 (q .1)) (drop 7 (momentBytes (periodStart (q .0) (q .1)))) (closing "PeriodStart")
+          (element "PeriodEnd" (momentBytes (periodEnd (q .0) (q .1)))) (element "PeriodResolution" (bytes "PT15M"))
+          (momentBytes (periodStart (q .0) (q .1))) (month-split (q .0) (q .1));
     }
 
 unfoldable pub period : Format (ℕ × ℕ)

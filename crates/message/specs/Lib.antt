@@ -5,3 +5,4 @@ pub mod Forms
 pub mod PartnerForm
 pub mod Months
 pub mod FileForm
+pub mod CaseF
