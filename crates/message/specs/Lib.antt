@@ -6,3 +6,8 @@ pub mod PartnerForm
 pub mod Months
 pub mod FileForm
 pub mod CaseF
+pub mod Group
+pub mod Keys
+pub mod Rows
+pub mod RowsLaws
+pub mod MessageForm
