@@ -15,12 +15,12 @@ use Rattle.formats.specs.FormatLaws.{there-and-back}
 use Rattle.formats.specs.Name.{each}
 use Rattle.formats.specs.Rising.{rises, All}
 use Rattle.formats.specs.Words.{wordAt}
-use Rattle.calendar.specs.Dates.{leap, monthLength, lastSunday, marchSunday, octoberSunday, dayNumber, offsetHours, nextYear, nextMonth}
+use Rattle.calendar.specs.Dates.{leap, monthLength, marchSunday, octoberSunday, dayNumber, offsetHours, nextYear, nextMonth}
 use Rattle.calendar.specs.DatesLaws.{last-sunday-is, month-length}
 use Rattle.moments.specs.Moments.{momentBytes, dateBytes, timeBytes, tailBytes, periodStart, periodEnd, realDate, realTime, real, valueAt, parts, momentOf}
 use Rattle.moments.specs.Ids.{isTransactionId}
 use Rattle.message.specs.declared.Kind.the-variants.{Toe01}
-use Rattle.message.specs.Contents.{Observation, Series, Partner, File}
+use Rattle.message.specs.Contents.{Observation, Series, File}
 use Rattle.message.specs.Bytes.{element, opening, ending, closing, root, counter, group, partner, digits, quantityBytes, observationBytes, periodBytes, supplies, deliveries, supplyBytes, volumeBytes, seriesBytes, supplyOf, partnerBytes, fileBytes}
 use Rattle.message.specs.Valid.{isMoment, lastPosition, periods, firstOf, IsVolume, IsFile}
 use Rattle.message.specs.FileForm.{file}

@@ -10,4 +10,6 @@ pub mod Group
 pub mod Keys
 pub mod Rows
 pub mod RowsLaws
+pub mod SixesLaws
 pub mod MessageForm
+pub mod FileLaws

@@ -1,7 +1,7 @@
 -- A file's rows: "six u64 a row: partner, supply, delivery direction, position, watts, 0".
 use mathlib.Core.Path.{_≡_}
-use mathlib.Core.Bool.{Bool, true, false, cond, _&&_}
-use mathlib.Core.List.{List, [], _∷_, _++_, map, flatMap}
+use mathlib.Core.Bool.{Bool, true, _&&_}
+use mathlib.Core.List.{List, [], _∷_, map, flatMap}
 use Prim.Native.Nat.{ℕ, zero, suc, _+_, _/_, _%_}
 use lib.Dec.{eqb}
 use lib.ListN.{length, getD}

@@ -1,19 +1,19 @@
 -- The rows of a valid file's partners give these partners, and the partners of rows give these rows.
 use mathlib.Core.Path.{_≡_, refl, sym, ap, ap₂, _∙_}
-use mathlib.Core.Bool.{Bool, true, false, _&&_}
+use mathlib.Core.Bool.{true, _&&_}
 use mathlib.Core.List.{List, [], _∷_, _++_, map, flatMap}
-use Prim.Native.Nat.{ℕ, suc, _+_, _*_, _≤_, _<_}
+use Prim.Native.Nat.{ℕ, _≤_}
 use lib.ListN.{length, length-append, length-map}
 use lib.Dec.{eqb}
 use native.Mathlib.Omega.{arith}
 use borrow.Author.Tests.{eqb-true}
 use Rattle.formats.specs.Rising.{rises, All, all-map, and-left, and-right}
 use Rattle.message.specs.declared.Kind.{Kind}
-use Rattle.message.specs.Contents.{Observation, Series, Partner, File, place, number}
-use Rattle.message.specs.Valid.{monthOf, periods, firstOf, IsSeries, IsPartner, IsFile}
-use Rattle.message.specs.Keys.{numberKeys, pairKeys, pair-alike}
+use Rattle.message.specs.Contents.{Observation, Series, Partner, place, number}
+use Rattle.message.specs.Valid.{monthOf, periods, firstOf, IsSeries, IsPartner}
+use Rattle.message.specs.Keys.{numberKeys, pairKeys}
 use Rattle.message.specs.Group.{group, spread, spread-group, group-spread, rising-groups, first-group}
-use Rattle.message.specs.Rows.{Row, seriesRows, partnerRows, rowsOf, seriesOf, partnerOf, partnersOf, Message, contents, message}
+use Rattle.message.specs.Rows.{Row, seriesRows, partnerRows, rowsOf, seriesOf, partnerOf, partnersOf}
 
 map-undo : {A B : Type 0} (f : A → B) (g : B → A) (l : List A) → All (λ a. g (f a) ≡ a) l → map g (map f l) ≡ l
 unfolding All
