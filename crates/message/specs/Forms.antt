@@ -60,16 +60,28 @@ quantity =
 unfoldable pub observationBody : Format (ℕ × ℕ)
 observationBody =
     pre (opening "Observation" ++ opening "Position")
-    (seq (post plainNumber (ending "Position" ++ opening "Quantity")) (post (only (λ w. ltb 0 w) quantity) (closing "Quantity" ++ closing "Observation")))
+    (seq (post plainNumber (ending "Position" ++ opening "Quantity")) (post quantity (closing "Quantity" ++ closing "Observation")))
+
+-- a position of the month, and watts
+abbrev pub observable : ℕ → ℕ × ℕ → Bool
+observable last p = leb (p .0) last && ltb 0 (p .1)
+
+abbrev pub observed : ℕ × ℕ → Observation
+observed p = record { position = p .0; watts = p .1 }
 
 module _ (last : ℕ) (fits : last ≤ most) where
-  pub observation-recast : Recast (only (λ p. leb (p .0) last) observationBody) (IsObservation last) observationBytes
-      (λ p. record { position = p .0; watts = p .1 }) (λ o. (o .position, o .watts))
+  pub observation-recast : Recast (only (observable last) observationBody) (IsObservation last) observationBytes
+      observed (λ o. (o .position, o .watts))
   unfolding observationBody quantity observationBytes closing
   observation-recast =
       record {
-        to-ok = λ p ok. record { within = leb-true (p .0) last (ok .1); some = ltb-true 0 (p .1) (ok .0 .1 .1); below = ok .0 .1 .0 };
-        from-ok = λ o ok. ((omega (arith, ok .within), (ok .below, lt-ltb 0 (o .watts) (ok .some))), le-leb (o .position) last (ok .within));
+        to-ok = λ p ok.
+            record {
+              within = leb-true (p .0) last (and-left (leb (p .0) last) (ltb 0 (p .1)) (ok .1));
+              some = ltb-true 0 (p .1) (and-right (leb (p .0) last) (ltb 0 (p .1)) (ok .1));
+              below = ok .0 .1;
+            };
+        from-ok = λ o ok. ((omega (arith, ok .within), ok .below), and-both (le-leb (o .position) last (ok .within)) (lt-ltb 0 (o .watts) (ok .some)));
         back = λ p ok. refl;
         forth = λ o ok. refl;
         same = λ o ok. simp append-assoc;
@@ -77,8 +89,7 @@ module _ (last : ℕ) (fits : last ≤ most) where
 
   unfoldable pub observation : Format Observation
   observation =
-      recast (only (λ p. leb (p .0) last) observationBody) (IsObservation last) observationBytes
-      (λ p. record { position = p .0; watts = p .1 }) (λ o. (o .position, o .watts)) observation-recast
+      recast (only (observable last) observationBody) (IsObservation last) observationBytes observed (λ o. (o .position, o .watts)) observation-recast
 
   pub observation-bytes : (u : Unit {0}) (o : Observation) → observation .render o ≡ observationBytes o
   unfolding observation

@@ -13,3 +13,4 @@ pub mod RowsLaws
 pub mod SixesLaws
 pub mod MessageForm
 pub mod FileLaws
+pub mod Reading

@@ -1,8 +1,90 @@
 // The file of document 01.
+use formats::Mark;
+use formats::Val;
+ghost use mathlib.Core.Path.{_≡_};
+ghost use mathlib.Core.Bool.{cond};
+ghost use Prim.Native.Nat.{_≤_};
+ghost use Rattle.formats.specs.Place.{Within, Parsed};
+ghost use Rattle.message.specs.Forms.{quantity, observed};
+ghost use Rattle.message.specs.Reading.{observing, inOrder, keep};
 
 // TOE01, TOE02 and TOE03.
 pub enum Kind {
     Toe01,
     Toe02,
     Toe03,
+}
+
+// Kilowatts with three decimals, as watts.
+fn quantity(s: &[u8], m: Mark) -> Val
+    ensures { λ r. ⌜ Parsed (quantity .parse) (now (s .entry)) m (r .next) (r .value) ⌝ }
+{
+    let k = formats::number(s, m, 46, 999999999);
+    let a = k.next;
+    let Mark::At(_) = a else {
+        return Val {
+            value: 0,
+            next: Mark::No,
+        };
+    };
+    let f = formats::fixed(s, a, 3);
+    let b = f.next;
+    let Mark::At(_) = b else {
+        return Val {
+            value: 0,
+            next: Mark::No,
+        };
+    };
+    Val {
+        value: k.value * 1000 + f.value,
+        next: b,
+    }
+}
+
+// A mark where a test holds.
+fn kept(m: Mark, good: bool) -> Mark
+    ensures { λ r. ⌜ r ≡ keep good m ⌝ }
+{
+    if good { m } else { Mark::No }
+}
+
+// Whether an observation may stand behind those before it.
+fn in_order(position: u64, watts: u64, low: u64, last: u64) -> bool
+    ensures { λ r. ⌜ r ≡ inOrder low last (position, watts) ⌝ }
+{
+    if last < position {
+        return false;
+    }
+    if watts == 0 {
+        return false;
+    }
+    low <= position
+}
+
+// An observation that was read, and the place behind it.
+struct Seen {
+    position: u64,
+    watts: u64,
+    next: Mark,
+}
+
+// An observation from position `low` to `last`.
+fn observation(s: &[u8], m: Mark, low: u64, last: u64) -> Seen
+    requires { ⌜ Within (now s) m ⌝ }
+    ensures { λ r. ⌜ Parsed (observing last low) (now (s .entry)) m (r .next) (observed (r .position, r .watts)) ⌝ }
+{
+    let a = formats::tag(s, m, b"<Observation><Position>");
+    let p = formats::number(s, a, 60, 18446744073709551615);
+    let b = p.next;
+    let c = formats::tag(s, b, b"/Position><Quantity>");
+    let w = quantity(s, c);
+    let d = w.next;
+    let e = formats::tag(s, d, b"</Quantity></Observation>");
+    let good = in_order(p.value, w.value, low, last);
+    let next = kept(e, good);
+    Seen {
+        position: p.value,
+        watts: w.value,
+        next,
+    }
 }
