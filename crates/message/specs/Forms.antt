@@ -175,7 +175,7 @@ unfolding deliveries bytes strip begins
 apart-deliveries = apart-two (bytes "DeliveryUp") (bytes "DeliveryDown") (λ rest. refl)
 
 -- no month has more than 31 days
-days-most : (year month : ℕ) → monthLength year month ≤ 31
+pub days-most : (year month : ℕ) → monthLength year month ≤ 31
 unfolding monthLength
 days-most year zero = omega arith
 days-most year (suc m) = go (leb (suc m) 12) refl
@@ -184,9 +184,12 @@ days-most year (suc m) = go (leb (suc m) 12) refl
     go true e = month-length year (suc m) (omega arith) (leb-true (suc m) 12 e) .most
     go false e = omega (arith, no-month year (suc m) (leb-false (suc m) 12 e))
 
-pub position-fits : (year month : ℕ) → lastPosition year month ≤ most
+pub position-small : (year month : ℕ) → lastPosition year month ≤ 2976
 unfolding lastPosition
-position-fits year month = omega (arith, days-most year month)
+position-small year month = omega (arith, days-most year month)
+
+pub position-fits : (year month : ℕ) → lastPosition year month ≤ most
+position-fits year month = omega (arith, position-small year month)
 
 -- how many follow, at least one
 abbrev pub counted : Format ℕ

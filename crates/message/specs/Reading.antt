@@ -1,23 +1,27 @@
 -- What the readers of a file's parts go by.
-use mathlib.Core.Path.{_≡_, refl, sym}
+use mathlib.Core.Path.{_≡_, refl, sym, ap, _∙_}
 use mathlib.Core.Bool.{Bool, true, false, _&&_}
 use mathlib.Core.List.{List, _++_}
-use Prim.Native.Nat.{ℕ, _+_, _*_}
+use Prim.Native.Nat.{ℕ, _+_, _-_, _*_, _≤_, _<_}
 use lib.Dec.{leb}
 use lib.ListN.{drop}
+use native.Mathlib.Numerals.{add-one}
 use native.Mathlib.Omega.{arith}
-use Rattle.formats.specs.Format.{Res, Format}
-use Rattle.formats.specs.FormatLaws.{got-bad, sound-of}
+use Rattle.formats.specs.Format.{Res, got, bad, Format, ends}
+use Rattle.formats.specs.FormatLaws.{got-bad, sound-of, ends-bind}
 use Rattle.formats.specs.Combine.{strip, post, mapParse, onlyParse}
 use Rattle.formats.specs.Exactly.{fixedDigits}
 use Rattle.formats.specs.Numbers.{number}
-use Rattle.formats.specs.Run.{run-pre, run-post, run-seq, run-map, run-only, run-fail, run-none}
-use Rattle.formats.specs.Place.{Parsed}
+use Rattle.formats.specs.Items.{itemsParse, items-end, items-bad, ends-step}
+use Rattle.formats.specs.Rising.{fromLow, rise}
+use Rattle.formats.specs.Run.{Ran, ran-of, run-pre, run-post, run-seq, run-map, run-only, run-fail, run-none}
+use Rattle.formats.specs.Place.{placed, Within, Parsed}
 use Rattle.formats.specs.declared.Mark.{Mark}
 use Rattle.formats.specs.declared.Mark.the-variants.{At, No}
 use Rattle.message.specs.Contents.{Observation, position}
 use Rattle.message.specs.Bytes.{opening, ending, closing}
-use Rattle.message.specs.Forms.{plainNumber, quantity, observationBody, observable, observed}
+use Rattle.message.specs.Valid.{lastPosition}
+use Rattle.message.specs.Forms.{observation, observations, position-fits, plainNumber, quantity, observationBody, observable, observed}
 
 -- a mark where a test holds
 abbrev pub keep : Bool → Mark → Mark
@@ -78,3 +82,53 @@ observing-parsed last low s m e p h = go (observable last p) refl (leb low (p .0
     go true f true g = record { run = run-only (λ o. leb low (position o)) (run-map observed (run-only (observable last) (h .run) f)) g; within = h .within }
     go true f false g = record { run = run-fail (λ o. leb low (position o)) (run-map observed (run-only (observable last) (h .run) f)) g; within = tt }
     go false f l g = record { run = run-none (λ o. leb low (position o)) (run-map observed (run-fail (observable last) (h .run) f)); within = tt }
+
+-- ---- so many observations
+
+-- f, read in s at the mark m, ends at the mark r; the code doesn't hold what it says
+pub record Passed {A : Type 0} (f : List ℕ → Res A) (s : List ℕ) (m r : Mark) : Type 0 where
+  pub ran : Ran f (placed s m) (placed s r)
+  pub within : Within s r
+
+pub passed-end : {A : Type 0} (f : List ℕ → Res A) (none : A) (s : List ℕ) (p : ℕ) (r : Mark) → ends (f (drop p s)) ≡ placed s r → Within s r → Passed f s (At p) r
+passed-end f none s p r e w = record { ran = ran-of f none (drop p s) (placed s r) e; within = w }
+
+pub passed-no : {A : Type 0} (f : List ℕ → Res A) (none : A) (s : List ℕ) → Passed f s No No
+passed-no f none s = record { ran = record { value = none; ran = record { run = refl } }; within = tt }
+
+abbrev pub observationsOf : ℕ → ℕ → ℕ → List ℕ → Res (List Observation)
+observationsOf year month n = observations (lastPosition year month) (position-fits year month) n .parse
+
+module _ (year month : ℕ) where
+  abbrev item : ℕ × Unit {0} → Format Observation
+  item = fromLow (λ u. observation (lastPosition year month) (position-fits year month)) position (λ u o. u)
+
+  abbrev onto : ℕ × Unit {0} → Observation → ℕ × Unit {0}
+  onto = rise (λ u. observation (lastPosition year month) (position-fits year month)) position (λ u o. u)
+
+  -- where n observations from position low on end
+  unfoldable pub observationsEnd : ℕ → ℕ → List ℕ → Res (Unit {0})
+  observationsEnd n low s = ends (itemsParse item onto n (low, tt) s)
+
+  pub end-start : (n : ℕ) (s : List ℕ) → ends (observationsOf year month n s) ≡ observationsEnd n 1 s
+  unfolding observations observationsEnd mapParse
+  end-start n s = ends-bind (λ l. l) (itemsParse item onto n (1, tt) s)
+
+  module _ (n i low : ℕ) (s : List ℕ) where
+    pub end-last : n ≤ i → observationsEnd (n - i) low s ≡ got tt s
+    unfolding observationsEnd
+    end-last h = ap ends (items-end item onto n i (low, tt) s h)
+
+    pub end-bad : i < n → observing (lastPosition year month) low s ≡ bad → observationsEnd (n - i) low s ≡ bad
+    unfolding observationsEnd observation
+    end-bad h e = ap ends (items-bad item onto n i (low, tt) s h e)
+
+    pub end-step : (o : Observation) (r : List ℕ) → i < n → observing (lastPosition year month) low s ≡ got o r
+        → observationsEnd (n - i) low s ≡ observationsEnd (n - (i + 1)) (o .position + 1) r
+    unfolding observationsEnd observation
+    end-step o r h e = ends-step item onto n i (low, tt) s o r h e ∙ ap (λ (k : ℕ). ends (itemsParse item onto (n - (i + 1)) (k, tt) r)) (sym (add-one (o .position)))
+
+  -- what is read lies in the month
+  pub position-most : (low : ℕ) (s : List ℕ) (o : Observation) (r : List ℕ) → observing (lastPosition year month) low s ≡ got o r → o .position ≤ lastPosition year month
+  unfolding observation
+  position-most low s o r e = sound-of (item (low, tt)) s o r e .1 .0 .within

@@ -6,7 +6,8 @@ ghost use mathlib.Core.Bool.{cond};
 ghost use Prim.Native.Nat.{_≤_};
 ghost use Rattle.formats.specs.Place.{Within, Parsed};
 ghost use Rattle.message.specs.Forms.{quantity, observed};
-ghost use Rattle.message.specs.Reading.{observing, inOrder, keep};
+ghost use Rattle.message.specs.Valid.{lastPosition};
+ghost use Rattle.message.specs.Reading.{observing, inOrder, keep, Passed, observationsOf};
 
 // TOE01, TOE02 and TOE03.
 pub enum Kind {
@@ -87,4 +88,36 @@ fn observation(s: &[u8], m: Mark, low: u64, last: u64) -> Seen
         watts: w.value,
         next,
     }
+}
+
+// The last position of a month.
+fn last_position(year: u64, month: u64) -> u64
+    ensures { λ r. ⌜ r ≡ lastPosition year month ⌝ }
+{
+    96 * calendar::dates::month_length(year, month)
+}
+
+// n observations of a month.
+fn observations(s: &[u8], m: Mark, n: u64, year: u64, month: u64) -> Mark
+    requires { ⌜ Within (now s) m ⌝ }
+    ensures { λ r. ⌜ Passed (observationsOf year month n) (now (s .entry)) m r ⌝ }
+{
+    let Mark::At(start) = m else {
+        return Mark::No;
+    };
+    let last = last_position(year, month);
+    let mut at = start;
+    let mut low: u64 = 1;
+    let mut i: u64 = 0;
+    while i < n {
+        let o = observation(s, Mark::At(at), low, last);
+        let next = o.next;
+        let Mark::At(q) = next else {
+            return Mark::No;
+        };
+        at = q;
+        low = o.position + 1;
+        i += 1;
+    }
+    Mark::At(at)
 }
