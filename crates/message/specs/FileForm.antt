@@ -27,7 +27,7 @@ use Rattle.message.specs.declared.Kind.the-variants.{Toe01, Toe02, Toe03
 use Rattle.message.specs.Contents.{Partner, File, number}
 use Rattle.message.specs.Bytes.{opening, ending, closing, root, counter, partnerBytes, fileBytes}
 use Rattle.message.specs.Valid.{isReal, isMoment, periods, IsFile}
-use Rattle.message.specs.Forms.{plainNumber}
+use Rattle.message.specs.ObservationForm.{plainNumber}
 use Rattle.message.specs.PartnerForm.{partnerForm, partner-bytes}
 use Rattle.message.specs.Months.{nextMonths, months-to, months-from, years, one-month, month-one}
 

@@ -1,7 +1,9 @@
 pub mod Contents
 pub mod Bytes
 pub mod Valid
-pub mod Forms
+pub mod ObservationForm
+pub mod SeriesForm
+pub mod SeriesListForm
 pub mod PartnerForm
 pub mod Months
 pub mod FileForm

@@ -21,7 +21,8 @@ use Rattle.formats.specs.declared.Mark.the-variants.{At, No}
 use Rattle.message.specs.Contents.{Observation, position}
 use Rattle.message.specs.Bytes.{opening, ending, closing}
 use Rattle.message.specs.Valid.{lastPosition}
-use Rattle.message.specs.Forms.{observation, observations, position-fits, plainNumber, quantity, observationBody, observable, observed}
+use Rattle.message.specs.ObservationForm.{observation, observations, plainNumber, quantity, observationBody, observable, observed}
+use Rattle.message.specs.SeriesForm.{position-fits}
 
 -- a mark where a test holds
 abbrev pub keep : Bool → Mark → Mark

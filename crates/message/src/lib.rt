@@ -5,7 +5,7 @@ ghost use mathlib.Core.Path.{_≡_};
 ghost use mathlib.Core.Bool.{cond};
 ghost use Prim.Native.Nat.{_≤_};
 ghost use Rattle.formats.specs.Place.{Within, Parsed};
-ghost use Rattle.message.specs.Forms.{quantity, observed};
+ghost use Rattle.message.specs.ObservationForm.{quantity, observed};
 ghost use Rattle.message.specs.Valid.{lastPosition};
 ghost use Rattle.message.specs.Reading.{observing, inOrder, keep, Passed, observationsOf};
 

@@ -4,7 +4,7 @@ use Prim.Native.Nat.{ℕ, _*_}
 use native.Mathlib.Omega.{arith}
 use borrow.Author.Needs.{needs}
 use Rattle.message.specs.Valid.{lastPosition}
-use Rattle.message.specs.Forms.{days-most}
+use Rattle.message.specs.SeriesForm.{days-most}
 use Rattle.message.proofs.last_position.Statement.{statement}
 use Rattle.message.proofs.last_position.Tie as tie
 

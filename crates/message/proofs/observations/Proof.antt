@@ -6,7 +6,8 @@ use native.Mathlib.Nat.{sub-zero}
 use lib.ListN.{length, drop}
 use native.Mathlib.Omega.{arith}
 use borrow.Author.Needs.{needs}
-use Rattle.message.specs.Forms.{position-small, observed}
+use Rattle.message.specs.SeriesForm.{position-small}
+use Rattle.message.specs.ObservationForm.{observed}
 use Rattle.formats.specs.declared.Mark.the-variants.{At, No}
 use Rattle.message.specs.Reading.{observationsOf, observationsEnd, passed-end, passed-no, end-start, end-last, end-bad, end-step, position-most}
 use Rattle.message.proofs.observations.Statement.{statement}
