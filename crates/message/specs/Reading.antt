@@ -1,27 +1,32 @@
 -- What the readers of a file's parts go by.
-use mathlib.Core.Path.{_≡_, refl, sym, ap, _∙_}
+use mathlib.Core.Path.{_≡_, refl, sym, ap, _∙_, subst}
 use mathlib.Core.Bool.{Bool, true, false, _&&_}
-use mathlib.Core.List.{List, _++_}
+use mathlib.Core.List.{List, _++_, append-assoc}
 use Prim.Native.Nat.{ℕ, _+_, _-_, _*_, _≤_, _<_}
 use lib.Dec.{leb}
-use lib.ListN.{drop}
+use lib.ListN.{take, drop, length-drop}
+use lib.Seq.{take-all}
 use native.Mathlib.Numerals.{add-one}
 use native.Mathlib.Omega.{arith}
 use Rattle.formats.specs.Format.{Res, got, bad, Format, ends}
 use Rattle.formats.specs.FormatLaws.{got-bad, sound-of, ends-bind}
-use Rattle.formats.specs.Combine.{strip, post, mapParse, onlyParse}
+use Rattle.formats.specs.Combine.{preParse, postParse, seqParse, strip, post, mapParse, onlyParse}
 use Rattle.formats.specs.Exactly.{fixedDigits}
 use Rattle.formats.specs.Numbers.{number}
 use Rattle.formats.specs.Items.{itemsParse, items-end, items-bad, ends-step}
 use Rattle.formats.specs.Rising.{fromLow, rise}
-use Rattle.formats.specs.Run.{Ran, ran-of, run-pre, run-post, run-seq, run-map, run-only, run-fail, run-none}
+use Rattle.formats.specs.Run.{Run, run-tags, Ran, ran-of, run-pre, run-post, run-seq, run-map, run-only, run-fail, run-none}
 use Rattle.formats.specs.Place.{placed, Within, Parsed}
 use Rattle.formats.specs.declared.Mark.{Mark}
 use Rattle.formats.specs.declared.Mark.the-variants.{At, No}
+use Rattle.text.specs.Ascii.{bytes}
+use Rattle.moments.specs.declared.Moment.{Moment}
+use Rattle.moments.specs.Moments.{momentBytes, periodStart, periodEnd}
+use Rattle.moments.specs.MomentsLaws.{length-moment}
 use Rattle.message.specs.Contents.{Observation, position}
-use Rattle.message.specs.Bytes.{opening, ending, closing}
+use Rattle.message.specs.Bytes.{opening, ending, closing, element}
 use Rattle.message.specs.Valid.{lastPosition}
-use Rattle.message.specs.ObservationForm.{observation, observations, plainNumber, quantity, observationBody, observable, observed}
+use Rattle.message.specs.ObservationForm.{isPeriod, monthBody, behindMonth, period, observation, observations, plainNumber, quantity, observationBody, observable, observed}
 use Rattle.message.specs.SeriesForm.{position-fits}
 
 -- a mark where a test holds
@@ -133,3 +138,52 @@ module _ (year month : ℕ) where
   pub position-most : (low : ℕ) (s : List ℕ) (o : Observation) (r : List ℕ) → observing (lastPosition year month) low s ≡ got o r → o .position ≤ lastPosition year month
   unfolding observation
   position-most low s o r e = sound-of (item (low, tt)) s o r e .1 .0 .within
+
+-- ---- what stands behind a period's month
+
+behind-join : (t c o e d r : List ℕ) → t ++ (c ++ o) ++ e ++ (d ++ r) ≡ t ++ c ++ (o ++ e ++ d) ++ r
+behind-join t c o e d r = simp append-assoc
+
+module _ (s : List ℕ) {m a b c d : Mark} (year month : ℕ) where
+  pub behind-parsed : Parsed (strip (drop 7 (momentBytes (periodStart year month)))) s m a tt → Parsed (strip (closing "PeriodStart" ++ opening "PeriodEnd")) s a b tt
+      → Parsed (strip (momentBytes (periodEnd year month))) s b c tt → Parsed (strip (closing "PeriodEnd" ++ element "PeriodResolution" (bytes "PT15M"))) s c d tt
+      → Parsed (strip (behindMonth (year, month))) s m d tt
+  unfolding behindMonth
+  behind-parsed g h i j =
+      let t = drop 7 (momentBytes (periodStart year month)) in
+      let e = momentBytes (periodEnd year month) in
+      let two = closing "PeriodStart" ++ opening "PeriodEnd" in
+      let last = closing "PeriodEnd" ++ element "PeriodResolution" (bytes "PT15M") in
+      record {
+        run = subst (λ (l : List ℕ). Run (strip l) (placed s m) (placed s d) tt)
+            (behind-join t (closing "PeriodStart") (opening "PeriodEnd") e (closing "PeriodEnd") (element "PeriodResolution" (bytes "PT15M")))
+            (run-tags (t ++ two ++ e) last (run-tags (t ++ two) e (run-tags t two (g .run) (h .run)) (i .run)) (j .run));
+        within = j .within;
+      }
+
+-- the last 22 of a moment's bytes, as a part of them
+pub moment-part : (m : Moment) → take 22 (drop 7 (momentBytes m)) ≡ drop 7 (momentBytes m)
+moment-part m = take-all 22 (drop 7 (momentBytes m)) (omega (arith, length-drop 7 (momentBytes m), length-moment m))
+
+-- ---- a period
+
+module _ (s : List ℕ) {m a b c d : Mark} {year month : ℕ} where
+  month-parsed : Parsed (strip (opening "PeriodStart")) s m a tt → Parsed (fixedDigits 4 .parse) s a b year → Parsed (strip (bytes "-")) s b c tt → Parsed (fixedDigits 2 .parse) s c d month
+      → Run (preParse (opening "PeriodStart") (seqParse (postParse (fixedDigits 4 .parse) (λ y. bytes "-")) (λ y. fixedDigits 2 .parse))) (placed s m) (placed s d) (year, month)
+  month-parsed g h i j = run-pre (opening "PeriodStart") (g .run) (run-seq (λ y. fixedDigits 2 .parse) (run-post (λ y. bytes "-") (h .run) (i .run)) (j .run))
+
+  -- of a month that no period has
+  pub period-none : Parsed (strip (opening "PeriodStart")) s m a tt → Parsed (fixedDigits 4 .parse) s a b year → Parsed (strip (bytes "-")) s b c tt → Parsed (fixedDigits 2 .parse) s c d month
+      → isPeriod (year, month) ≡ false → Parsed (period .parse) s m No (year, month)
+  unfolding period monthBody
+  period-none g h i j e =
+      record {
+        run = run-map (λ q. q) (run-post behindMonth (run-fail isPeriod (month-parsed g h i j) e) (record { run = refl }));
+        within = tt;
+      }
+
+  pub period-parsed : {r : Mark} → Parsed (strip (opening "PeriodStart")) s m a tt → Parsed (fixedDigits 4 .parse) s a b year → Parsed (strip (bytes "-")) s b c tt → Parsed (fixedDigits 2 .parse) s c d month
+      → isPeriod (year, month) ≡ true → Parsed (strip (behindMonth (year, month))) s d r tt → Parsed (period .parse) s m r (year, month)
+  unfolding period monthBody
+  period-parsed g h i j e k =
+      record { run = run-map (λ q. q) (run-post behindMonth (run-only isPeriod (month-parsed g h i j) e) (k .run)); within = k .within }

@@ -5,8 +5,10 @@ ghost use mathlib.Core.Path.{_≡_};
 ghost use mathlib.Core.Bool.{cond};
 ghost use Prim.Native.Nat.{_≤_};
 ghost use Rattle.formats.specs.Place.{Within, Parsed};
-ghost use Rattle.message.specs.ObservationForm.{quantity, observed};
-ghost use Rattle.message.specs.Valid.{lastPosition};
+ghost use Rattle.message.specs.ObservationForm.{quantity, observed, isPeriod, behindMonth, period};
+ghost use Rattle.formats.specs.Combine.{strip};
+ghost use Rattle.moments.specs.Moments.{momentBytes};
+ghost use Rattle.message.specs.Valid.{lastPosition, IsPeriod};
 ghost use Rattle.message.specs.Reading.{observing, inOrder, keep, Passed, observationsOf};
 
 // TOE01, TOE02 and TOE03.
@@ -120,4 +122,79 @@ fn observations(s: &[u8], m: Mark, n: u64, year: u64, month: u64) -> Mark
         i += 1;
     }
     Mark::At(at)
+}
+
+// A moment's bytes.
+fn moment_text(m: moments::Moment) -> [u8; 29]
+    ensures { λ r. ⌜ r ≡ momentBytes m ⌝ }
+{
+    let mut t = [0u8; 29];
+    moments::write_moment(&mut t, 0, m);
+    t
+}
+
+// Whether a period may be of a month.
+fn is_period(year: u64, month: u64) -> bool
+    ensures { λ r. ⌜ r ≡ isPeriod (year, month) ⌝ }
+{
+    if year < 2018 {
+        return false;
+    }
+    if 2099 < year {
+        return false;
+    }
+    if month < 1 {
+        return false;
+    }
+    month <= 12
+}
+
+// What stands behind the year and month of a period.
+fn behind_month(s: &[u8], m: Mark, year: u64, month: u64) -> Mark
+    requires { ⌜ Within (now s) m × IsPeriod year month ⌝ }
+    ensures { λ r. ⌜ Parsed (strip (behindMonth (year, month))) (now (s .entry)) m r tt ⌝ }
+{
+    let start = moment_text(moments::period_start(year, month));
+    let end = moment_text(moments::period_end(year, month));
+    let a = formats::tag(s, m, &start[7..29]);
+    let b = formats::tag(s, a, b"</PeriodStart><PeriodEnd>");
+    let c = formats::tag(s, b, &end);
+    formats::tag(
+        s,
+        c,
+        b"</PeriodEnd><PeriodResolution>PT15M</PeriodResolution>",
+    )
+}
+
+// The month of a period, and the place behind it.
+struct Month {
+    year: u64,
+    month: u64,
+    next: Mark,
+}
+
+// A period of a whole month.
+fn period(s: &[u8], m: Mark) -> Month
+    requires { ⌜ Within (now s) m ⌝ }
+    ensures { λ r. ⌜ Parsed (period .parse) (now (s .entry)) m (r .next) (r .year, r .month) ⌝ }
+{
+    let a = formats::tag(s, m, b"<PeriodStart>");
+    let y = formats::fixed(s, a, 4);
+    let b = y.next;
+    let c = formats::tag(s, b, b"-");
+    let n = formats::fixed(s, c, 2);
+    let d = n.next;
+    if !is_period(y.value, n.value) {
+        return Month {
+            year: y.value,
+            month: n.value,
+            next: Mark::No,
+        };
+    }
+    let e = behind_month(s, d, y.value, n.value);
+    Month {
+        year: y.value,
+        month: n.value,
+        next: e,
+    }
 }
