@@ -3,7 +3,7 @@ use mathlib.Core.Path.{_≡_, refl, sym, ap, _∙_, subst}
 use mathlib.Core.Bool.{Bool, true, false, _&&_}
 use mathlib.Core.List.{List, _++_, append-assoc}
 use Prim.Native.Nat.{ℕ, _+_, _-_, _*_, _≤_, _<_}
-use lib.Dec.{leb}
+use lib.Dec.{leb, ltb}
 use lib.ListN.{take, drop, length-drop}
 use lib.Seq.{take-all}
 use native.Mathlib.Numerals.{add-one}
@@ -13,6 +13,7 @@ use Rattle.formats.specs.FormatLaws.{got-bad, sound-of, ends-bind}
 use Rattle.formats.specs.Combine.{preParse, postParse, seqParse, strip, post, mapParse, onlyParse}
 use Rattle.formats.specs.Exactly.{fixedDigits}
 use Rattle.formats.specs.Numbers.{number}
+use Rattle.formats.specs.Words.{wordsParse}
 use Rattle.formats.specs.Items.{itemsParse, items-end, items-bad, ends-step}
 use Rattle.formats.specs.Rising.{fromLow, rise}
 use Rattle.formats.specs.Run.{Run, run-tags, Ran, ran-of, run-pre, run-post, run-seq, run-map, run-only, run-fail, run-none}
@@ -24,15 +25,19 @@ use Rattle.moments.specs.declared.Moment.{Moment}
 use Rattle.moments.specs.Moments.{momentBytes, periodStart, periodEnd}
 use Rattle.moments.specs.MomentsLaws.{length-moment}
 use Rattle.message.specs.Contents.{Observation, position}
-use Rattle.message.specs.Bytes.{opening, ending, closing, element}
+use Rattle.message.specs.Bytes.{opening, ending, closing, element, deliveries}
 use Rattle.message.specs.Valid.{lastPosition}
 use Rattle.message.specs.ObservationForm.{isPeriod, monthBody, behindMonth, period, observation, observations, plainNumber, quantity, observationBody, observable, observed}
-use Rattle.message.specs.SeriesForm.{position-fits}
+use Rattle.message.specs.SeriesForm.{position-fits, counted, volumeBody}
 
 -- a mark where a test holds
 abbrev pub keep : Bool → Mark → Mark
 keep true m = m
 keep false m = No
+
+pub within-keep : (s : List ℕ) (t : Bool) (m : Mark) → Within s m → Within s (keep t m)
+within-keep s true m h = h
+within-keep s false m h = tt
 
 -- an observation of the month, from position low on
 abbrev pub inOrder : ℕ → ℕ → ℕ × ℕ → Bool
@@ -187,3 +192,36 @@ module _ (s : List ℕ) {m a b c d : Mark} {year month : ℕ} where
   unfolding period monthBody
   period-parsed g h i j e k =
       record { run = run-map (λ q. q) (run-post behindMonth (run-only isPeriod (month-parsed g h i j) e) (k .run)); within = k .within }
+
+-- ---- a time series
+
+-- a time series of a delivery direction and a month was read; its observations aren't held
+pub record VolumeRead (s : List ℕ) (m r : Mark) (delivery year month : ℕ) : Type 0 where
+  pub count : ℕ
+  pub observations : List Observation
+  pub parsed : Parsed (volumeBody .parse) s m r (delivery, (count, ((year, month), observations)))
+
+counted-parsed : (s : List ℕ) (m r : Mark) (n : ℕ) → Parsed (plainNumber .parse) s m r n → Parsed (counted .parse) s m (keep (ltb 0 n) r) n
+counted-parsed s m r n h = go (ltb 0 n) refl
+  where
+    go : (t : Bool) → ltb 0 n ≡ t → Parsed (counted .parse) s m (keep t r) n
+    go true e = record { run = run-only (λ k. ltb 0 k) (h .run) e; within = h .within }
+    go false e = record { run = run-fail (λ k. ltb 0 k) (h .run) e; within = tt }
+
+module _ (s : List ℕ) {m a b c d e f g h : Mark} {x n year month : ℕ} where
+  pub volume-read : Parsed (strip (opening "DeliveryDirection")) s m a tt → Parsed (wordsParse deliveries) s a b x
+      → Parsed (strip (closing "DeliveryDirection" ++ element "UnitType" (bytes "KWT") ++ opening "ObservationCounter")) s b c tt → Parsed (plainNumber .parse) s c d n
+      → Parsed (strip (ending "ObservationCounter" ++ opening "TimeSeriesPeriod")) s (keep (ltb 0 n) d) e tt → Parsed (period .parse) s e f (year, month)
+      → Passed (observationsOf year month n) s f g → Parsed (strip (closing "TimeSeriesPeriod")) s g h tt → VolumeRead s m h x year month
+  unfolding volumeBody
+  volume-read i j k l o p q r =
+      let one = counted-parsed s c d n l in
+      record {
+        count = n;
+        observations = q .ran .value;
+        parsed = record {
+          run = run-pre (opening "DeliveryDirection") (i .run)
+              (run-seq _ (run-post _ (j .run) (k .run)) (run-seq _ (run-post _ (one .run) (o .run)) (run-seq _ (p .run) (run-post _ (q .ran .ran) (r .run)))));
+          within = r .within;
+        };
+      }

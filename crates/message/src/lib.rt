@@ -9,7 +9,7 @@ ghost use Rattle.message.specs.ObservationForm.{quantity, observed, isPe
 ghost use Rattle.formats.specs.Combine.{strip};
 ghost use Rattle.moments.specs.Moments.{momentBytes};
 ghost use Rattle.message.specs.Valid.{lastPosition, IsPeriod};
-ghost use Rattle.message.specs.Reading.{observing, inOrder, keep, Passed, observationsOf};
+ghost use Rattle.message.specs.Reading.{observing, inOrder, keep, Passed, observationsOf, VolumeRead};
 
 // TOE01, TOE02 and TOE03.
 pub enum Kind {
@@ -196,5 +196,43 @@ fn period(s: &[u8], m: Mark) -> Month
         year: y.value,
         month: n.value,
         next: e,
+    }
+}
+
+// A time series that was read, and the place behind it.
+struct TimeSeries {
+    delivery: u64,
+    year: u64,
+    month: u64,
+    next: Mark,
+}
+
+// A time series from its delivery direction on.
+fn volume(s: &[u8], m: Mark) -> TimeSeries
+    requires { ⌜ Within (now s) m ⌝ }
+    ensures { λ r. ⌜ VolumeRead (now (s .entry)) m (r .next) (r .delivery) (r .year) (r .month) ⌝ }
+{
+    let a = formats::tag(s, m, b"<DeliveryDirection>");
+    let x = formats::word(s, a, b"DeliveryUp", b"DeliveryDown");
+    let b = x.next;
+    let c = formats::tag(
+        s,
+        b,
+        b"</DeliveryDirection><UnitType>KWT</UnitType><ObservationCounter>",
+    );
+    let n = formats::number(s, c, 60, 18446744073709551615);
+    let u = n.next;
+    let some = 0 < n.value;
+    let d = kept(u, some);
+    let e = formats::tag(s, d, b"/ObservationCounter><TimeSeriesPeriod>");
+    let q = period(s, e);
+    let f = q.next;
+    let g = observations(s, f, n.value, q.year, q.month);
+    let h = formats::tag(s, g, b"</TimeSeriesPeriod>");
+    TimeSeries {
+        delivery: x.value,
+        year: q.year,
+        month: q.month,
+        next: h,
     }
 }
