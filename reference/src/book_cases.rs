@@ -221,7 +221,7 @@ impl Cases {
     }
 
     fn clock_changes(&mut self) {
-        for year in [2018, 2024, 2032, 2099] {
+        for year in 2018..=2099 {
             for month in [3, 10] {
                 self.book(format!("{year}-{month:02}, L 1"), &Book::plain(year, month, 1, 1));
             }
@@ -232,11 +232,10 @@ impl Cases {
                 self.book(what, &Book::plain(2025, month, lead_days, 1));
             }
         }
-        // The last Sunday falls on each of 25 to 31 in these years.
-        for year in [2018, 2019, 2020, 2021, 2022, 2023, 2024, 2025, 2026, 2096, 2099] {
+        for year in 2018..=2099 {
             for (month, changing) in [(4, 3), (11, 10)] {
                 let reaching = 32 - last_sunday(year as i64, changing) as u8;
-                for lead_days in [reaching - 1, reaching, reaching + 1] {
+                for lead_days in [reaching - 1, reaching] {
                     if lead_days >= 1 {
                         let what = format!("{year}-{month:02}, L {lead_days}: the last Sunday is L {reaching}");
                         self.book(what, &Book::plain(year, month, lead_days, 1));

@@ -1,6 +1,6 @@
 -- Numbers in a row.
-use mathlib.Core.Path.{_≡_, refl, ap}
-use mathlib.Core.List.{List, [], _∷_}
+use mathlib.Core.Path.{_≡_, refl, ap, _∙_}
+use mathlib.Core.List.{List, [], _∷_, _++_, map}
 use Prim.Native.Nat.{ℕ, zero, suc, _+_, _<_}
 use native.Mathlib.Omega.{arith}
 use lib.ListN.{length, getD}
@@ -20,3 +20,18 @@ unfolding range
 getD-range a zero i d h = absurd (omega arith)
 getD-range a (suc n) zero d h = omega arith
 getD-range a (suc n) (suc i) d h = let e = getD-range (suc a) n i d (omega arith) in omega (arith, e)
+
+-- one number more
+pub range-more : (a n : ℕ) → range a (n + 1) ≡ range a n ++ ((a + n) ∷ [])
+unfolding range
+range-more a zero = let e : a + 0 ≡ a = omega arith in rw e
+range-more a (suc n) =
+    let s : suc n + 1 ≡ suc (n + 1) = omega arith in
+    let e : suc a + n ≡ a + suc n = omega arith in
+    rw s (ap (λ (l : List ℕ). a ∷ l) (range-more (suc a) n ∙ ap (λ (k : ℕ). range (suc a) n ++ (k ∷ [])) e))
+
+-- counted from another start
+pub range-shift : {A : Type 0} (f : ℕ → A) (a b n : ℕ) → map (λ k. f (a + k)) (range b n) ≡ map f (range (a + b) n)
+unfolding range
+range-shift f a b zero = refl
+range-shift f a b (suc n) = let e : a + suc b ≡ suc (a + b) = omega arith in ap (λ (l : List _). f (a + b) ∷ l) (range-shift f a (suc b) n ∙ ap (λ (c : ℕ). map f (range c n)) e)

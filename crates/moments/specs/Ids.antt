@@ -1,23 +1,11 @@
--- Transaction IDs (document 01, "The file"), and the law by which the code judges them.
-use mathlib.Core.Path.{_≡_, refl, _∙_}
-use mathlib.Core.Bool.{Bool, true, false, cond, _&&_}
-use mathlib.Core.List.{List, [], _∷_}
-use Prim.Native.Nat.{ℕ, suc}
-use lib.Dec.{eqb, eqb·zero-suc, eqb·suc-suc}
+-- Transaction IDs (document 01, "The file").
+use mathlib.Core.Bool.{Bool, _&&_}
+use mathlib.Core.List.{List}
+use Prim.Native.Nat.{ℕ}
 use lib.ListN.{length}
-use Rattle.formats.specs.Name.{nameByte, each, span}
+use Rattle.formats.specs.Name.{nameByte, each}
 use Rattle.moments.specs.Moments.{within}
 
 -- "Transaction ID: 1 to 36 of 0-9 A-Z a-z and hyphen"
 unfoldable pub isTransactionId : List ℕ → Bool
 isTransactionId s = within 1 (length s) 36 && each nameByte s
-
--- all bytes pass where none ends the run of those that do
-pub span-all : (test : ℕ → Bool) (s : List ℕ) → eqb (length (span test s)) (length s) ≡ each test s
-unfolding span each
-span-all test [] = refl
-span-all test (x ∷ s) = go (test x) (span-all test s)
-  where
-    go : (b : Bool) → eqb (length (span test s)) (length s) ≡ each test s → eqb (length (cond b (x ∷ span test s) [])) (suc (length s)) ≡ (b && each test s)
-    go true r = eqb·suc-suc (length (span test s)) (length s) ∙ r
-    go false r = eqb·zero-suc (length s)

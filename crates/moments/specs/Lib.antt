@@ -1,3 +1,4 @@
 pub mod Moments
 pub mod MomentsLaws
 pub mod Ids
+pub mod IdsLaws

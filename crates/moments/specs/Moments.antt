@@ -68,7 +68,8 @@ abbrev pub pickJudged : Bool → Judged → Judged
 pickJudged true r = r
 pickJudged false r = Malformed
 
--- bytes are a moment where what stands at the places is real and has these bytes
+-- bytes are a moment where what stands at the places is real and has these bytes: so they are the bytes of a real
+-- moment, and the bytes of each real moment are read as it (`judged-is`, `is-judged` of MomentsLaws)
 unfoldable pub momentOf : List ℕ → Judged
 momentOf s = pickJudged (eqb (length s) 29 && real (parts s) && begins (momentBytes (parts s)) s) (Real (parts s))
 

@@ -32,6 +32,7 @@ pub enum Judged {
     Malformed,
 }
 
+// Whether n lies from `low` to `high`, both taken in.
 fn is_within(low: u64, n: u64, high: u64) -> bool
     ensures { λ r. ⌜ r ≡ within low n high ⌝ }
 {
@@ -108,6 +109,7 @@ fn parts_of(s: &[u8]) -> Moment
     }
 }
 
+// 2021-08-02
 fn put_date(out: &mut [u8], at: usize, m: Moment) -> usize
     requires { ⌜ at + 10 ≤ length (now out) ⌝ }
     ensures { λ r. ⌜ Wrote (now (out .entry)) at (dateBytes m) (now (out .exit)) r ⌝ }
@@ -119,6 +121,7 @@ fn put_date(out: &mut [u8], at: usize, m: Moment) -> usize
     text::put_fixed(out, d, 2, m.day)
 }
 
+// T09:00:00
 fn put_time(out: &mut [u8], at: usize, m: Moment) -> usize
     requires { ⌜ at + 9 ≤ length (now out) ⌝ }
     ensures { λ r. ⌜ Wrote (now (out .entry)) at (timeBytes m) (now (out .exit)) r ⌝ }
@@ -131,7 +134,7 @@ fn put_time(out: &mut [u8], at: usize, m: Moment) -> usize
     text::put_fixed(out, e, 2, m.second)
 }
 
-// Milliseconds and offset.
+// .000+02:00
 fn put_tail(out: &mut [u8], at: usize, m: Moment) -> usize
     requires { ⌜ at + 10 ≤ length (now out) ⌝ }
     ensures { λ r. ⌜ Wrote (now (out .entry)) at (tailBytes m) (now (out .exit)) r ⌝ }

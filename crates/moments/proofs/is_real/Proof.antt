@@ -17,7 +17,9 @@ real-time-requires c κs = search needs
 
 returns-2 : tie.Need-returns-2
 unfolding real
-returns-2 c = rw (← c .before .before .before .real-date .ensures, not-false (c .before .before .before .real-date .result) (c .before .before .if1 .left), ← c .before .real-time .ensures, not-true (c .before .real-time .result) (c .if2 .taken))
+returns-2 c =
+    let date = c .before .before .before in
+    rw (← date .real-date .ensures, not-false (date .real-date .result) (c .before .before .if1 .left), ← c .before .real-time .ensures, not-true (c .before .real-time .result) (c .if2 .taken))
 
 is-within-requires : tie.Need-is-within-requires
 is-within-requires c κs = search needs
@@ -25,7 +27,9 @@ is-within-requires c κs = search needs
 returns-3 : tie.Need-returns-3
 unfolding real
 returns-3 c =
-    rw (← c .before .before .before .before .real-date .ensures, not-false (c .before .before .before .before .real-date .result) (c .before .before .before .if1 .left), ← c .before .before .real-time .ensures, not-false (c .before .before .real-time .result) (c .before .if2 .left))
+    let time = c .before .before in
+    let date = time .before .before in
+    rw (← date .real-date .ensures, not-false (date .real-date .result) (time .before .if1 .left), ← time .real-time .ensures, not-false (time .real-time .result) (c .before .if2 .left))
     (c .is-within .ensures)
 
 pub is-real-spec : {M : Type 1} → statement M

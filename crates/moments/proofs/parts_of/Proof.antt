@@ -31,7 +31,14 @@ value-at-requires-8 c κs = search needs
 returns : tie.Need-returns
 unfolding parts
 returns c =
-    rw (c .before .before .before .before .before .before .before .value-at .ensures, c .before .before .before .before .before .before .value-at2 .ensures, c .before .before .before .before .before .value-at3 .ensures, c .before .before .before .before .value-at4 .ensures, c .before .before .before .value-at5 .ensures, c .before .before .value-at6 .ensures, c .before .value-at7 .ensures, c .value-at8 .ensures)
+    let milli = c .before in
+    let second = milli .before in
+    let minute = second .before in
+    let hour = minute .before in
+    let day = hour .before in
+    let month = day .before in
+    let year = month .before in
+    rw (year .value-at .ensures, month .value-at2 .ensures, day .value-at3 .ensures, hour .value-at4 .ensures, minute .value-at5 .ensures, second .value-at6 .ensures, milli .value-at7 .ensures, c .value-at8 .ensures)
 
 pub parts-of-spec : {M : Type 1} → statement M
 parts-of-spec =

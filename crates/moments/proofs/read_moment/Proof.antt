@@ -21,9 +21,11 @@ is-real-requires c κs = search needs
 
 returns-2 : tie.Need-returns-2
 returns-2 c =
+    let tested = c .before in
+    let read = tested .before in
     sym
-    (not-real (now (c .before .before .before .before .before .args .s)) (c .before .before .before .if1 .left)
-    (rw (← c .before .before .parts-of .ensures, ← c .before .is-real .ensures) (not-true (c .before .is-real .result) (c .if2 .taken))))
+    (not-real (now (read .before .before .before .args .s)) (read .before .if1 .left)
+    (rw (← read .parts-of .ensures, ← tested .is-real .ensures) (not-true (tested .is-real .result) (c .if2 .taken))))
 
 slice-aggregate-write-moment : tie.Need-slice-aggregate-write-moment
 slice-aggregate-write-moment c = search needs
@@ -41,9 +43,10 @@ matches-requires c κs = search needs
 judged : (c : tie.After-matches) → momentOf (now (c .before .before .before .before .before .before .before .before .before .before .args .s)) ≡ pickJudged (c .matches .result) (Real (c .before .before .before .before .before .before .before .parts-of .result))
 judged c =
     let written = c .before .before .before in
-    let read = c .before .before .before .before .before .before .before in
+    let tested = written .before .before .before in
+    let read = tested .before in
     let s = now (read .before .before .before .args .s) in
-    let is-real : real (parts s) ≡ true = rw (← read .parts-of .ensures, ← c .before .before .before .before .before .before .is-real .ensures) (not-false (c .before .before .before .before .before .before .is-real .result) (c .before .before .before .before .before .if2 .left)) in
+    let is-real : real (parts s) ≡ true = rw (← read .parts-of .ensures, ← tested .is-real .ensures) (not-false (tested .is-real .result) (written .before .before .if2 .left)) in
     rw (c .matches .ensures, written .write-moment .ensures .list, form-is _ (read .parts-of .result) refl, read .parts-of .ensures)
     (by-form s (read .before .if1 .left) is-real)
 

@@ -4,7 +4,8 @@ use denote.Ref.{now}
 use lib.ListN.{length}
 use borrow.Author.Tests.{le-leb, lt-leb}
 use Rattle.formats.specs.Name.{nameByte}
-use Rattle.moments.specs.Ids.{isTransactionId, span-all}
+use Rattle.moments.specs.Ids.{isTransactionId}
+use Rattle.moments.specs.IdsLaws.{span-all}
 use borrow.Author.Needs.{needs}
 use Rattle.moments.proofs.ids.transaction_id.Statement.{statement}
 use Rattle.moments.proofs.ids.transaction_id.Tie as tie

@@ -1,0 +1,63 @@
+-- What the judging of an engagement finds is what the definitions say.
+use mathlib.Core.Path.{_≡_, refl, sym, ap, ap₂, _∙_}
+use mathlib.Core.Bool.{Bool, true, false, cond, _&&_}
+use mathlib.Core.List.{List, [], _∷_, _++_, map}
+use mathlib.Core.Option.{Option, none, some}
+use Prim.Native.Nat.{ℕ, _+_, _*_, _≤_, _<_, min}
+use native.Mathlib.Omega.{arith}
+use lib.Dec.{ltb}
+use lib.ListN.{length, take, length-take}
+use Rattle.wire.specs.declared.Reading.{Reading}
+use Rattle.book.specs.declared.Calendar.{Calendar}
+use Rattle.book.specs.declared.Engagement.{Engagement}
+use Rattle.book.specs.declared.Point.{Point}
+use Rattle.book.specs.declared.Method.{Method}
+use Rattle.book.specs.declared.Method.the-variants.{LastQuarter, HighXOfY, Adjusted}
+use Rattle.book.specs.Calendars.{dayStart, quartersOf}
+use Rattle.book.specs.Book.{Book}
+use Rattle.volumes.specs.Quarters.{start, quarterHours}
+use Rattle.volumes.specs.Baseline.{pointOf, complete, readingBefore, lastReading, ownReading, ownWindow, eligibleDays, yOf, latest}
+use Rattle.volumes.specs.BaselineLaws.{complete-append}
+use Rattle.volumes.specs.DaysLaws.{few-latest}
+use Rattle.volumes.specs.Settlement.{neededBy, needed, tooFew, refusalNumber}
+use Rattle.baseline.specs.Tally.{inRow}
+use Rattle.baseline.specs.Shown.{Shows, beforeIn, windowIn}
+use Rattle.baseline.specs.ShownLaws.{own-row, before-at, start-at, own-window}
+use Rattle.baseline.specs.Needs.{neededIn, looksBack}
+
+module _ {c : Calendar} {calendar readings : List ℕ} {point : Point} {e : Engagement} {book : Book} (s : Shows c calendar readings point e book) where
+  needed-by : (method : Method) → neededBy method book e ≡ neededIn method readings (quartersOf c * e .point) (dayStart c (e .day) + e .first) (e .notice)
+  unfolding neededBy neededIn lastReading
+  needed-by LastQuarter = ap (λ (r : Reading). r ∷ []) (before-at s (start (book .calendar) e) (e .notice + 1) ∙ ap (λ (q : ℕ). beforeIn readings (quartersOf c * e .point) q (e .notice + 1)) (start-at s))
+  needed-by HighXOfY = refl
+  needed-by Adjusted = own-window s
+
+  pub needed-is : complete (needed book e) ≡ (complete (inRow readings (quartersOf c * e .point + (dayStart c (e .day) + e .first)) (e .count)) && complete (neededIn (point .method) readings (quartersOf c * e .point) (dayStart c (e .day) + e .first) (e .notice)))
+  unfolding needed
+  needed-is =
+      complete-append (map (ownReading book e) (quarterHours e)) (neededBy (pointOf book e .method) book e)
+      ∙ ap₂ _&&_ (ap complete (own-row s)) (ap complete (needed-by (pointOf book e .method) ∙ ap (λ (p : Point). neededIn (p .method) readings (quartersOf c * e .point) (dayStart c (e .day) + e .first) (e .notice)) (s .owner)))
+
+  -- 8
+  pub lacks-reading : complete (needed book e) ≡ false → some 8 ≡ refusalNumber book e
+  unfolding refusalNumber
+  lacks-reading h = rw h
+
+  -- method 0 looks at no days
+  few-of : (m : Method) (t : Bool) → looksBack m ≡ t → (y n : ℕ) → tooFew m y n ≡ (t && ltb n y)
+  unfolding looksBack tooFew
+  few-of LastQuarter true h y n = let z : _≡_ {A = ℕ} 0 1 = cc in absurd (omega arith)
+  few-of LastQuarter false h y n = refl
+  few-of HighXOfY true h y n = refl
+  few-of HighXOfY false h y n = let z : _≡_ {A = ℕ} 0 1 = cc in absurd (omega arith)
+  few-of Adjusted true h y n = refl
+  few-of Adjusted false h y n = let z : _≡_ {A = ℕ} 0 1 = cc in absurd (omega arith)
+
+  pub no-days : complete (needed book e) ≡ true → looksBack (point .method) ≡ false → none ≡ refusalNumber book e
+  unfolding refusalNumber
+  no-days h m = rw (h, few-of (pointOf book e .method) false (ap (λ (p : Point). looksBack (p .method)) (s .owner) ∙ m) (yOf book e) (length (eligibleDays book e)))
+
+  -- 9 where the latest eligible days are fewer than Y
+  pub days-found : complete (needed book e) ≡ true → looksBack (point .method) ≡ true → (t : Bool) → ltb (length (latest book e)) (yOf book e) ≡ t → cond t (some 9) none ≡ refusalNumber book e
+  unfolding refusalNumber
+  days-found h m t f = rw (h, few-of (pointOf book e .method) true (ap (λ (p : Point). looksBack (p .method)) (s .owner) ∙ m) (yOf book e) (length (eligibleDays book e)), few-latest book e, f)

@@ -1,0 +1,118 @@
+// Refusals 8 and 9 of an engagement.
+use book::Calendar;
+use book::Engagement;
+use book::Method;
+use book::Point;
+ghost use mathlib.Core.Path.{_≡_};
+ghost use Prim.Native.Nat.{_+_, _*_, _≤_, _<_};
+ghost use lib.ListN.{length};
+ghost use Rattle.book.specs.Book.{Book};
+ghost use Rattle.book.specs.Calendars.{dayStart, quartersOf, Ranged};
+ghost use Rattle.volumes.specs.Baseline.{known, complete, yOf};
+ghost use Rattle.volumes.specs.Settlement.{needed, refusalNumber};
+ghost use Rattle.baseline.specs.Shown.{Shows, Fits, beforeIn};
+ghost use Rattle.baseline.specs.Needs.{neededIn, looksBack, numberOf};
+
+// What an engagement lacks.
+pub enum Lack {
+    Nothing,
+    Reading,
+    Days,
+}
+
+// Where the readings of the engagement's point start.
+pub fn base_of(c: Calendar, e: Engagement) -> usize
+    requires { ⌜ Ranged c × (e .point < 256) ⌝ }
+    ensures { λ r. ⌜ r ≡ quartersOf c * e .point ⌝ }
+{
+    (book::header::quarters_of(c) as usize) * (e.point as usize)
+}
+
+// The quarter-hour of the calendar with which the engagement starts.
+pub fn start_of(c: Calendar, e: Engagement) -> usize
+    requires { ⌜ e .day < 64 ⌝ }
+    ensures { λ r. ⌜ r ≡ dayStart c (e .day) + e .first ⌝ }
+{
+    let day = e.day as u64;
+    (book::header::day_start(c, day) + (e.first as u64)) as usize
+}
+
+// The reading n quarter-hours before quarter-hour q is there.
+fn known_before(readings: &[u8], base: usize, q: usize, n: usize) -> bool
+    requires { ⌜ (base ≤ 2000000) × (q ≤ 6144) × (1 ≤ n) × (4 * (base + q) ≤ length (now readings)) ⌝ }
+    ensures { λ r. ⌜ r ≡ known (beforeIn (now (readings .entry)) base q n) ⌝ }
+{
+    if q < n {
+        return false;
+    }
+    wire::raised_at(readings, base + (q - n)) != 0
+}
+
+// The readings that the method needs besides those of the engagement's quarter-hours are there.
+fn method_whole(readings: &[u8], base: usize, q: usize, notice: usize, method: Method) -> bool
+    requires { ⌜ (base ≤ 2000000) × (q ≤ 6144) × (notice ≤ 96) × (4 * (base + q) ≤ length (now readings)) ⌝ }
+    ensures { λ r. ⌜ r ≡ complete (neededIn method (now (readings .entry)) base q notice) ⌝ }
+{
+    match method {
+        Method::LastQuarter => known_before(readings, base, q, notice + 1),
+        Method::HighXOfY => true,
+        Method::Adjusted => crate::days::window(readings, base, q).whole,
+    }
+}
+
+// The readings of A that the engagement needs are there.
+fn readings_whole(
+    c: Calendar,
+    calendar: &[u8],
+    readings: &[u8],
+    point: Point,
+    e: Engagement,
+) -> bool
+    requires { ⌜ Fits c (now calendar) (now readings) e ⌝ }
+    ensures { λ r. ⌜ ((b : Book) → Shows c (now (calendar .entry)) (now (readings .entry)) point e b → r ≡ complete (needed b e)) ⌝ }
+{
+    let base = base_of(c, e);
+    let q = start_of(c, e);
+    let method = point.method;
+    let own = crate::tally::tally_row(readings, base + q, e.count as usize);
+    let whole = own.whole;
+    whole & method_whole(readings, base, q, e.notice as usize, method)
+}
+
+// Whether the method looks at reference days.
+fn looks_back(method: Method) -> bool
+    ensures { λ r. ⌜ r ≡ looksBack method ⌝ }
+{
+    match method {
+        Method::LastQuarter => false,
+        Method::HighXOfY => true,
+        Method::Adjusted => true,
+    }
+}
+
+// What the engagement lacks, where y eligible days are wanted: 8 before 9.
+pub fn judge_engagement(
+    c: Calendar,
+    calendar: &[u8],
+    readings: &[u8],
+    point: Point,
+    e: Engagement,
+    y: usize,
+) -> Lack
+    requires { ⌜ Fits c (now calendar) (now readings) e × (y ≤ 20) ⌝ }
+    ensures { λ r. ⌜ ((b : Book) → Shows c (now (calendar .entry)) (now (readings .entry)) point e b → y ≡ yOf b e → numberOf r ≡ refusalNumber b e) ⌝ }
+{
+    if !readings_whole(c, calendar, readings, point, e) {
+        return Lack::Reading;
+    }
+    let method = point.method;
+    if !looks_back(method) {
+        return Lack::Nothing;
+    }
+    let mut keys = [0u64; 20];
+    let found = crate::ranking::rank_days(c, calendar, readings, point, e, y, &mut keys);
+    if found < y {
+        return Lack::Days;
+    }
+    Lack::Nothing
+}

@@ -1,0 +1,79 @@
+// A short list that falls: each number in its place among those before it.
+use crate::tally::Tally;
+use book::Calendar;
+use book::Engagement;
+use book::Point;
+ghost use mathlib.Core.Path.{_≡_};
+ghost use Prim.Native.Nat.{_+_, _≤_, _<_, max, min};
+ghost use lib.ListN.{length, take};
+ghost use Rattle.book.specs.Book.{Book};
+ghost use Rattle.baseline.specs.Ranking.{inserted};
+ghost use Rattle.baseline.specs.Ranks.{Considered, RankedTo};
+ghost use Rattle.baseline.specs.Shown.{Shows, Fits};
+
+fn larger(a: u64, b: u64) -> u64
+    ensures { λ r. ⌜ r ≡ max a b ⌝ }
+{
+    if a < b { b } else { a }
+}
+
+fn smaller(a: u64, b: u64) -> u64
+    ensures { λ r. ⌜ r ≡ min a b ⌝ }
+{
+    if a < b { a } else { b }
+}
+
+// Puts a key into the first n of the keys, which then are one more.
+pub fn insert(keys: &mut [u64], n: usize, key: u64)
+    requires { ⌜ n < length (now keys) ⌝ }
+    ensures { λ r. ⌜ take (n + 1) (now (keys .exit)) ≡ inserted key (take n (now (keys .entry))) ⌝ }
+{
+    let mut carried = key;
+    let mut i = 0;
+    while i < n {
+        let k = keys[i];
+        keys[i] = larger(k, carried);
+        carried = smaller(k, carried);
+        i += 1;
+    }
+    keys[n] = carried;
+}
+
+// A whole day goes into its place among the n keys; answers how many there are then.
+fn consider(keys: &mut [u64], n: usize, t: Tally, day: usize) -> usize
+    requires { ⌜ (n < length (now keys)) × (t .sum ≤ 412316860320) × (day < 64) ⌝ }
+    ensures { λ r. ⌜ Considered (now (keys .entry)) (now (keys .exit)) n t day r ⌝ }
+{
+    let whole = t.whole;
+    if whole {
+        insert(keys, n, t.sum * 64 + (day as u64));
+        return n + 1;
+    }
+    n
+}
+
+// Ranks the y latest eligible days before the engagement's; answers how many there are.
+pub fn rank_days(
+    c: Calendar,
+    calendar: &[u8],
+    readings: &[u8],
+    point: Point,
+    e: Engagement,
+    y: usize,
+    keys: &mut [u64],
+) -> usize
+    requires { ⌜ Fits c (now calendar) (now readings) e × (y ≤ length (now keys)) ⌝ }
+    ensures { λ r. ⌜ ((b : Book) → Shows c (now (calendar .entry)) (now (readings .entry)) point e b → RankedTo b e y (now (keys .exit)) r) ⌝ }
+{
+    let mut day = e.day as usize;
+    let mut found = 0;
+    while found < y {
+        if day == 0 {
+            return found;
+        }
+        day -= 1;
+        let t = crate::days::reference_day(c, calendar, readings, point, e, day);
+        found = consider(keys, found, t, day);
+    }
+    found
+}

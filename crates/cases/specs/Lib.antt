@@ -1,0 +1,4 @@
+pub mod Words
+pub mod WordsLaws
+pub mod Sparse
+pub mod SparseLaws

@@ -1,0 +1,124 @@
+-- The volume is the one delivered in the point's direction; the four numbers are stored in their order, one behind the other.
+use native.Mathlib.Omega.{arith}
+use borrow.Author.Needs.{needs}
+use mathlib.Core.Path.{_≡_, sym, ap, _∙_}
+use lib.IntN.{pos, _-ℤ_, +ℤ-idr}
+use lib.ListN.{length-set}
+use mir.Syntax.{w64}
+use mir.Val.{toZ, ofZ}
+use Rattle.grains.specs.Grains.{grains, grainsZ}
+use Rattle.volumes.specs.Settlement.{limited, deliveredBy, signed}
+use Rattle.settlement.specs.Raised.{baselineOf, wattsOf}
+use Rattle.settlement.specs.Rows.{rowFrom}
+use Rattle.settlement.specs.RowsLaws.{delivered-by}
+use Rattle.settlement.specs.StoresLaws.{four-sets}
+use Rattle.settlement.proofs.rows.write_row.Statement.{statement}
+use Rattle.settlement.proofs.rows.write_row.Tie as tie
+
+largest-requires : tie.Need-largest-requires
+largest-requires c κs = search needs
+
+delivered-requires : tie.Need-delivered-requires
+delivered-requires c κs = search needs
+
+from-watts-requires : tie.Need-from-watts-requires
+from-watts-requires c κs = search needs
+
+baseline-of-requires : tie.Need-baseline-of-requires
+baseline-of-requires c κs = search needs
+
+mul-out : tie.Need-mul-out
+mul-out c = search needs
+
+slice-set-from-out : tie.Need-slice-set-from-out
+slice-set-from-out c = search needs
+
+difference-requires : tie.Need-difference-requires
+difference-requires c κs = search needs
+
+add-out : tie.Need-add-out
+add-out c = search needs
+
+mul-out-2 : tie.Need-mul-out-2
+mul-out-2 c = search needs
+
+slice-set-from-out-2 : tie.Need-slice-set-from-out-2
+slice-set-from-out-2 c = simp length-set (omega arith)
+
+correction-requires : tie.Need-correction-requires
+correction-requires c κs = search needs
+
+add-out-2 : tie.Need-add-out-2
+add-out-2 c = search needs
+
+mul-out-3 : tie.Need-mul-out-3
+mul-out-3 c = search needs
+
+slice-set-from-out-3 : tie.Need-slice-set-from-out-3
+slice-set-from-out-3 c = simp length-set (omega arith)
+
+correction-requires-2 : tie.Need-correction-requires-2
+correction-requires-2 c κs = search needs
+
+add-t13 : tie.Need-add-t13
+add-t13 c = search needs
+
+mul-t15 : tie.Need-mul-t15
+mul-t15 c = search needs
+
+slice-set-from-out-4 : tie.Need-slice-set-from-out-4
+slice-set-from-out-4 c = simp length-set (omega arith)
+
+same-length : tie.Need-same-length
+same-length c = search needs
+
+-- the volume is the one delivered by the point's direction
+volume-is : (c : tie.After-delivered) → c .delivered .result ≡ deliveredBy (c .before .before .args .direction) (c .before .before .args .point) (baselineOf (c .before .before .args .base)) (grainsZ (wattsOf (c .before .before .args .raised)))
+volume-is c =
+    let a = c .before .before .args in
+    let z = baselineOf (a .base) in
+    let r = grainsZ (wattsOf (a .raised)) in
+    c .delivered .ensures .0
+    ∙ ap (limited (signed (a .direction) (z -ℤ r))) (c .before .largest .ensures)
+    ∙ sym (delivered-by (a .direction) (a .point) z r)
+
+returns : tie.Need-returns
+unfolding rowFrom
+returns c =
+    let d = c .before .before .before .before .before in
+    let a = d .before .before .args in
+    let volume = d .delivered .result in
+    let base = c .before .before .before .baseline-of in
+    let whole = c .before .before .difference in
+    let source = c .before .correction in
+    let fsp = c .correction2 in
+    let one : toZ w64 (ofZ w64 (base .result)) ≡ baselineOf (a .base) = (search needs) ∙ base .ensures in
+    let two : toZ w64 (ofZ w64 (whole .result)) ≡ pos volume = (search needs) ∙ whole .ensures ∙ +ℤ-idr (pos volume) in
+    let three : toZ w64 (ofZ w64 (source .result)) ≡ signed (a .direction) (pos volume) = (search needs) ∙ source .ensures ∙ ap (signed (a .direction)) (+ℤ-idr (pos volume)) in
+    let four : toZ w64 (ofZ w64 (fsp .result)) ≡ signed (a .direction) (pos (grains (a .requested)) -ℤ pos volume) = (search needs) ∙ fsp .ensures ∙ ap (λ n. signed (a .direction) (pos n -ℤ pos volume)) (c .before .before .before .before .from-watts .ensures) in
+    rw (one, two, three, four, ← volume-is d) (four-sets (a .out .now) (a .at) _ _ _ _)
+
+pub write-row-spec : {M : Type 1} → statement M
+write-row-spec =
+    tie.close
+    (tie.spec
+    largest-requires
+    delivered-requires
+    from-watts-requires
+    baseline-of-requires
+    mul-out
+    slice-set-from-out
+    difference-requires
+    add-out
+    mul-out-2
+    slice-set-from-out-2
+    correction-requires
+    add-out-2
+    mul-out-3
+    slice-set-from-out-3
+    correction-requires-2
+    add-t13
+    mul-t15
+    slice-set-from-out-4
+    same-length
+    returns)

@@ -1,0 +1,83 @@
+-- A book's rows are those made of its baselines and its readings.
+use mathlib.Core.Path.{_≡_, refl, sym, ap, _∙_}
+use mathlib.Core.Bool.{true}
+use mathlib.Core.List.{List, map}
+use Prim.Native.Nat.{ℕ, _+_, _*_, _<_, min}
+use native.Mathlib.Nat.{add-assoc}
+use native.Mathlib.Omega.{arith}
+use lib.IntN.{ℤ, pos, negsuc, negℤ, _-ℤ_}
+use lib.ListN.{length, getD}
+use Rattle.integers.specs.Ranges.{range}
+use Rattle.integers.specs.Z.{up, Over, eqZ, neg, dif}
+use Rattle.wire.specs.Readings.{readingAt}
+use Rattle.grains.specs.Grains.{grains}
+use Rattle.book.specs.declared.Direction.{Direction}
+use Rattle.book.specs.declared.Direction.the-variants.{Up, Down}
+use Rattle.book.specs.declared.Point.{Point}
+use Rattle.book.specs.declared.Engagement.{Engagement}
+use Rattle.book.specs.Calendars.{quartersOf}
+use Rattle.book.specs.Header.{calendarOf, readingSection}
+use Rattle.book.specs.Book.{Book, bookOf}
+use Rattle.volumes.specs.Quarters.{quarterHours, start}
+use Rattle.volumes.specs.QuartersLaws.{map-range-cong}
+use Rattle.volumes.specs.Baseline.{pointOf, watts, complete, ownReading, baseline}
+use Rattle.volumes.specs.BaselineLaws.{complete-append}
+use Rattle.volumes.specs.Settlement.{neededBy, needed, requestedAt, limited, deliveredBy, delivered, signed, sourceCorrection, fspCorrection, corrections, rowWidth, row, rowsOf}
+use Rattle.volumes.specs.SettlementLaws.{Settles}
+use Rattle.settlement.specs.Raised.{bias}
+use Rattle.settlement.specs.RaisedLaws.{is-base, both}
+use Rattle.settlement.specs.Rows.{rowFrom, firstReading, readingsFrom, rowAt, rowsFrom, largest}
+use Rattle.settlement.specs.StoresLaws.{flatMap-range-cong}
+
+pub row-from : (book : Book) (e : Engagement) (k : ℕ) → row book e k ≡ rowFrom (e .direction) (pointOf book e) (requestedAt e k) (baseline book e k) (watts (ownReading book e k))
+unfolding row corrections sourceCorrection fspCorrection delivered rowFrom
+row-from book e k = refl
+
+pub from-length : (direction : Direction) (point : Point) (requested : ℕ) (base read : ℤ) → length (rowFrom direction point requested base read) ≡ rowWidth
+unfolding rowFrom
+from-length direction point requested base read = refl
+
+-- where the raised baselines are the book's, and the readings
+pub rows-from : (book : Book) (e : Engagement) (bases readings : List ℕ) (first : ℕ)
+    → ((k : ℕ) → k < e .count → Over bias (baseline book e k) (getD bases k 0))
+    → ((k : ℕ) → k < e .count → readingAt readings (first + k) ≡ ownReading book e k)
+    → rowsFrom e (pointOf book e) bases readings first ≡ rowsOf book e
+unfolding rowsFrom rowsOf quarterHours requestedAt
+rows-from book e bases readings first b w =
+    flatMap-range-cong
+    (rowAt (e .direction) (pointOf book e) (e .requested) bases readings first)
+    (row book e)
+    0
+    (e .count)
+    (λ k _ h. let i : k < e .count = omega arith in rw (w k i, ← is-base (b k i)) (sym (row-from book e k)))
+
+-- the readings of a book's bytes are its own, and none is missing where the engagement is not refused
+pub own-reading : (bytes : List ℕ) (e : Engagement) (k : ℕ) → readingAt (readingSection bytes) (firstReading (calendarOf bytes) e + k) ≡ ownReading (bookOf bytes) e k
+unfolding ownReading bookOf
+own-reading bytes e k =
+    ap (readingAt (readingSection bytes)) (add-assoc (quartersOf (calendarOf bytes) * e .point) (start (calendarOf bytes) e) k)
+
+pub own-complete : (bytes : List ℕ) (e : Engagement) → Settles (bookOf bytes) e → complete (readingsFrom e (readingSection bytes) (firstReading (calendarOf bytes) e)) ≡ true
+unfolding needed quarterHours
+own-complete bytes e h =
+    let book = bookOf bytes in
+    let own = map (ownReading book e) (range 0 (e .count)) in
+    let other = neededBy (pointOf book e .method) book e in
+    ap complete (map-range-cong (λ k. readingAt (readingSection bytes) (firstReading (calendarOf bytes) e + k)) (ownReading book e) 0 (e .count) (λ k _ _. own-reading bytes e k))
+    ∙ both (complete own) (complete other) (sym (complete-append own other) ∙ h .known) .0
+
+-- a difference negated is the one of the two turned round
+pub turned : (a b : ℤ) → negℤ (a -ℤ b) ≡ b -ℤ a
+turned a b = eqZ (negℤ (a -ℤ b)) (b -ℤ a) (omega (arith, neg (a -ℤ b), dif a b, dif b a))
+
+-- the delivered volume is one difference, negated downward and limited to the direction's largest watts
+pub delivered-by : (direction : Direction) (point : Point) (base read : ℤ) → deliveredBy direction point base read ≡ limited (signed direction (base -ℤ read)) (largest direction point)
+unfolding deliveredBy signed largest
+delivered-by Up point base read = refl
+delivered-by Down point base read = rw turned
+
+-- limited in ℕ
+pub limited-is : (z : ℤ) (most : ℕ) → limited z most ≡ min (up z) (grains most)
+unfolding limited
+limited-is (pos n) most = refl
+limited-is (negsuc n) most = omega arith

@@ -1,0 +1,62 @@
+-- The examples hold: each side computes to the other.
+use mathlib.Core.Path.{refl}
+use mathlib.Core.List.{flatMap, zip, zipWith}
+use Rattle.integers.specs.Ranges.{range}
+use Rattle.integers.specs.Sums.{sumBy}
+use Rattle.integers.specs.Running.{upTo, floorAt}
+use Rattle.book.specs.Calendars.{quarters, dayStart}
+use Rattle.volumes.specs.Quarters.{quarterHours, start, referenceQuarter, reference, position}
+use Rattle.volumes.specs.Ranking.{insert, ranked}
+use Rattle.volumes.specs.Baseline.{pointOf, watts, known, complete, mean, readingBefore, window, ownReading, dayReading, dayReadings, ownWindow, dayWindow, windowed, eligible, before, keep, eligibleDays, latest, daySum, taken, high, addend, lastReading, baselineBy, baseline}
+use Rattle.volumes.specs.Settlement.{neededBy, needed, tooFew, refusalNumber, rowRefusal, refusalFrom, settlementRefusal, requestedAt, limited, deliveredBy, delivered, signed, sourceCorrection, fspCorrection, corrections, row, rowsOf, rows}
+use Rattle.volumes.specs.Sheets.{covers, quarterAt, partiesOf, shareOf, correctionAt, sheetAt, requestedBy, requestedVolume}
+use Rattle.volumes.specs.Series.{takes, receiverOf, partnerOf, sameSupply, sameDirection, isPoint, isEngagement, grainsOf, grainsAt, seriesWatts}
+use Rattle.volumes.specs.Examples.{june, pointFor, point, engagement, book, plain, byDay, byQuarter, engagementF, bookF, caseF, series, thirds, halves, risen, equalSums, shifted, windows, Checked, one, next, flat, gap, turns, oneParty, Further}
+
+pub checked : Checked
+unfolding june pointFor point engagement book plain byDay byQuarter engagementF bookF caseF series thirds halves risen equalSums shifted windows quarters dayStart quarterHours start referenceQuarter reference position insert ranked pointOf watts known complete mean readingBefore window ownReading dayReading dayReadings ownWindow dayWindow windowed eligible before keep eligibleDays latest daySum taken high addend lastReading baselineBy baseline neededBy needed tooFew refusalNumber rowRefusal refusalFrom settlementRefusal requestedAt limited deliveredBy delivered signed sourceCorrection fspCorrection corrections row rowsOf rows covers quarterAt takes receiverOf partnerOf sameSupply sameDirection isPoint isEngagement grainsOf grainsAt seriesWatts range sumBy upTo floorAt flatMap
+checked =
+    record {
+      p1 = refl;
+      p2 = refl;
+      p3 = refl;
+      p4 = refl;
+      p5 = refl;
+      p5-written = refl;
+      p6 = refl;
+      p6-written = refl;
+      p7 = refl;
+      p8 = refl;
+      p9 = refl;
+      p9-taken = refl;
+      p9-baselines = refl;
+      p10 = refl;
+      p10-days = refl;
+      p10-addend = refl;
+      p10-baseline = (refl, refl);
+      accepted = refl;
+    }
+
+pub further : Further
+unfolding one next flat gap turns oneParty june pointFor point engagement book plain byDay byQuarter engagementF bookF caseF series thirds halves risen equalSums shifted windows quarters dayStart quarterHours start referenceQuarter reference position insert ranked pointOf watts known complete mean readingBefore window ownReading dayReading dayReadings ownWindow dayWindow windowed eligible before keep eligibleDays latest daySum taken high addend lastReading baselineBy baseline neededBy needed tooFew refusalNumber rowRefusal refusalFrom settlementRefusal requestedAt limited deliveredBy delivered signed sourceCorrection fspCorrection corrections row rowsOf rows covers quarterAt partiesOf shareOf correctionAt sheetAt requestedBy requestedVolume takes receiverOf partnerOf sameSupply sameDirection isPoint isEngagement grainsOf grainsAt seriesWatts range sumBy upTo floorAt flatMap zip zipWith
+further =
+    record {
+      enough = refl;
+      few = refl;
+      last = refl;
+      enough-windows = refl;
+      few-windows = refl;
+      own-missing = refl;
+      first-row = refl;
+      day-missing = refl;
+      stepped-over = refl;
+      other-category = refl;
+      file-of-fsp = refl;
+      file-of-supplier = refl;
+      file-by-access = refl;
+      sheet-of-source = refl;
+      sheet-of-fsp = refl;
+      sheets-down = (refl, refl);
+      sheet-of-both = refl;
+      requested = (refl, refl);
+    }

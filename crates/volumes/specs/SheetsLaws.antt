@@ -1,0 +1,103 @@
+-- The corrections of a quarter-hour make up what was requested, so at each position all sheets sum to the requested volume.
+use mathlib.Core.Path.{_≡_, ap, _∙_}
+use mathlib.Core.Logic.{⊎-elim}
+use mathlib.Core.Bool.{Bool, true, false, cond, and-false}
+use mathlib.Core.List.{List, [], _∷_, flatMap, zip, zipWith, List·Memᴰ, List·Memᴰ·head, List·Memᴰ·tail, List·Memᴰ·not-nil, List·Memᴰ·cases-cons, Memᴰ·append-left, Memᴰ·append-right}
+use Prim.Native.Nat.{ℕ, zero, suc, _+_, _≤_, _<_}
+use native.Mathlib.Omega.{arith}
+use lib.Dec.{eqb, leb}
+use lib.IntN.{ℤ, pos, negℤ, _+ℤ_, _-ℤ_}
+use lib.ListN.{length, getD, length-map}
+use borrow.Author.Tests.{le-leb, lt-leb, lt-ltb, le-ltb}
+use Rattle.integers.specs.Z.{eqZ, sum, dif, neg}
+use Rattle.integers.specs.Counts.{times}
+use Rattle.integers.specs.Ranges.{range, length-range}
+use Rattle.integers.specs.Sums.{integers, sumBy, sumZ, sum-zero, sum-cong, sum-swap, sum-once}
+use Rattle.integers.specs.Once.{Once}
+use Rattle.book.specs.declared.Calendar.{Calendar}
+use Rattle.book.specs.declared.Direction.{Direction}
+use Rattle.book.specs.declared.Direction.the-variants.{Up, Down}
+use Rattle.book.specs.declared.Point.{Point}
+use Rattle.book.specs.declared.Engagement.{Engagement}
+use Rattle.book.specs.Book.{Book}
+use Rattle.volumes.specs.Quarters.{monthQuarters}
+use Rattle.volumes.specs.Baseline.{noPoint, pointOf}
+use Rattle.volumes.specs.Settlement.{delivered, requestedAt, signed, sourceCorrection, fspCorrection, corrections}
+use Rattle.volumes.specs.Sheets.{startPosition, covers, quarterAt, partiesOf, parties, shareOf, correctionAt, sheetAt, sheet, requestedBy, requestedVolume}
+
+-- the corrections of a quarter-hour make up what was requested
+two : (d : Direction) (r v : ℤ) → signed d v +ℤ (signed d (r -ℤ v) +ℤ pos 0) ≡ signed d r
+unfolding signed
+two Up r v = eqZ _ _ (omega (arith, dif r v .law, sum (r -ℤ v) (pos 0) .law, sum v ((r -ℤ v) +ℤ pos 0) .law))
+two Down r v = eqZ _ _ (omega (arith, dif r v .law, neg v, neg r, neg (r -ℤ v), sum (negℤ (r -ℤ v)) (pos 0) .law, sum (negℤ v) (negℤ (r -ℤ v) +ℤ pos 0) .law))
+
+pub balanced : (book : Book) (e : Engagement) (k : ℕ) → sumZ (λ z. z) (corrections book e k) ≡ signed (e .direction) (pos (requestedAt e k))
+unfolding corrections sumBy sourceCorrection fspCorrection
+balanced book e k = two (e .direction) (pos (requestedAt e k)) (pos (delivered book e k))
+
+-- each of these parties gets its own, all of them all: over parties among which each one stands once
+share-all : (amounts : List (ℕ × ℤ)) (ps : List ℕ) → ((a : ℕ × ℤ) → List·Memᴰ a amounts → times (a .0) ps ≡ 1) → sumZ (λ party. shareOf party amounts) ps ≡ sumZ (λ a. a .1) amounts
+unfolding shareOf
+share-all amounts ps h =
+    sum-swap integers (λ party a. cond (eqb (a .0) party) (a .1) (pos 0)) ps amounts
+    ∙ sum-cong integers _ _ amounts (λ a m. sum-once integers (a .0) (λ _. a .1) ps (h a m))
+
+-- the parties of an engagement's point, each once
+pub OnceEach : Book → List ℕ → Engagement → Type 0
+OnceEach book ps e = (party : ℕ) → List·Memᴰ party (partiesOf (pointOf book e)) → times party ps ≡ 1
+
+covered-all : (book : Book) (ps : List ℕ) (e : Engagement) (k : ℕ) → OnceEach book ps e → sumZ (λ party. shareOf party (zip (partiesOf (pointOf book e)) (corrections book e k))) ps ≡ signed (e .direction) (pos (requestedAt e k))
+unfolding OnceEach partiesOf corrections zip zipWith sumBy
+covered-all book ps e k h = share-all (zip (partiesOf (pointOf book e)) (corrections book e k)) ps (λ a m. h (a .0) (named a m)) ∙ balanced book e k
+  where
+    named : (a : ℕ × ℤ) → List·Memᴰ a (zip (partiesOf (pointOf book e)) (corrections book e k)) → List·Memᴰ (a .0) (partiesOf (pointOf book e))
+    named a m = ⊎-elim (λ q. List·Memᴰ·head (ap (λ a. a .0) q)) (λ n. ⊎-elim (λ q. List·Memᴰ·tail (List·Memᴰ·head (ap (λ a. a .0) q))) (λ z. absurd (List·Memᴰ·not-nil z)) (List·Memᴰ·cases-cons n)) (List·Memᴰ·cases-cons m)
+
+sheets-of : (book : Book) (ps : List ℕ) → ((e : Engagement) → List·Memᴰ e (book .engagements) → OnceEach book ps e) → (p : ℕ) → sumZ (λ party. sheetAt book party p) ps ≡ requestedVolume book p
+unfolding sheetAt requestedVolume correctionAt requestedBy
+sheets-of book ps h p =
+    sum-swap integers (λ party e. correctionAt book party p e) ps (book .engagements)
+    ∙ sum-cong integers _ _ (book .engagements) (λ e m. at e (covers (book .calendar) e p) (h e m))
+  where
+    at : (e : Engagement) (t : Bool) → OnceEach book ps e → sumZ (λ party. cond t (shareOf party (zip (partiesOf (pointOf book e)) (corrections book e (quarterAt (book .calendar) e p)))) (pos 0)) ps ≡ cond t (signed (e .direction) (pos (requestedAt e (quarterAt (book .calendar) e p)))) (pos 0)
+    at e true o = covered-all book ps e (quarterAt (book .calendar) e p) o
+    at e false o = sum-zero integers ps
+
+-- a point's parties are parties of the register
+point-parties : (l : List Point) (n party : ℕ) → n < length l → List·Memᴰ party (partiesOf (getD l n noPoint)) → List·Memᴰ party (flatMap partiesOf l)
+unfolding flatMap
+point-parties [] n party h m = absurd (omega arith)
+point-parties (point ∷ l) zero party h m = Memᴰ·append-left (flatMap partiesOf l) m
+point-parties (point ∷ l) (suc n) party h m = Memᴰ·append-right (partiesOf point) (point-parties l n party (omega arith) m)
+
+-- "the sheets of all parties in the register, each party once": at each position they sum to the requested volume
+pub balance : (book : Book) (ps : List ℕ) → Once ps (parties book) → ((e : Engagement) → List·Memᴰ e (book .engagements) → e .point < length (book .points)) → (p : ℕ) → sumZ (λ party. sheetAt book party p) ps ≡ requestedVolume book p
+unfolding OnceEach parties pointOf
+balance book ps once inside p = sheets-of book ps (λ e m party k. once .once party (point-parties (book .points) (e .point) party (inside e m) k)) p
+
+-- a sheet has a number for each quarter-hour of the month
+pub sheet-length : (book : Book) (party : ℕ) → length (sheet book party) ≡ monthQuarters (book .calendar)
+unfolding sheet
+sheet-length book party = length-map (range 1 (monthQuarters (book .calendar))) (sheetAt book party) ∙ length-range 1 (monthQuarters (book .calendar))
+
+-- an engagement covers its own positions and no others
+pub covers-inside : (c : Calendar) (e : Engagement) (k : ℕ) → k < e .count → covers c e (startPosition c e + k) ≡ true
+unfolding covers
+covers-inside c e k h = rw (le-leb (startPosition c e) (startPosition c e + k) (omega arith), lt-ltb (startPosition c e + k) (startPosition c e + e .count) (omega arith))
+
+pub covers-before : (c : Calendar) (e : Engagement) (p : ℕ) → p < startPosition c e → covers c e p ≡ false
+unfolding covers
+covers-before c e p h = rw (lt-leb (startPosition c e) p h)
+
+pub covers-after : (c : Calendar) (e : Engagement) (p : ℕ) → startPosition c e + e .count ≤ p → covers c e p ≡ false
+unfolding covers
+covers-after c e p h = rw (le-ltb p (startPosition c e + e .count) h) (and-false (leb (startPosition c e) p))
+
+pub quarter-at : (c : Calendar) (e : Engagement) (k : ℕ) → quarterAt c e (startPosition c e + k) ≡ k
+unfolding quarterAt
+quarter-at c e k = omega arith
+
+-- what an engagement adds to a sheet at its quarter-hour k
+pub correction-inside : (book : Book) (party : ℕ) (e : Engagement) (k : ℕ) → k < e .count → correctionAt book party (startPosition (book .calendar) e + k) e ≡ shareOf party (zip (partiesOf (pointOf book e)) (corrections book e k))
+unfolding correctionAt
+correction-inside book party e k h = rw (covers-inside (book .calendar) e k h, quarter-at (book .calendar) e k)
