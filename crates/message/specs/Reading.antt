@@ -24,11 +24,11 @@ use Rattle.text.specs.Ascii.{bytes}
 use Rattle.moments.specs.declared.Moment.{Moment}
 use Rattle.moments.specs.Moments.{momentBytes, periodStart, periodEnd}
 use Rattle.moments.specs.MomentsLaws.{length-moment}
-use Rattle.message.specs.Contents.{Observation, position}
-use Rattle.message.specs.Bytes.{opening, ending, closing, element, deliveries}
+use Rattle.message.specs.Contents.{Observation, Series, position}
+use Rattle.message.specs.Bytes.{opening, ending, closing, element, supplies, deliveries}
 use Rattle.message.specs.Valid.{lastPosition}
 use Rattle.message.specs.ObservationForm.{isPeriod, monthBody, behindMonth, period, observation, observations, plainNumber, quantity, observationBody, observable, observed}
-use Rattle.message.specs.SeriesForm.{position-fits, counted, volumeBody}
+use Rattle.message.specs.SeriesForm.{position-fits, counted, volumeBody, ofVolume, ownBody, sharedBody}
 
 -- a mark where a test holds
 abbrev pub keep : Bool → Mark → Mark
@@ -224,4 +224,43 @@ module _ (s : List ℕ) {m a b c d e f g h : Mark} {x n year month : ℕ} where
               (run-seq _ (run-post _ (j .run) (k .run)) (run-seq _ (run-post _ (one .run) (o .run)) (run-seq _ (p .run) (run-post _ (q .ran .ran) (r .run)))));
           within = r .within;
         };
+      }
+
+-- ---- a series
+
+-- a series of these directions and this month was read; its observations aren't held
+pub record SeriesRead (f : List ℕ → Res Series) (s : List ℕ) (m r : Mark) (supply delivery year month : ℕ) : Type 0 where
+  pub observations : List Observation
+  pub parsed : Parsed f s m r (record { supply = supply; delivery = delivery; year = year; month = month; observations = observations })
+
+-- how it is read with its supply direction
+abbrev pub ownParse : List ℕ → Res Series
+ownParse = mapParse (λ p. ofVolume (p .0) (p .1)) (ownBody .parse)
+
+module _ (s : List ℕ) {m a b c d e : Mark} {x delivery year month : ℕ} where
+  pub own-read : Parsed (strip (opening "ToETimeSeries" ++ opening "SupplyDirection")) s m a tt → Parsed (wordsParse supplies) s a b x → Parsed (strip (closing "SupplyDirection")) s b c tt
+      → VolumeRead s c d delivery year month → Parsed (strip (closing "ToETimeSeries")) s d e tt → SeriesRead ownParse s m e x delivery year month
+  unfolding ownBody ofVolume
+  own-read i j k v r =
+      record {
+        observations = v .observations;
+        parsed = record {
+          run = run-map (λ p. ofVolume (p .0) (p .1))
+              (run-pre (opening "ToETimeSeries" ++ opening "SupplyDirection") (i .run) (run-seq _ (run-post _ (j .run) (k .run)) (run-post _ (v .parsed .run) (r .run))));
+          within = r .within;
+        };
+      }
+
+-- how it is read with that of its access point
+abbrev pub sharedParse : ℕ → List ℕ → Res Series
+sharedParse x = mapParse (ofVolume x) (sharedBody .parse)
+
+module _ (s : List ℕ) {m a b c : Mark} (x : ℕ) {delivery year month : ℕ} where
+  pub shared-read : Parsed (strip (opening "ToETimeSeries")) s m a tt → VolumeRead s a b delivery year month → Parsed (strip (closing "ToETimeSeries")) s b c tt
+      → SeriesRead (sharedParse x) s m c x delivery year month
+  unfolding sharedBody ofVolume
+  shared-read i v r =
+      record {
+        observations = v .observations;
+        parsed = record { run = run-map (ofVolume x) (run-pre (opening "ToETimeSeries") (i .run) (run-post _ (v .parsed .run) (r .run))); within = r .within };
       }

@@ -9,7 +9,7 @@ ghost use Rattle.message.specs.ObservationForm.{quantity, observed, isPe
 ghost use Rattle.formats.specs.Combine.{strip};
 ghost use Rattle.moments.specs.Moments.{momentBytes};
 ghost use Rattle.message.specs.Valid.{lastPosition, IsPeriod};
-ghost use Rattle.message.specs.Reading.{observing, inOrder, keep, Passed, observationsOf, VolumeRead};
+ghost use Rattle.message.specs.Reading.{observing, inOrder, keep, Passed, observationsOf, VolumeRead, SeriesRead, ownParse, sharedParse};
 
 // TOE01, TOE02 and TOE03.
 pub enum Kind {
@@ -234,5 +234,53 @@ fn volume(s: &[u8], m: Mark) -> TimeSeries
         year: q.year,
         month: q.month,
         next: h,
+    }
+}
+
+// A series that was read, and the place behind it.
+struct Series {
+    supply: u64,
+    delivery: u64,
+    year: u64,
+    month: u64,
+    next: Mark,
+}
+
+// A time series with its supply direction.
+fn own_series(s: &[u8], m: Mark) -> Series
+    requires { ⌜ Within (now s) m ⌝ }
+    ensures { λ r. ⌜ SeriesRead ownParse (now (s .entry)) m (r .next) (r .supply) (r .delivery) (r .year) (r .month) ⌝ }
+{
+    let a = formats::tag(s, m, b"<ToETimeSeries><SupplyDirection>");
+    let x = formats::word(s, a, b"Off-take", b"Injection");
+    let b = x.next;
+    let c = formats::tag(s, b, b"</SupplyDirection>");
+    let v = volume(s, c);
+    let d = v.next;
+    let e = formats::tag(s, d, b"</ToETimeSeries>");
+    Series {
+        supply: x.value,
+        delivery: v.delivery,
+        year: v.year,
+        month: v.month,
+        next: e,
+    }
+}
+
+// A time series with the supply direction of its access point.
+fn shared_series(s: &[u8], m: Mark, supply: u64) -> Series
+    requires { ⌜ Within (now s) m ⌝ }
+    ensures { λ r. ⌜ SeriesRead (sharedParse supply) (now (s .entry)) m (r .next) supply (r .delivery) (r .year) (r .month) × (r .supply ≡ supply) ⌝ }
+{
+    let a = formats::tag(s, m, b"<ToETimeSeries>");
+    let v = volume(s, a);
+    let b = v.next;
+    let c = formats::tag(s, b, b"</ToETimeSeries>");
+    Series {
+        supply,
+        delivery: v.delivery,
+        year: v.year,
+        month: v.month,
+        next: c,
     }
 }
