@@ -2,8 +2,6 @@
 use formats::Mark;
 use formats::Val;
 ghost use mathlib.Core.Path.{_≡_};
-ghost use mathlib.Core.Bool.{cond};
-ghost use Prim.Native.Nat.{_≤_};
 ghost use Rattle.formats.specs.Place.{Within, Parsed};
 ghost use Rattle.message.specs.ObservationForm.{quantity, observed, isPeriod, behindMonth, period};
 ghost use Rattle.formats.specs.Combine.{strip};
