@@ -4,6 +4,7 @@ use mathlib.Core.List.{List, map}
 use Prim.Native.Nat.{ℕ, _*_, _/_, _≤_}
 use lib.ListN.{length}
 use Rattle.integers.specs.Ranges.{range}
+use Rattle.integers.specs.Sums.{sumOf}
 use Rattle.book.specs.declared.Calendar.{Calendar}
 use Rattle.book.specs.declared.Engagement.{Engagement}
 use Rattle.book.specs.Calendars.{daysOf, quartersOf}
@@ -24,6 +25,10 @@ rowsIn engagements = length engagements / engagementWidth
 
 unfoldable pub engagementsIn : List ℕ → List Engagement
 engagementsIn engagements = map (engagementAt engagements) (range 0 (rowsIn engagements))
+
+-- "Each engagement quarter-hour" is a row
+unfoldable pub countIn : List ℕ → ℕ
+countIn engagements = sumOf (λ e. e .count) (engagementsIn engagements)
 
 -- calendar, pairs X and Y, register, readings, engagements
 unfoldable pub bookIn : Calendar → List ℕ → List ℕ → List ℕ → List ℕ → List ℕ → Book

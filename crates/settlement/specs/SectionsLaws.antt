@@ -5,11 +5,14 @@ use mathlib.Core.List.{List, [], _∷_, map, List·Memᴰ, List·Memᴰ·head, L
 use mathlib.Core.Option.{none}
 use Prim.Native.Nat.{ℕ, zero, suc, _+_, _*_, _/_, _≤_, _<_}
 use native.Mathlib.Nat.{mul-le-mul-left, mul-assoc, mul-suc}
+use native.Mathlib.Numerals.{add-one}
 use native.Mathlib.Omega.{arith}
 use lib.Dec.{eqb, ltb}
+use lib.Seq.{take-all}
 use lib.ListN.{length, take, drop, getD, length-take, length-drop, length-map, List·getD-map, List·getD-eq-default}
 use borrow.Author.Tests.{eqb-true, ltb-true, ltb-false}
-use Rattle.integers.specs.Ranges.{range, length-range, getD-range}
+use Rattle.integers.specs.Ranges.{range, length-range}
+use Rattle.integers.specs.Sums.{sumBy, sumOf}
 use Rattle.book.specs.declared.Calendar.{Calendar}
 use Rattle.book.specs.declared.Engagement.{Engagement}
 use Rattle.book.specs.Calendars.{daysOf, quartersOf}
@@ -20,11 +23,13 @@ use Rattle.book.specs.Register.{pointAt}
 use Rattle.book.specs.Engagements.{engagementAt}
 use Rattle.book.specs.Book.{Book, bookOf}
 use Rattle.book.specs.Judged.{refusalOf}
-use Rattle.volumes.specs.Baseline.{pointOf, noPoint}
+use Rattle.volumes.specs.Baseline.{pointOf, noPoint, xOf, yOf}
+use Rattle.volumes.specs.Settlement.{refusalNumber, rowRefusal}
 use Rattle.volumes.specs.Sound.{Paired, Placed, OnTerms, Sound}
 use Rattle.volumes.specs.SoundLaws.{passes, sound}
+use Rattle.volumes.specs.SettlementLaws.{refusalAt, refusal-next, refusal-end, count-next}
 use Rattle.baseline.specs.Shown.{Shows, Fits}
-use Rattle.settlement.specs.Sections.{pointsIn, rowsIn, engagementsIn, bookIn, Sectioned}
+use Rattle.settlement.specs.Sections.{pointsIn, rowsIn, engagementsIn, countIn, bookIn, Sectioned}
 
 -- the i-th of the values of a function at numbers in a row; an element is a member
 made-from : {A : Type 0} (f : ℕ → A) (a n i : ℕ) (d : A) → i < n → getD (map f (range a n)) i d ≡ f (a + i)
@@ -87,6 +92,9 @@ lengths bytes e =
 pub all-held : (bytes : List ℕ) → refusalOf bytes ≡ none → Lengths bytes
 all-held bytes e = lengths bytes (passes bytes e .layout)
 
+pub bytes-long : (bytes : List ℕ) → refusalOf bytes ≡ none → 56 ≤ length bytes
+bytes-long bytes e = headed bytes (passes bytes e .header) .long
+
 -- each section is a part of the book
 pub section-inside : (bytes : List ℕ) → refusalOf bytes ≡ none → (k : ℕ) → k ≤ 4 → offsetOf bytes k + lengthOf bytes k ≤ length bytes
 section-inside bytes e k h = at k h
@@ -136,8 +144,34 @@ pub record Engaged (c : Calendar) (calendar pairs register readings engagements 
   pub registered : 64 * e .point + 64 ≤ length register
   pub category : 2 * categoryAt calendar (e .day) + 2 ≤ length pairs
   pub paired : Paired (xAt pairs (categoryAt calendar (e .day))) (yAt pairs (categoryAt calendar (e .day)))
+  pub x : xOf (bookIn c calendar pairs register readings engagements) e ≡ xAt pairs (categoryAt calendar (e .day))
+  pub y : yOf (bookIn c calendar pairs register readings engagements) e ≡ yAt pairs (categoryAt calendar (e .day))
   pub fits : Fits c calendar readings e
   pub shows : Shows c calendar readings (pointAt register (e .point)) e (bookIn c calendar pairs register readings engagements)
+
+-- the first i engagements' rows, and one engagement's more
+unfoldable pub countTo : List ℕ → ℕ → ℕ
+countTo engagements i = sumOf (λ e. e .count) (take i (engagementsIn engagements))
+
+engagement-count : (engagements : List ℕ) → length (engagementsIn engagements) ≡ rowsIn engagements
+unfolding engagementsIn
+engagement-count engagements = rw (length-map, length-range)
+
+pub count-none : (engagements : List ℕ) → countTo engagements 0 ≡ 0
+unfolding countTo sumBy
+count-none engagements = refl
+
+pub count-more : (engagements : List ℕ) (i : ℕ) → i < rowsIn engagements → countTo engagements (i + 1) ≡ countTo engagements i + engagementAt engagements i .count
+unfolding countTo engagementsIn
+count-more engagements i h =
+    let d = engagementAt engagements i in
+    rw add-one
+    (count-next (engagementsIn engagements) i d (omega (arith, engagement-count engagements))
+    ∙ ap (λ (e : Engagement). countTo engagements i + e .count) (getD-made (engagementAt engagements) (rowsIn engagements) i d h))
+
+pub count-all : (engagements : List ℕ) (i : ℕ) → rowsIn engagements ≤ i → countTo engagements i ≡ countIn engagements
+unfolding countTo countIn
+count-all engagements i h = ap (sumOf (λ e. e .count)) (take-all i (engagementsIn engagements) (omega (arith, engagement-count engagements)))
 
 module _ {c : Calendar} {calendar pairs register readings engagements : List ℕ} (s : Sectioned c calendar pairs register readings engagements) where
   -- the points and the engagements are as many as the lengths say
@@ -193,6 +227,8 @@ module _ {c : Calendar} {calendar pairs register readings engagements : List ℕ
         registered = omega (arith, at .point);
         category = category-in (e .day);
         paired = pairs-of (e .day);
+        x = refl;
+        y = refl;
         fits =
             record {
               ranged = s .sound .ranged;
@@ -206,3 +242,14 @@ module _ {c : Calendar} {calendar pairs register readings engagements : List ℕ
             };
         shows = record { when = refl; category = λ d. refl; reading = λ p k. refl; owner = owner e (at .point) };
       }
+
+  -- the refusals from row i on: that of row i, or of those after it
+  pub refusal-row : (i : ℕ) → i < rowsIn engagements → refusalAt (bookIn c calendar pairs register readings engagements) i ≡ rowRefusal i (refusalNumber (bookIn c calendar pairs register readings engagements) (engagementAt engagements i)) (refusalAt (bookIn c calendar pairs register readings engagements) (i + 1))
+  refusal-row i h =
+      let book = bookIn c calendar pairs register readings engagements in
+      let d = engagementAt engagements i in
+      refusal-next book i (i + 1) d refl (omega (arith, row-count))
+      ∙ ap (λ (e : Engagement). rowRefusal i (refusalNumber book e) (refusalAt book (i + 1))) (row-named i d h)
+
+  pub refusal-last : (i : ℕ) → rowsIn engagements ≤ i → refusalAt (bookIn c calendar pairs register readings engagements) i ≡ none
+  refusal-last i h = refusal-end (bookIn c calendar pairs register readings engagements) i (omega (arith, row-count))

@@ -1,2 +1,5 @@
-// Settling: the rows of the engagements.
+// Settling: judging a book to the end, and the rows of its engagements.
+pub mod judge;
 pub mod rows;
+pub mod sections;
+pub mod settle;
