@@ -12,3 +12,10 @@ pub mod Rows
 pub mod RowsLaws
 pub mod Needs
 pub mod NeedsLaws
+pub mod Taken
+pub mod TakenLaws
+pub mod LevelsLaws
+pub mod Levels
+pub mod LevelLaws
+pub mod Bases
+pub mod BasesLaws

@@ -1,9 +1,9 @@
 -- Bytes in hex, and sparse bytes: `LENGTH OFFSET HEX OFFSET HEX ..`.
 use mathlib.Core.Path.{_≡_}
-use mathlib.Core.Bool.{Bool, true, false, cond}
-use mathlib.Core.List.{List}
+use mathlib.Core.Bool.{Bool, true, false, cond, _&&_}
+use mathlib.Core.List.{List, []}
 use Prim.Native.Nat.{ℕ, _+_, _-_, _*_, _≤_, _<_}
-use lib.Dec.{ltb, leb}
+use lib.Dec.{eqb, ltb, leb}
 use lib.ListN.{length, getD, take, drop, replicate}
 use Rattle.text.specs.declared.Number.the-variants.{Value}
 use Rattle.cases.specs.declared.Loaded.{Loaded}
@@ -20,16 +20,27 @@ nibbleOf x = cond (ltb x 48) 16 (cond (leb x 57) (x - 48) (cond (ltb x 97) 16 (c
 abbrev pub hexByte : List ℕ → ℕ → ℕ
 hexByte word k = 16 * nibbleOf (getD word (2 * k) 0) + nibbleOf (getD word (2 * k + 1) 0)
 
+abbrev pub HexDigits : List ℕ → ℕ → Type 0
+HexDigits word k = (nibbleOf (getD word (2 * k) 0) < 16) × (nibbleOf (getD word (2 * k + 1) 0) < 16)
+
 -- the n bytes of a hex word stand at the start of `after`, and the rest is as it was before
 pub record Unhexed (word before after : List ℕ) (n : ℕ) : Type 0 where
   pub size : 2 * n ≡ length word
   pub room : n ≤ length after
+  pub digits : (k : ℕ) → k < n → HexDigits word k
   pub bytes : (k : ℕ) → k < n → getD after k 0 ≡ hexByte word k
   pub rest : (k : ℕ) → n ≤ k → getD after k 0 ≡ getD before k 0
 
 abbrev pub UnhexedBy : List ℕ → List ℕ → List ℕ → Loaded → Type 0
 UnhexedBy word before after (Bytes n) = Unhexed word before after n
 UnhexedBy word before after Malformed = Unit {0}
+
+-- a hex word: `-` says no bytes
+abbrev pub saysNone : List ℕ → Bool
+saysNone word = eqb (length word) 1 && eqb (getD word 0 0) 45
+
+abbrev pub hexOf : List ℕ → List ℕ
+hexOf word = cond (saysNone word) [] word
 
 -- the n bytes of a hex word stand from `offset` on, and the rest is as it was before
 pub record PutAt (word : List ℕ) (offset : ℕ) (before after : List ℕ) (n : ℕ) : Type 0 where

@@ -1,4 +1,6 @@
 // Answers on standard output.
+ghost use mathlib.Core.Path.{_≡_};
+ghost use lib.IntN.{natAbs};
 
 pub fn text(t: &[u8]) {
     io::write_all(1, t);
@@ -6,6 +8,24 @@ pub fn text(t: &[u8]) {
 
 pub fn number(n: u64) {
     io::print_decimal(1, n);
+}
+
+fn magnitude(z: i64) -> u64
+    ensures { λ r. ⌜ r ≡ natAbs z ⌝ }
+{
+    if 0 <= z {
+        return z as u64;
+    }
+    let below = -(z + 1);
+    below as u64 + 1
+}
+
+// A number with its sign.
+pub fn signed(z: i64) {
+    if z < 0 {
+        io::write_all(1, b"-");
+    }
+    io::print_decimal(1, magnitude(z));
 }
 
 // `refused NUMBER ITEM`

@@ -9,7 +9,7 @@ ghost use mathlib.Core.Path.{_≡_};
 ghost use mathlib.Core.List.{_++_};
 ghost use Prim.Native.Nat.{_≤_, _<_};
 ghost use lib.ListN.{length, drop, replicate};
-ghost use Rattle.cases.specs.Sparse.{nibbleOf, UnhexedBy, PutAtBy, PieceBy, PiecesBy, FilledBy, SparseBy};
+ghost use Rattle.cases.specs.Sparse.{nibbleOf, UnhexedBy, saysNone, hexOf, PutAtBy, PieceBy, PiecesBy, FilledBy, SparseBy};
 
 fn nibble(x: u8) -> u8
     ensures { λ r. ⌜ r ≡ nibbleOf x ⌝ }
@@ -54,6 +54,25 @@ pub fn unhex(word: &[u8], out: &mut [u8]) -> Loaded
         i += 1;
     }
     Loaded::Bytes(n)
+}
+
+fn says_none(word: &[u8]) -> bool
+    ensures { λ r. ⌜ r ≡ saysNone (now (word .entry)) ⌝ }
+{
+    if word.len() != 1 {
+        return false;
+    }
+    word[0] == b'-'
+}
+
+// The same for a word that may be `-`, which says no bytes.
+pub fn hex_word(word: &[u8], out: &mut [u8]) -> Loaded
+    ensures { λ r. ⌜ UnhexedBy (hexOf (now (word .entry))) (now (out .entry)) (now (out .exit)) r ⌝ }
+{
+    if says_none(word) {
+        return Loaded::Bytes(0);
+    }
+    unhex(word, out)
 }
 
 fn unhex_at(word: &[u8], offset: usize, out: &mut [u8]) -> Loaded

@@ -1,6 +1,9 @@
+pub mod Raised
+pub mod RaisedLaws
 pub mod Rows
 pub mod RowsLaws
 pub mod Sections
 pub mod SectionsLaws
+pub mod StoresLaws
 pub mod Verdicts
 pub mod VerdictsLaws

@@ -1,14 +1,23 @@
--- One settlement row from what it depends on, and the numbers without a sign that the code makes it of.
-use mathlib.Core.List.{List, [], _∷_}
-use Prim.Native.Nat.{ℕ}
-use lib.IntN.{ℤ, pos, subℕ, _-ℤ_}
+-- Settlement rows from what they depend on (document 01, "Delivered volume, corrections, series").
+use mathlib.Core.List.{List, [], _∷_, map, flatMap}
+use Prim.Native.Nat.{ℕ, _+_, _*_, _≤_, _<_}
+use lib.IntN.{ℤ, pos, _-ℤ_}
+use lib.ListN.{getD}
+use Rattle.wire.specs.declared.Reading.{Reading}
+use Rattle.wire.specs.Readings.{readingAt}
 use Rattle.grains.specs.Grains.{grains, grainsZ}
 use Rattle.book.specs.declared.Direction.{Direction}
 use Rattle.book.specs.declared.Direction.the-variants.{Up, Down}
 use Rattle.book.specs.declared.Point.{Point}
+use Rattle.book.specs.declared.Engagement.{Engagement}
+use Rattle.book.specs.declared.Calendar.{Calendar}
+use Rattle.book.specs.Calendars.{quartersOf}
+use Rattle.volumes.specs.Quarters.{quarterHours, start}
+use Rattle.volumes.specs.Baseline.{watts}
 use Rattle.volumes.specs.Settlement.{deliveredBy, signed}
+use Rattle.settlement.specs.Raised.{baselineOf}
 
--- "four signed numbers: baseline, delivered, source and FSP correction", of the grains requested, the baseline's grains and the reading's watts
+-- "four signed numbers: baseline, delivered, source and FSP correction", of the requested volume and the baseline, in grains, and the reading, in watts
 unfoldable pub rowFrom : Direction → Point → ℕ → ℤ → ℤ → List ℤ
 rowFrom direction point requested base read =
     let volume : ℤ = pos (deliveredBy direction point base (grainsZ read)) in
@@ -19,17 +28,23 @@ unfoldable pub largest : Direction → Point → ℕ
 largest Up point = point .upward
 largest Down point = point .downward
 
--- what a raised baseline has more than the baseline: 3 times 2^31 watts, in grains, so that none is below 0, with method 2's addend neither
-abbrev pub bias : ℕ
-bias = grains 6442450944
+-- the place of an engagement's first reading among those of all points
+abbrev pub firstReading : Calendar → Engagement → ℕ
+firstReading c e = quartersOf c * e .point + start c e
 
--- no raised baseline is greater: 2^34 watts, in grains
-abbrev pub greatest : ℕ
-greatest = grains 17179869184
+-- an engagement's own readings, where they stand in a row from `first` on
+abbrev pub readingsFrom : Engagement → List ℕ → ℕ → List Reading
+readingsFrom e readings first = map (λ k. readingAt readings (first + k)) (quarterHours e)
 
--- the baseline of a raised one, and the watts of a raised reading
-unfoldable pub baselineOf : ℕ → ℤ
-baselineOf base = subℕ base bias
+-- the row of quarter-hour k, of raised baselines, the requested watts and such readings
+abbrev pub rowAt : Direction → Point → ℕ → List ℕ → List ℕ → ℕ → ℕ → List ℤ
+rowAt direction point requested bases readings first k =
+    rowFrom direction point (grains requested) (baselineOf (getD bases k 0)) (watts (readingAt readings (first + k)))
 
-unfoldable pub wattsOf : ℕ → ℤ
-wattsOf raised = subℕ raised 2147483648
+-- "Each engagement quarter-hour, in order"
+unfoldable pub rowsFrom : Engagement → Point → List ℕ → List ℕ → ℕ → List ℤ
+rowsFrom e point bases readings first = flatMap (rowAt (e .direction) point (e .requested) bases readings first) (quarterHours e)
+
+-- none of the list's first n numbers is greater
+pub record AllAtMost (top n : ℕ) (l : List ℕ) : Type 0 where
+  pub each : (k : ℕ) → k < n → getD l k 0 ≤ top

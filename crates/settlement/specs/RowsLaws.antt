@@ -1,57 +1,76 @@
--- A book's row is the one made of its baseline and its reading; what raised numbers say, in ℕ.
-use mathlib.Core.Path.{_≡_, refl, sym}
-use mathlib.Core.List.{List, [], _∷_}
-use Prim.Native.Nat.{ℕ, suc, _+_, _-_, _≤_, min}
+-- A book's rows are those made of its baselines and its readings.
+use mathlib.Core.Path.{_≡_, refl, sym, ap, _∙_}
+use mathlib.Core.Bool.{true}
+use mathlib.Core.List.{List, map}
+use Prim.Native.Nat.{ℕ, _+_, _*_, _<_, min}
+use native.Mathlib.Nat.{add-assoc}
 use native.Mathlib.Omega.{arith}
-use native.Mathlib.Numerals.{add-one, add-two}
 use lib.IntN.{ℤ, pos, negsuc, negℤ, _-ℤ_}
-use lib.ListN.{set}
-use lib.Seq.{sets}
-use Rattle.integers.specs.Z.{up, dn, Over, over-sub, is-sub, eqZ, mul, neg, dif}
-use Rattle.grains.specs.Grains.{perWatt, grains, grainsZ}
+use lib.ListN.{length, getD}
+use Rattle.integers.specs.Ranges.{range}
+use Rattle.integers.specs.Z.{up, Over, eqZ, neg, dif}
+use Rattle.wire.specs.Readings.{readingAt}
+use Rattle.grains.specs.Grains.{grains}
 use Rattle.book.specs.declared.Direction.{Direction}
 use Rattle.book.specs.declared.Direction.the-variants.{Up, Down}
 use Rattle.book.specs.declared.Point.{Point}
 use Rattle.book.specs.declared.Engagement.{Engagement}
-use Rattle.book.specs.Book.{Book}
-use Rattle.volumes.specs.Baseline.{pointOf, watts, ownReading, baseline}
-use Rattle.volumes.specs.Settlement.{requestedAt, limited, deliveredBy, delivered, signed, sourceCorrection, fspCorrection, corrections, row}
-use Rattle.settlement.specs.Rows.{rowFrom, largest, bias, baselineOf, wattsOf}
+use Rattle.book.specs.Calendars.{quartersOf}
+use Rattle.book.specs.Header.{calendarOf, readingSection}
+use Rattle.book.specs.Book.{Book, bookOf}
+use Rattle.volumes.specs.Quarters.{quarterHours, start}
+use Rattle.volumes.specs.QuartersLaws.{map-range-cong}
+use Rattle.volumes.specs.Baseline.{pointOf, watts, complete, ownReading, baseline}
+use Rattle.volumes.specs.BaselineLaws.{complete-append}
+use Rattle.volumes.specs.Settlement.{neededBy, needed, requestedAt, limited, deliveredBy, delivered, signed, sourceCorrection, fspCorrection, corrections, rowWidth, row, rowsOf}
+use Rattle.volumes.specs.SettlementLaws.{Settles}
+use Rattle.settlement.specs.Raised.{bias}
+use Rattle.settlement.specs.RaisedLaws.{is-base, both}
+use Rattle.settlement.specs.Rows.{rowFrom, firstReading, readingsFrom, rowAt, rowsFrom, largest}
+use Rattle.settlement.specs.StoresLaws.{flatMap-range-cong}
 
 pub row-from : (book : Book) (e : Engagement) (k : ℕ) → row book e k ≡ rowFrom (e .direction) (pointOf book e) (requestedAt e k) (baseline book e k) (watts (ownReading book e k))
 unfolding row corrections sourceCorrection fspCorrection delivered rowFrom
 row-from book e k = refl
 
--- a raised baseline and a raised reading, and what they were raised from
-pub over-base : (base : ℕ) → Over bias (baselineOf base) base
-unfolding baselineOf
-over-base base = over-sub base bias
+pub from-length : (direction : Direction) (point : Point) (requested : ℕ) (base read : ℤ) → length (rowFrom direction point requested base read) ≡ rowWidth
+unfolding rowFrom
+from-length direction point requested base read = refl
 
-pub is-base : {z : ℤ} {base : ℕ} → Over bias z base → z ≡ baselineOf base
-unfolding baselineOf
-is-base h = is-sub h
+-- where the raised baselines are the book's, and the readings
+pub rows-from : (book : Book) (e : Engagement) (bases readings : List ℕ) (first : ℕ)
+    → ((k : ℕ) → k < e .count → Over bias (baseline book e k) (getD bases k 0))
+    → ((k : ℕ) → k < e .count → readingAt readings (first + k) ≡ ownReading book e k)
+    → rowsFrom e (pointOf book e) bases readings first ≡ rowsOf book e
+unfolding rowsFrom rowsOf quarterHours requestedAt
+rows-from book e bases readings first b w =
+    flatMap-range-cong
+    (rowAt (e .direction) (pointOf book e) (e .requested) bases readings first)
+    (row book e)
+    0
+    (e .count)
+    (λ k _ h. let i : k < e .count = omega arith in rw (w k i, ← is-base (b k i)) (sym (row-from book e k)))
 
-pub base-is : (base : ℕ) → pos base -ℤ pos bias ≡ baselineOf base
-base-is base = is-base (record { law = omega (arith, dif (pos base) (pos bias)) })
+-- the readings of a book's bytes are its own, and none is missing where the engagement is not refused
+pub own-reading : (bytes : List ℕ) (e : Engagement) (k : ℕ) → readingAt (readingSection bytes) (firstReading (calendarOf bytes) e + k) ≡ ownReading (bookOf bytes) e k
+unfolding ownReading bookOf
+own-reading bytes e k =
+    ap (readingAt (readingSection bytes)) (add-assoc (quartersOf (calendarOf bytes) * e .point) (start (calendarOf bytes) e) k)
 
-pub over-watts : (raised : ℕ) → Over 2147483648 (wattsOf raised) raised
-unfolding wattsOf
-over-watts raised = over-sub raised 2147483648
-
-pub is-watts : {w : ℤ} {raised : ℕ} → Over 2147483648 w raised → w ≡ wattsOf raised
-unfolding wattsOf
-is-watts h = is-sub h
-
--- a row made of raised numbers is the book's where they are its baseline and its reading, raised
-pub row-raised : (book : Book) (e : Engagement) (k base raised : ℕ) → Over bias (baseline book e k) base → Over 2147483648 (watts (ownReading book e k)) raised → rowFrom (e .direction) (pointOf book e) (grains (e .requested)) (baselineOf base) (wattsOf raised) ≡ row book e k
-unfolding requestedAt
-row-raised book e k base raised b w = rw (← is-base b, ← is-watts w) (sym (row-from book e k))
+pub own-complete : (bytes : List ℕ) (e : Engagement) → Settles (bookOf bytes) e → complete (readingsFrom e (readingSection bytes) (firstReading (calendarOf bytes) e)) ≡ true
+unfolding needed quarterHours
+own-complete bytes e h =
+    let book = bookOf bytes in
+    let own = map (ownReading book e) (range 0 (e .count)) in
+    let other = neededBy (pointOf book e .method) book e in
+    ap complete (map-range-cong (λ k. readingAt (readingSection bytes) (firstReading (calendarOf bytes) e + k)) (ownReading book e) 0 (e .count) (λ k _ _. own-reading bytes e k))
+    ∙ both (complete own) (complete other) (sym (complete-append own other) ∙ h .known) .0
 
 -- a difference negated is the one of the two turned round
 pub turned : (a b : ℤ) → negℤ (a -ℤ b) ≡ b -ℤ a
 turned a b = eqZ (negℤ (a -ℤ b)) (b -ℤ a) (omega (arith, neg (a -ℤ b), dif a b, dif b a))
 
--- the delivered volume is a difference in its direction, limited to the largest watts of that direction
+-- the delivered volume is one difference, negated downward and limited to the direction's largest watts
 pub delivered-by : (direction : Direction) (point : Point) (base read : ℤ) → deliveredBy direction point base read ≡ limited (signed direction (base -ℤ read)) (largest direction point)
 unfolding deliveredBy signed largest
 delivered-by Up point base read = refl
@@ -62,20 +81,3 @@ pub limited-is : (z : ℤ) (most : ℕ) → limited z most ≡ min (up z) (grain
 unfolding limited
 limited-is (pos n) most = refl
 limited-is (negsuc n) most = omega arith
-
--- the difference of raised numbers, the reading's raised as the baseline's: no bias is in it
-pub above-up : (base raised : ℕ) → up (baselineOf base -ℤ grainsZ (wattsOf raised)) ≡ base - grains (raised + 4294967296)
-above-up base raised =
-    let z = baselineOf base in
-    let w = wattsOf raised in
-    omega (arith, over-base base, over-watts raised, mul w perWatt, dif z (grainsZ w))
-
-pub above-down : (base raised : ℕ) → up (negℤ (baselineOf base -ℤ grainsZ (wattsOf raised))) ≡ grains (raised + 4294967296) - base
-above-down base raised =
-    let z = baselineOf base in
-    let w = wattsOf raised in
-    omega (arith, over-base base, over-watts raised, mul w perWatt, dif z (grainsZ w), neg (z -ℤ grainsZ w))
-
--- four stores in a row
-pub four-sets : (l : List ℤ) (at : ℕ) (a b c d : ℤ) → set (set (set (set l at a) (at + 1) b) (at + 2) c) (at + 3) d ≡ sets l at (a ∷ b ∷ c ∷ d ∷ [])
-four-sets l at a b c d = let e : at + 3 ≡ suc (suc (suc at)) = omega arith in rw (add-one, add-two, e)

@@ -1,15 +1,22 @@
 // The four numbers of a settlement row, made of a raised baseline and a raised reading: neither has a sign.
 use book::Direction;
+use book::Engagement;
 use book::Point;
 use grains::Grains;
 ghost use mathlib.Core.Path.{_≡_};
-ghost use Prim.Native.Nat.{_+_, _-_, _≤_, _<_, min};
+ghost use mathlib.Core.Bool.{true};
+ghost use Prim.Native.Nat.{_+_, _-_, _*_, _≤_, _<_, min};
 ghost use lib.IntN.{pos, _-ℤ_};
 ghost use lib.ListN.{length};
 ghost use lib.Seq.{sets};
 ghost use Rattle.grains.specs.Grains.{grains, grainsZ};
+ghost use Rattle.volumes.specs.Baseline.{complete};
 ghost use Rattle.volumes.specs.Settlement.{rowWidth, limited, signed};
-ghost use Rattle.settlement.specs.Rows.{rowFrom, largest, bias, greatest, baselineOf, wattsOf};
+ghost use Rattle.settlement.specs.Raised.{bias, greatest, baselineOf, wattsOf};
+ghost use Rattle.settlement.specs.Rows.{rowFrom, rowsFrom, largest, readingsFrom, AllAtMost};
+
+// The numbers of a row.
+pub const ROW_WIDTH: usize = 4;
 
 // The bias of a raised baseline: 3 times 2^31 watts, 2^31 being that of a raised reading.
 pub fn bias() -> u64
@@ -87,7 +94,7 @@ pub fn baseline_of(base: u64) -> i64
     difference(base, bias())
 }
 
-// A quarter-hour's row, in the four places from `at` on.
+// A quarter-hour's row, from `at` on.
 pub fn write_row(
     out: &mut [i64],
     at: usize,
@@ -107,4 +114,36 @@ pub fn write_row(
     out[at + 1] = difference(volume, 0);
     out[at + 2] = correction(direction, volume, 0);
     out[at + 3] = correction(direction, asked, volume);
+}
+
+// An engagement's rows, from `at` on: `bases` are its raised baselines, and its own readings start at reading `first`.
+pub fn write_rows(
+    out: &mut [i64],
+    at: usize,
+    e: Engagement,
+    point: Point,
+    bases: &[u64],
+    readings: &[u8],
+    first: usize,
+)
+    requires { ⌜ (at + rowWidth * e .count ≤ length (now out)) × (e .count ≤ length (now bases)) × AllAtMost greatest (e .count) (now bases) × (4 * (first + e .count) ≤ length (now readings)) × (complete (readingsFrom e (now readings) first) ≡ true) ⌝ }
+    ensures { λ r. ⌜ now (out .exit) ≡ sets (now (out .entry)) at (rowsFrom e point (now (bases .entry)) (now (readings .entry)) first) ⌝ }
+{
+    let count = e.count as usize;
+    let direction = e.direction;
+    let requested = e.requested;
+    let mut k: usize = 0;
+    while k < count {
+        let raised = wire::raised_at(readings, first + k);
+        write_row(
+            out,
+            at + ROW_WIDTH * k,
+            direction,
+            point,
+            requested,
+            bases[k],
+            raised,
+        );
+        k += 1;
+    }
 }

@@ -4,14 +4,14 @@ use Prim.Native.Nat.{ℕ, _+_, _-_, _*_, _/_, _≤_, _<_}
 use lib.ListN.{length, set, getD, length-set}
 use lib.Seq.{getD-set-same, getD-set-other}
 use borrow.Author.Count.{below-more}
-use Rattle.cases.specs.Sparse.{hexByte}
+use Rattle.cases.specs.Sparse.{hexByte, HexDigits}
 use borrow.Author.Needs.{needs}
 use native.Mathlib.Omega.{arith}
 use Rattle.cases.proofs.sparse.unhex.Statement.{statement}
 use Rattle.cases.proofs.sparse.unhex.Tie as tie
 
 abbrev Inv-loop : tie.InvT-loop
-Inv-loop word out₀ n i₀ out i = (i ≤ n) × (n ≤ length out) × (length out ≡ length out₀) × ((k : ℕ) → k < i → getD out k 0 ≡ hexByte word k) × ((k : ℕ) → i ≤ k → getD out k 0 ≡ getD out₀ k 0)
+Inv-loop word out₀ n i₀ out i = (i ≤ n) × (n ≤ length out) × (length out ≡ length out₀) × ((k : ℕ) → k < i → getD out k 0 ≡ hexByte word k) × ((k : ℕ) → i ≤ k → getD out k 0 ≡ getD out₀ k 0) × ((k : ℕ) → k < i → HexDigits word k)
 
 abbrev μ-loop : tie.MeasureT-loop
 μ-loop word out₀ n i₀ out i = n - i
@@ -26,7 +26,7 @@ returns-2 : tie.Need-returns-2 Inv-loop μ-loop
 returns-2 c = tt
 
 loop-holds : tie.Need-loop-holds Inv-loop μ-loop
-loop-holds c = (search needs, search needs, refl, λ k h. absurd (omega arith), λ k h. refl)
+loop-holds c = (search needs, search needs, refl, λ k h. absurd (omega arith), λ k h. refl, λ k h. absurd (omega arith))
 
 mul-nibble : tie.Need-mul-nibble Inv-loop μ-loop
 mul-nibble c = search needs
@@ -90,6 +90,13 @@ loop-again c =
           (λ k h. getD-set-other (l .loop .out) (l .loop .i) k v 0 (λ e. omega arith) ∙ l .loop .inv .3 k h)
           (getD-set-same (l .loop .out) (l .loop .i) v 0 (omega arith) ∙ cc),
       λ k h. getD-set-other (l .loop .out) (l .loop .i) k v 0 (λ e. omega arith) ∙ l .loop .inv .4 k (omega arith),
+      below-more
+          (HexDigits (a .word .now))
+          (l .loop .i)
+          (l .loop .inv .5) (
+            omega (arith, c .before .before .before .before .nibble .ensures, c .before .if3 .left),
+            omega (arith, c .before .before .nibble2 .ensures, c .if4 .left),
+          ),
     )
 
 same-length-3 : tie.Need-same-length-3 Inv-loop μ-loop
@@ -102,6 +109,7 @@ returns-5 c =
     record {
       size = omega arith;
       room = search needs;
+      digits = λ k h. l .loop .inv .5 k (omega arith);
       bytes = λ k h. l .loop .inv .3 k (omega arith);
       rest = λ k h. l .loop .inv .4 k (omega arith);
     }

@@ -5,7 +5,7 @@ use native.Mathlib.Omega.{arith}
 use borrow.Author.Needs.{needs}
 use mir.Syntax.{w64}
 use mir.Val.{toZ, ofZ}
-use Rattle.settlement.specs.RowsLaws.{base-is}
+use Rattle.settlement.specs.RaisedLaws.{base-is}
 use Rattle.settlement.proofs.rows.baseline_of.Statement.{statement}
 use Rattle.settlement.proofs.rows.baseline_of.Tie as tie
 

@@ -2,7 +2,8 @@
 use native.Mathlib.Omega.{arith}
 use borrow.Author.Needs.{needs}
 use Rattle.volumes.specs.Settlement.{signed}
-use Rattle.settlement.specs.RowsLaws.{limited-is, above-up, above-down}
+use Rattle.settlement.specs.RaisedLaws.{above-up, above-down}
+use Rattle.settlement.specs.RowsLaws.{limited-is}
 use Rattle.settlement.proofs.rows.delivered.Statement.{statement}
 use Rattle.settlement.proofs.rows.delivered.Tie as tie
 

@@ -1,0 +1,35 @@
+-- What a raised baseline says of the readings that it is made of.
+use mathlib.Core.Path.{_≡_}
+use mathlib.Core.Bool.{true}
+use mathlib.Core.List.{List}
+use Prim.Native.Nat.{ℕ, _+_, _*_, _≤_, _<_}
+use lib.IntN.{ℤ, pos, _+ℤ_, _*ℤ_}
+use Rattle.integers.specs.Sums.{sumZ}
+use Rattle.integers.specs.Z.{Over}
+use Rattle.grains.specs.Grains.{grains, share}
+use Rattle.wire.specs.declared.Reading.{Reading}
+use Rattle.book.specs.declared.Calendar.{Calendar}
+use Rattle.book.specs.declared.Method.{Method}
+use Rattle.book.specs.declared.Method.the-variants.{LastQuarter, HighXOfY, Adjusted}
+use Rattle.volumes.specs.Baseline.{watts, complete}
+use Rattle.baseline.specs.Rows.{Lie}
+use Rattle.baseline.specs.Levels.{Adds}
+
+-- the mean of n readings and an addend, raised by 3 times 2^31 watts, where the addend is raised by 2^32
+pub record Raises (list : List Reading) (n add r : ℕ) : Type 0 where
+  pub level : (z : ℤ) → complete list ≡ true → Over (grains 4294967296) z add → Over (grains 6442450944) (sumZ watts list *ℤ pos (share n) +ℤ z) r
+  pub small : r ≤ grains 12884901887
+
+-- what each quarter-hour of the days needs to be read
+abbrev pub LieAll : List ℕ → List ℕ → Calendar → ℕ → ℕ → ℕ → ℕ → Type 0
+LieAll readings keys c base first n x = (k : ℕ) → k < n → Lie readings keys c base (first + k) 0 1 x
+
+-- what the days' windows need, where method 2 looks at them
+abbrev pub Adding : Method → List ℕ → List ℕ → Calendar → ℕ → ℕ → ℕ → Type 0
+Adding method readings keys c base first x = method ≡ Adjusted → Lie readings keys c base first 24 12 x
+
+-- method 2's addend; method 1 adds nothing
+pub record Added (method : Method) (own days : List Reading) (x r : ℕ) : Type 0 where
+  pub adjusted : method ≡ Adjusted → Adds own days x r
+  pub plain : method ≡ HighXOfY → r ≡ grains 4294967296
+  pub small : r ≤ grains 8589934592

@@ -1,0 +1,16 @@
+-- Levels in arithmetic: a mean's bias is one reading's, and biases cancel in a difference.
+use mathlib.Core.Path.{_≡_, sym, subst, _∙_}
+use Prim.Native.Nat.{ℕ, _+_, _-_, _*_, _≤_}
+use native.Mathlib.Nat.{mul-comm}
+use native.Mathlib.Omega.{arith}
+use lib.IntN.{ℤ, pos, _*ℤ_, _-ℤ_}
+use Rattle.integers.specs.Z.{Over, dif, mul}
+use Rattle.grains.specs.Grains.{perWatt, grains, grainsZ}
+
+-- a reading and 2^32 watts more
+pub lifted : (w : ℤ) (raised : ℕ) → Over 2147483648 w raised → Over (grains 6442450944) (grainsZ w) (grains raised + grains 4294967296)
+lifted w raised o = record { law = omega (arith, o .law, mul w perWatt) }
+
+-- a less b, 2^32 watts added, where both have one bias
+pub difference : (g y : ℕ) (z w : ℤ) (a b : ℕ) → Over g z a → Over g w b → b ≤ a + y → Over y (z -ℤ w) (a + y - b)
+difference g y z w a b o p h = record { law = omega (arith, o .law, p .law, dif z w) }

@@ -1,0 +1,85 @@
+-- What raised numbers stand for, as equations and in ℕ: their differences need no sign.
+use mathlib.Core.Path.{_≡_, refl, sym, ap, _∙_}
+use mathlib.Core.Logic.{⊎-elim}
+use mathlib.Core.Bool.{Bool, true, false, _&&_}
+use mathlib.Core.List.{List, map}
+use Prim.Native.Nat.{ℕ, zero, suc, _+_, _-_, _*_, _≤_, _<_}
+use native.Mathlib.Nat.{eq-or-lt-of-le}
+use native.Mathlib.Omega.{arith}
+use lib.Dec.{eqb}
+use lib.IntN.{ℤ, pos, negsuc, negℤ, _-ℤ_}
+use Rattle.integers.specs.Ranges.{range}
+use Rattle.integers.specs.Z.{up, dn, Over, over-sub, is-sub, mul, neg, dif}
+use Rattle.wire.specs.declared.Reading.{Reading}
+use Rattle.wire.specs.declared.Reading.the-variants.{Watts}
+use Rattle.wire.specs.Readings.{wattsAt, readingOf, readingAt, missingIf, Raised}
+use Rattle.wire.specs.ReadingsLaws.{raised-over}
+use Rattle.grains.specs.Grains.{perWatt, grains, grainsZ}
+use Rattle.volumes.specs.Baseline.{watts, known, complete}
+use Rattle.volumes.specs.Sound.{Bounded}
+use Rattle.volumes.specs.WidthsLaws.{most}
+use Rattle.settlement.specs.Raised.{bias, greatest, baselineOf, wattsOf}
+
+-- a baseline, raised
+pub over-base : (base : ℕ) → Over bias (baselineOf base) base
+unfolding baselineOf
+over-base base = over-sub base bias
+
+pub is-base : {z : ℤ} {base : ℕ} → Over bias z base → z ≡ baselineOf base
+unfolding baselineOf
+is-base h = is-sub h
+
+pub base-is : (base : ℕ) → pos base -ℤ pos bias ≡ baselineOf base
+base-is base = is-base (record { law = omega (arith, dif (pos base) (pos bias)) })
+
+-- that of an accepted book is not too great
+pub base-most : {z : ℤ} {base : ℕ} → Bounded (3 * most) z → Over bias z base → base ≤ greatest
+base-most h o = omega arith
+
+-- a reading, raised
+pub over-watts : (raised : ℕ) → Over 2147483648 (wattsOf raised) raised
+unfolding wattsOf
+over-watts raised = over-sub raised 2147483648
+
+pub is-watts : {w : ℤ} {raised : ℕ} → Over 2147483648 w raised → w ≡ wattsOf raised
+unfolding wattsOf
+is-watts h = is-sub h
+
+-- what the baseline is above the reading, and the reading above the baseline, 2^32 watts giving the reading the baseline's bias
+pub above-up : (base raised : ℕ) → up (baselineOf base -ℤ grainsZ (wattsOf raised)) ≡ base - grains (raised + 4294967296)
+above-up base raised =
+    let z = baselineOf base in
+    let w = wattsOf raised in
+    omega (arith, over-base base, over-watts raised, mul w perWatt, dif z (grainsZ w))
+
+pub above-down : (base raised : ℕ) → up (negℤ (baselineOf base -ℤ grainsZ (wattsOf raised))) ≡ grains (raised + 4294967296) - base
+above-down base raised =
+    let z = baselineOf base in
+    let w = wattsOf raised in
+    omega (arith, over-base base, over-watts raised, mul w perWatt, dif z (grainsZ w), neg (z -ℤ grainsZ w))
+
+-- a reading that is not missing has the watts of the raised one
+known-watts : (z : ℤ) → known (readingOf z) ≡ true → watts (readingOf z) ≡ z
+unfolding readingOf known watts
+known-watts (pos w) h = refl
+known-watts (negsuc w) h = go (eqb (suc w) 2147483648) h
+  where
+    go : (b : Bool) → known (missingIf b (Watts (negsuc w))) ≡ true → watts (missingIf b (Watts (negsuc w))) ≡ negsuc w
+    go true h = let z : _≡_ {A = ℕ} 0 1 = cc in absurd (omega arith)
+    go false h = refl
+
+pub raised-watts : {xs : List ℕ} {i r : ℕ} → Raised xs i r → known (readingAt xs i) ≡ true → wattsOf r ≡ watts (readingAt xs i)
+raised-watts {xs} {i} {r} h k =
+    ap wattsOf (h .is) ∙ sym (is-watts (raised-over (wattsAt xs i) (h .range))) ∙ sym (known-watts (wattsAt xs i) k)
+
+-- of readings none of which is missing, one
+pub both : (t u : Bool) → (t && u) ≡ true → (t ≡ true) × (u ≡ true)
+both true u h = (refl, h)
+both false u h = let z : _≡_ {A = ℕ} 0 1 = cc in absurd (omega arith)
+
+pub known-at : (f : ℕ → Reading) (a n i : ℕ) → complete (map f (range a n)) ≡ true → a ≤ i → i < a + n → known (f i) ≡ true
+unfolding range complete
+known-at f a zero i h p q = absurd (omega arith)
+known-at f a (suc n) i h p q =
+    let k = both (known (f a)) (complete (map f (range (suc a) n))) h in
+    ⊎-elim (λ e. rw (← e) (k .0)) (λ l. known-at f (suc a) n i (k .1) (omega arith) (omega arith)) (eq-or-lt-of-le p)
