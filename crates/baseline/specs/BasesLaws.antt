@@ -20,3 +20,7 @@ one-more P l k v h f p =
 
 pub raises : (list : List Reading) (n mean add : ℕ) → Means list n mean → add ≤ grains 8589934592 → Raises list n add (mean + add)
 raises list n mean add m h = record { level = λ z w o. over-add (grains 6442450944) (m .level w) o (omega arith); small = omega (arith, m .small) }
+
+-- two numbers are exchanged for equal ones
+pub subst-both : (P : ℕ → ℕ → Type 0) {a b c d : ℕ} → a ≡ b → c ≡ d → P a c → P b d
+subst-both P {a} {b} {c} {d} e f p = subst (λ (x : ℕ). P x d) e (subst (P a) f p)

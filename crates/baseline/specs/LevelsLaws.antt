@@ -1,4 +1,4 @@
--- What is read of the days that are taken is there, and is what the definitions look at.
+-- What is read of the days that are taken is what the definitions look at.
 use mathlib.Core.Path.{_≡_, refl, sym, ap, ap₂, subst, _∙_}
 use mathlib.Core.Bool.{Bool, true, false, not, _&&_}
 use mathlib.Core.List.{List, [], _∷_, _++_, map, flatMap}
@@ -17,9 +17,8 @@ use Rattle.book.specs.declared.Method.the-variants.{Adjusted}
 use Rattle.book.specs.Calendars.{dayStart, quartersOf}
 use Rattle.book.specs.Register.{excludes}
 use Rattle.book.specs.Book.{Book}
-use Rattle.volumes.specs.Quarters.{quarterHours, referenceQuarter, reference}
-use Rattle.volumes.specs.Baseline.{pointOf, known, complete, dayReading, dayReadings, dayWindow, windowed, eligible}
-use Rattle.volumes.specs.BaselineLaws.{complete-append}
+use Rattle.volumes.specs.Quarters.{referenceQuarter, reference}
+use Rattle.volumes.specs.Baseline.{pointOf, complete, dayReading, dayReadings, dayWindow, windowed, eligible}
 use Rattle.baseline.specs.Tally.{inRow}
 use Rattle.baseline.specs.Shown.{Shows, windowIn}
 use Rattle.baseline.specs.ShownLaws.{day-window, window-row, window-early}
@@ -30,31 +29,15 @@ halves : (a b : Bool) → (a && b) ≡ true → (a ≡ true) × (b ≡ true)
 halves true b e = (refl, e)
 halves false b e = let z : _≡_ {A = ℕ} 0 1 = cc in absurd (omega arith)
 
--- each reading of a list that is complete is known
-known-at : (f : ℕ → Reading) (a n k : ℕ) → complete (map f (range a n)) ≡ true → k < n → known (f (a + k)) ≡ true
-unfolding complete range
-known-at f a zero k h l = absurd (omega arith)
-known-at f a (suc n) zero h l = let e : a + 0 ≡ a = omega arith in rw e (halves (known (f a)) (complete (map f (range (suc a) n))) h .0)
-known-at f a (suc n) (suc k) h l = let e : a + suc k ≡ suc a + k = omega arith in rw e (known-at f (suc a) n k (halves (known (f a)) (complete (map f (range (suc a) n))) h .1) (omega arith))
-
-day-known : (book : Book) (e : Engagement) (k d : ℕ) → k < e .count → complete (dayReadings book e d) ≡ true → known (dayReading book e k d) ≡ true
-unfolding dayReadings quarterHours
-day-known book e k d h w = let z : 0 + k ≡ k = omega arith in rw z at (known-at (λ k. dayReading book e k d) 0 (e .count) k w h)
-
--- what an eligible day has
-pub record Has (book : Book) (e : Engagement) (d : ℕ) : Type 0 where
-  pub readings : complete (dayReadings book e d) ≡ true
-  pub window : windowed (pointOf book e .method) (dayWindow book e d) ≡ true
-
-pub has : (book : Book) (e : Engagement) (d : ℕ) → eligible book e d ≡ true → Has book e d
+-- an eligible day has its window where the method looks at it
+windowed-day : (book : Book) (e : Engagement) (d : ℕ) → eligible book e d ≡ true → windowed (pointOf book e .method) (dayWindow book e d) ≡ true
 unfolding eligible
-has book e d h =
+windowed-day book e d h =
     let w = windowed (pointOf book e .method) (dayWindow book e d) in
     let n = not (excludes (pointOf book e .mask) d) in
     let a = halves (eqb (book .category d) (book .category (e .day))) (n && (complete (dayReadings book e d) && w)) h in
     let b = halves n (complete (dayReadings book e d) && w) (a .1) in
-    let c = halves (complete (dayReadings book e d)) (windowed (pointOf book e .method) (dayWindow book e d)) (b .1) in
-    record { readings = c .0; window = c .1 }
+    halves (complete (dayReadings book e d)) w (b .1) .1
 
 module _ {c : Calendar} {calendar readings : List ℕ} {point : Point} {e : Engagement} {book : Book} (s : Shows c calendar readings point e book) where
   -- quarter-hour k of the days
@@ -69,18 +52,10 @@ module _ {c : Calendar} {calendar readings : List ℕ} {point : Point} {e : Enga
   quarter-rows k [] = refl
   quarter-rows k (d ∷ l) = ap₂ _∷_ (day-reading k d) (quarter-rows k l)
 
-  pub quarter-whole : (k : ℕ) (l : List ℕ) → k < e .count → All (Serves book e) l → complete (map (dayReading book e k) l) ≡ true
-  unfolding complete
-  quarter-whole k [] h g = refl
-  quarter-whole k (d ∷ l) h g = rw (one d (g .0 .good), quarter-whole k l h (g .1))
-    where
-      one : (d : ℕ) → eligible book e d ≡ true → known (dayReading book e k d) ≡ true
-      one d i = day-known book e k d h (has book e d i .readings)
-
   -- the windows of the days, where method 2 looks at them
   window-lies : (d : ℕ) → point .method ≡ Adjusted → eligible book e d ≡ true → complete (dayWindow book e d) ≡ true
   unfolding windowed
-  window-lies d m i = rw (ap (λ (p : Point). p .method) (s .owner) ∙ m) at (has book e d i .window)
+  window-lies d m i = rw (ap (λ (p : Point). p .method) (s .owner) ∙ m) at (windowed-day book e d i)
 
   pub window-inside : (d : ℕ) → point .method ≡ Adjusted → eligible book e d ≡ true → 24 ≤ dayStart c d + e .first
   window-inside d m i = go (ltb (dayStart c d + e .first) 24) refl
@@ -97,8 +72,3 @@ module _ {c : Calendar} {calendar readings : List ℕ} {point : Point} {e : Enga
   window-rows [] m g = refl
   window-rows (d ∷ l) m g =
       ap₂ _++_ (sym (day-window s d ∙ window-row readings (quartersOf c * e .point) (dayStart c d + e .first) (window-inside d m (g .0 .good)))) (window-rows l m (g .1))
-
-  pub window-whole : (l : List ℕ) → point .method ≡ Adjusted → All (Serves book e) l → complete (flatMap (dayWindow book e) l) ≡ true
-  unfolding flatMap complete
-  window-whole [] m g = refl
-  window-whole (d ∷ l) m g = complete-append (dayWindow book e d) (flatMap (dayWindow book e) l) ∙ ap₂ _&&_ (window-lies d m (g .0 .good)) (window-whole l m (g .1))

@@ -19,3 +19,5 @@ pub mod Levels
 pub mod LevelLaws
 pub mod Bases
 pub mod BasesLaws
+pub mod Filled
+pub mod FilledLaws

@@ -61,7 +61,7 @@ scan-more book e f d n r keys₀ keys t s g h k refers considered = go (t .whole
 -- a scan that has found y days, and one that has seen all days, have the y latest
 pub scan-full : (book : Book) (e : Engagement) (f y : ℕ) (keys : List ℕ) (n : ℕ) → Scanned book e f keys n → f ≤ e .day → n ≡ y → RankedTo book e y keys n
 unfolding eligibleDays
-scan-full book e f y keys n s h g = rw (scanned-full (eligible book e) (e .day) f y h (s .ranked .count ∙ g)) (s .ranked)
+scan-full book e f y keys n s h g = rw (scanned-full (eligible book e) (e .day) f y (s .ranked .count ∙ g)) (s .ranked)
 
 pub scan-few : (book : Book) (e : Engagement) (f y : ℕ) (keys : List ℕ) (n : ℕ) → Scanned book e f keys n → f ≡ 0 → n ≤ y → RankedTo book e y keys n
 unfolding eligibleDays

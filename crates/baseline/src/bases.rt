@@ -4,11 +4,14 @@ use book::Engagement;
 use book::Method;
 use book::Point;
 ghost use mathlib.Core.Path.{_≡_};
+ghost use mathlib.Core.Bool.{true, false};
 ghost use Prim.Native.Nat.{ℕ, _+_, _*_, _≤_, _<_};
 ghost use lib.ListN.{length, getD};
 ghost use Rattle.grains.specs.Grains.{grains};
 ghost use Rattle.baseline.specs.Shown.{windowIn};
 ghost use Rattle.baseline.specs.Rows.{daysIn, dayRows, Lie};
+ghost use Rattle.baseline.specs.Needs.{looksBack};
+ghost use Rattle.baseline.specs.Filled.{Accepts, Filled};
 ghost use Rattle.baseline.specs.Bases.{Raises, LieAll, Adding, Added};
 
 // One level for all quarter-hours.
@@ -64,5 +67,81 @@ pub fn addend_of(
         Method::LastQuarter => crate::levels::lift(),
         Method::HighXOfY => crate::levels::lift(),
         Method::Adjusted => crate::levels::addend_level(c, readings, keys, x, base, first, q),
+    }
+}
+
+// Methods 1 and 2: the days are ranked, and the first x of them taken.
+fn fill_days(
+    c: Calendar,
+    calendar: &[u8],
+    readings: &[u8],
+    point: Point,
+    e: Engagement,
+    x: usize,
+    y: usize,
+    bases: &mut [u64],
+)
+    requires { ⌜ Accepts c (now calendar) (now readings) point e x y × (looksBack (point .method) ≡ true) × (e .count ≤ length (now bases)) ⌝ }
+    ensures { λ r. ⌜ Filled c (now (calendar .entry)) (now (readings .entry)) point e x y (now (bases .exit)) ⌝ }
+{
+    let mut keys = [0u64; 20];
+    crate::ranking::rank_days(c, calendar, readings, point, e, y, &mut keys);
+    let base = crate::judge::base_of(c, e);
+    let q = crate::judge::start_of(c, e);
+    let first = e.first as usize;
+    let method = point.method;
+    let add = addend_of(c, readings, &keys, x, base, first, q, method);
+    fill_means(
+        c,
+        readings,
+        &keys,
+        x,
+        base,
+        first,
+        e.count as usize,
+        add,
+        bases,
+    );
+}
+
+// Method 0: one reading for all quarter-hours.
+fn fill_last(
+    c: Calendar,
+    calendar: &[u8],
+    readings: &[u8],
+    point: Point,
+    e: Engagement,
+    x: usize,
+    y: usize,
+    bases: &mut [u64],
+)
+    requires { ⌜ Accepts c (now calendar) (now readings) point e x y × (looksBack (point .method) ≡ false) × (e .count ≤ length (now bases)) ⌝ }
+    ensures { λ r. ⌜ Filled c (now (calendar .entry)) (now (readings .entry)) point e x y (now (bases .exit)) ⌝ }
+{
+    let base = crate::judge::base_of(c, e);
+    let q = crate::judge::start_of(c, e);
+    let level = crate::levels::last_level(readings, base, q, e.notice as usize + 1);
+    fill_flat(bases, e.count as usize, level);
+}
+
+// The raised baselines of an engagement that is not refused, in the first places.
+pub fn fill_bases(
+    c: Calendar,
+    calendar: &[u8],
+    readings: &[u8],
+    point: Point,
+    e: Engagement,
+    x: usize,
+    y: usize,
+    bases: &mut [u64],
+)
+    requires { ⌜ Accepts c (now calendar) (now readings) point e x y × (e .count ≤ length (now bases)) ⌝ }
+    ensures { λ r. ⌜ Filled c (now (calendar .entry)) (now (readings .entry)) point e x y (now (bases .exit)) ⌝ }
+{
+    let method = point.method;
+    if crate::judge::looks_back(method) {
+        fill_days(c, calendar, readings, point, e, x, y, bases);
+    } else {
+        fill_last(c, calendar, readings, point, e, x, y, bases);
     }
 }

@@ -80,7 +80,7 @@ fn readings_whole(
 }
 
 // Whether the method looks at reference days.
-fn looks_back(method: Method) -> bool
+pub fn looks_back(method: Method) -> bool
     ensures { λ r. ⌜ r ≡ looksBack method ⌝ }
 {
     match method {

@@ -1,12 +1,12 @@
 -- Formats made of formats: a tag before, a tag after, one after the other, other contents for the same bytes, a test.
 use mathlib.Core.Path.{_≡_, refl, sym, ap, _∙_}
-use mathlib.Core.Bool.{Bool, true, false}
+use mathlib.Core.Bool.{Bool, true, false, _&&_}
 use mathlib.Core.List.{List, _++_, append-assoc}
-use Prim.Native.Nat.{ℕ}
-use lib.ListN.{length, drop}
-use lib.Seq.{drop-append-seam}
+use Prim.Native.Nat.{ℕ, _+_}
+use lib.ListN.{length, drop, length-append}
+use lib.Seq.{drop-append-seam, drop-drop}
 use Rattle.text.specs.Tag.{begins}
-use Rattle.text.specs.TagLaws.{begins-append, begins-split}
+use Rattle.text.specs.TagLaws.{begins-append, begins-split, begins-both}
 use Rattle.formats.specs.Format.{Res, got, bad, Sound, Format, bind, pick}
 
 -- ---- a tag
@@ -25,6 +25,16 @@ strip-sound t s = go (begins t s) refl
 pub strip-complete : (t rest : List ℕ) → strip t (t ++ rest) ≡ got tt rest
 unfolding strip
 strip-complete t rest = rw (begins-append t rest) (ap (got tt) (drop-append-seam t rest))
+
+-- a tag of two parts is one after the other
+pub strip-both : (a b s : List ℕ) → strip (a ++ b) s ≡ bind (strip a s) (λ u r. strip b r)
+unfolding strip
+strip-both a b s = rw (begins-both a b s, length-append a b) (go (begins a s))
+  where
+    go : (t : Bool) → pick {A = Unit {0}} (t && begins b (drop (length a) s)) (got tt (drop (length a + length b) s))
+        ≡ bind (pick {A = Unit {0}} t (got tt (drop (length a) s))) (λ u r. pick (begins b r) (got tt (drop (length b) r)))
+    go true = ap (λ (r : List ℕ). pick {A = Unit {0}} (begins b (drop (length a) s)) (got tt r)) (sym (drop-drop (length b) (length a) s))
+    go false = refl
 
 -- ---- a tag before
 

@@ -1,11 +1,11 @@
 -- A reading from a place that may be missing to another: what straight-line code does, by the rules of the formats.
 use mathlib.Core.Path.{_≡_, refl, sym, ap, _∙_}
 use mathlib.Core.Bool.{Bool, true, false}
-use mathlib.Core.List.{List}
+use mathlib.Core.List.{List, _++_}
 use Prim.Native.Nat.{ℕ}
 use Rattle.formats.specs.Format.{Res, got, bad, bind, pick, ends}
 use Rattle.formats.specs.FormatLaws.{bind-assoc, ends-got, ends-bad}
-use Rattle.formats.specs.Combine.{strip, seqParse, preParse, postParse, mapParse, onlyParse}
+use Rattle.formats.specs.Combine.{strip, strip-both, seqParse, preParse, postParse, mapParse, onlyParse}
 
 -- f, read at x, ends at y with the value a; where nothing stands at x, or f isn't there, y is missing
 pub record Run {A : Type 0} (f : List ℕ → Res A) (x y : Res (Unit {0})) (a : A) : Type 0 where
@@ -37,6 +37,14 @@ module _ {A : Type 0} {f : List ℕ → Res A} (t : List ℕ) {x y z : Res (Unit
   pub run-pre : Run (strip t) x y tt → Run f y z a → Run (preParse t f) x z a
   unfolding preParse
   run-pre r k = record { run = onward (λ u q. f q) r ∙ k .run }
+
+-- a tag of two parts
+pub run-tags : (a b : List ℕ) {x y z : Res (Unit {0})} → Run (strip a) x y tt → Run (strip b) y z tt → Run (strip (a ++ b)) x z tt
+run-tags a b {x} r t = record { run = both x ∙ onward (λ u q. strip b q) r ∙ t .run }
+  where
+    both : (x : Res (Unit {0})) → bind x (λ u q. strip (a ++ b) q) ≡ bind x (λ u q. bind (strip a q) (λ u r. strip b r))
+    both bad = refl
+    both (got u q) = strip-both a b q
 
 module _ {A : Type 0} {f : List ℕ → Res A} (t : A → List ℕ) {x y z : Res (Unit {0})} {a : A} where
   pub run-post : Run f x y a → Run (strip (t a)) y z tt → Run (postParse f t) x z a

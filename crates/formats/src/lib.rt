@@ -4,7 +4,7 @@ ghost use mathlib.Core.Path.{_≡_};
 ghost use mathlib.Core.List.{[], _∷_, _++_};
 ghost use Prim.Native.Nat.{_+_, _≤_};
 ghost use lib.ListN.{length, drop};
-ghost use Rattle.text.specs.Decimal.{valueOf, plain};
+ghost use Rattle.text.specs.Decimal.{plain};
 ghost use Rattle.text.specs.Written.{Wrote};
 ghost use Rattle.formats.specs.Combine.{strip};
 ghost use Rattle.formats.specs.Words.{wordsParse};

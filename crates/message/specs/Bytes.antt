@@ -6,7 +6,7 @@ use lib.ListN.{length}
 use Rattle.text.specs.Ascii.{bytes}
 use Rattle.text.specs.Decimal.{fixed, plain}
 use Rattle.formats.specs.Words.{wordAt}
-use Rattle.calendar.specs.Dates.{offsetHours, nextYear, nextMonth}
+use Rattle.moments.specs.Moments.{momentBytes, periodStart, periodEnd}
 use Rattle.message.specs.declared.Kind.{Kind}
 use Rattle.message.specs.declared.Kind.the-variants.{Toe01, Toe02, Toe03}
 use Rattle.message.specs.Contents.{Observation, Series, Partner, File}
@@ -61,14 +61,11 @@ quantityBytes watts = plain (watts / 1000) ++ bytes "." ++ fixed 3 (watts % 1000
 unfoldable pub observationBytes : Observation → List ℕ
 observationBytes o = element "Observation" (element "Position" (plain (o .position)) ++ element "Quantity" (quantityBytes (o .watts)))
 
--- the first of a month, with its own date's offset
-unfoldable pub monthBytes : ℕ → ℕ → List ℕ
-monthBytes year month = fixed 4 year ++ bytes "-" ++ fixed 2 month ++ bytes "-01T00:00:00.000+" ++ fixed 2 (offsetHours year month 1) ++ bytes ":00"
-
+-- the period of a month: "Offset +02:00 from the last Sunday of March to that of October, else +01:00", of each end its own
 unfoldable pub periodBytes : ℕ → ℕ → List ℕ
 periodBytes year month =
-    element "PeriodStart" (monthBytes year month)
-    ++ element "PeriodEnd" (monthBytes (nextYear year month) (nextMonth month))
+    element "PeriodStart" (momentBytes (periodStart year month))
+    ++ element "PeriodEnd" (momentBytes (periodEnd year month))
     ++ element "PeriodResolution" (bytes "PT15M")
 
 -- "supply direction (0 off-take, 1 injection)", "direction (0 up, 1 down)", in case F's words

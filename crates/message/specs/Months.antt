@@ -11,7 +11,7 @@ use Rattle.formats.specs.Rising.{All, and-left, and-right, and-both}
 use Rattle.message.specs.declared.Kind.{Kind}
 use Rattle.message.specs.Contents.{Series, Partner}
 use Rattle.message.specs.Valid.{monthOf, periods, firstOf, IsSeries, IsPartner}
-use Rattle.message.specs.Forms.{follows, agree, after}
+use Rattle.message.specs.SeriesListForm.{follows, agree, after}
 use Rattle.message.specs.PartnerForm.{partnerForm, partner-to, partner-from}
 
 pub agree-append : (seen : ℕ × ℕ) (l m : List (ℕ × ℕ)) → agree seen (l ++ m) ≡ (agree seen l && agree (after seen l) m)

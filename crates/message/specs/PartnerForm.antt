@@ -16,7 +16,8 @@ use Rattle.message.specs.declared.Kind.the-variants.{Toe01, Toe02, Toe03
 use Rattle.message.specs.Contents.{Series, Partner}
 use Rattle.message.specs.Bytes.{opening, ending, closing, group, partner, digits, supplies, supplyBytes, supplyOf, inSeries, withPartner, seriesBytes, partnerBytes}
 use Rattle.message.specs.Valid.{monthOf, IsSeries, OneSupply, IsPartner}
-use Rattle.message.specs.Forms.{counted, counted-to, counted-from, apart-supplies, ownSeries, Supplied, sharedSeries, agree, seriesList}
+use Rattle.message.specs.SeriesForm.{counted, counted-to, counted-from, apart-supplies, ownSeries, Supplied, sharedSeries}
+use Rattle.message.specs.SeriesListForm.{agree, seriesList}
 
 -- a valid partner whose series are of the month that was seen
 pub record Partnered (k : Kind) (seen : ℕ × ℕ) (p : Partner) : Type 0 where
@@ -128,16 +129,11 @@ module _ (seen : ℕ × ℕ) where
   shared-from : (p : Partner) → Partnered Toe03 seen p → sharedPartnerBody .Ok (p .number, (supplyOf (p .series), (length (p .series), p .series)))
   unfolding sharedPartnerBody seriesList supplies
   shared-from p ok =
-      let i = ok .is in (
-        i .number,
-        (
-          supply-fits (p .series) (i .each) (i .counted .some),
-          (
-            counted-from (length (p .series)) (i .counted),
-            record { count = refl; rising = i .rising; each = to-supplied (supplyOf (p .series)) (p .series) (i .each) (i .one); agrees = ok .agrees },
-          ),
-        ),
-      )
+      let i = ok .is in
+      let x = supplyOf (p .series) in
+      let each = to-supplied x (p .series) (i .each) (i .one) in
+      let counter = counted-from (length (p .series)) (i .counted) in
+      (i .number, (supply-fits (p .series) (i .each) (i .counted .some), (counter, record { count = refl; rising = i .rising; each = each; agrees = ok .agrees })))
 
   shared-back : (p : ℕ × (ℕ × (ℕ × List Series))) → sharedPartnerBody .Ok p
       → _≡_ {A = ℕ × (ℕ × (ℕ × List Series))} (p .0, (supplyOf (p .1 .1 .1), (length (p .1 .1 .1), p .1 .1 .1))) p

@@ -1,12 +1,15 @@
 -- Which files are valid (document 01, "The file").
 use mathlib.Core.Path.{_≡_}
-use mathlib.Core.Bool.{Bool, true}
+use mathlib.Core.Bool.{Bool, true, false}
 use mathlib.Core.List.{List, [], _∷_, map, flatMap}
 use Prim.Native.Nat.{ℕ, _*_, _^_, _≤_, _<_}
 use lib.ListN.{length}
-use Rattle.formats.specs.Name.{nameByte, Name}
 use Rattle.formats.specs.Rising.{rises, All}
 use Rattle.calendar.specs.Dates.{monthLength}
+use Rattle.moments.specs.declared.Judged.{Judged}
+use Rattle.moments.specs.declared.Judged.the-variants.{Real, Malformed}
+use Rattle.moments.specs.Moments.{momentOf}
+use Rattle.moments.specs.Ids.{isTransactionId}
 use Rattle.message.specs.declared.Kind.{Kind}
 use Rattle.message.specs.declared.Kind.the-variants.{Toe01, Toe02, Toe03}
 use Rattle.message.specs.Contents.{Observation, Series, Partner, File, place, position, number}
@@ -64,6 +67,14 @@ pub record IsPartner (k : Kind) (p : Partner) : Type 0 where
   pub each : All IsSeries (p .series)
   pub one : OneSupply k (p .series)
 
+-- "moment in the form shown, a real date and time of 2018 to 2099, with either offset"
+abbrev pub isReal : Judged → Bool
+isReal (Real m) = true
+isReal Malformed = false
+
+abbrev pub isMoment : List ℕ → Bool
+isMoment s = isReal (momentOf s)
+
 -- the months of a file's series, and the file's: 0 and 0 where there is none
 abbrev pub monthOf : Series → ℕ × ℕ
 monthOf s = (s .year, s .month)
@@ -76,10 +87,10 @@ firstOf [] = (0, 0)
 firstOf (q ∷ l) = q
 
 -- "partners rise ... strictly", "All series of a file have the same period"
-pub record IsFile (isMoment : List ℕ → Bool) (f : File) : Type 0 where
+pub record IsFile (f : File) : Type 0 where
   pub receiver : f .receiver < 10 ^ 10
-  pub id : Name nameByte 1 36 60 (f .id)
-  pub moment : (length (f .moment) ≡ 29) × (isMoment (f .moment) ≡ true)
+  pub id : isTransactionId (f .id) ≡ true
+  pub moment : isMoment (f .moment) ≡ true
   pub fits : length (f .partners) ≤ most
   pub rising : rises 0 (map number (f .partners)) ≡ true
   pub each : All (IsPartner (f .kind)) (f .partners)

@@ -2,8 +2,9 @@ pub mod Raised
 pub mod RaisedLaws
 pub mod Rows
 pub mod RowsLaws
+pub mod StoresLaws
+pub mod FillLaws
 pub mod Sections
 pub mod SectionsLaws
-pub mod StoresLaws
 pub mod Verdicts
 pub mod VerdictsLaws

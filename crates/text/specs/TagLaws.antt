@@ -1,5 +1,5 @@
 -- A list begins with a tag exactly where it is the tag and something more.
-use mathlib.Core.Path.{_≡_, refl, ap, _∙_}
+use mathlib.Core.Path.{_≡_, refl, sym, ap, _∙_}
 use mathlib.Core.Bool.{Bool, true, false, _&&_}
 use mathlib.Core.List.{List, [], _∷_, _++_}
 use Prim.Native.Nat.{ℕ, _+_, _≤_, _<_}
@@ -10,6 +10,10 @@ use native.Mathlib.Omega.{arith}
 use native.Mathlib.Numerals.{add-one}
 use borrow.Author.Tests.{eq-eqb, eqb-true}
 use Rattle.text.specs.Tag.{begins}
+
+and-assoc : (a b c : Bool) → ((a && b) && c) ≡ (a && (b && c))
+and-assoc true b c = refl
+and-assoc false b c = refl
 
 pub begins-append : (t rest : List ℕ) → begins t (t ++ rest) ≡ true
 unfolding begins
@@ -28,6 +32,13 @@ begins-split (t ∷ ts) (x ∷ s) e = go (eqb x t) refl e (begins-split ts s)
 
 pub begins-length : (t s : List ℕ) → begins t s ≡ true → length t ≤ length s
 begins-length t s e = omega (arith, ap length (begins-split t s e), length-append t (drop (length t) s))
+
+-- a tag of two parts
+pub begins-both : (a b s : List ℕ) → begins (a ++ b) s ≡ (begins a s && begins b (drop (length a) s))
+unfolding begins
+begins-both [] b s = refl
+begins-both (t ∷ a) b [] = refl
+begins-both (t ∷ a) b (x ∷ s) = ap (λ (r : Bool). eqb x t && r) (begins-both a b s) ∙ sym (and-assoc (eqb x t) (begins a s) (begins b (drop (length a) s)))
 
 -- ---- one byte on: what a loop over a tag goes by
 

@@ -4,13 +4,18 @@ use mathlib.Core.List.{List, [], _∷_, _++_, append-assoc, append-nil}
 use Prim.Native.Nat.{ℕ, suc, _+_, _≤_, _<_}
 use native.Mathlib.Omega.{arith}
 use native.Mathlib.Nat.{add-zero, add-assoc, add-suc, suc-add}
-use lib.ListN.{length, take, drop, set, getD, length-append, length-drop, take-append-drop}
+use lib.ListN.{length, take, drop, set, getD, length-append, length-drop, take-append-drop, drop-of-length-le}
 use lib.Seq.{length-take-le, take-at, set-at, take-suc, take-add, drop-drop, drop-append-add, drop-cons}
 use Rattle.text.specs.Written.{written, Wrote}
 
 pub written-nil : (d : List ℕ) (at : ℕ) → written d at [] ≡ d
 unfolding written
 written-nil d at = simp (add-zero, append-nil, take-append-drop)
+
+-- a write of the whole list
+pub written-whole : (d bs : List ℕ) → length bs ≡ length d → written d 0 bs ≡ bs
+unfolding written
+written-whole d bs e = ap (λ (l : List ℕ). bs ++ l) (drop-of-length-le d {i = 0 + length bs} (omega arith)) ∙ append-nil bs
 
 length-head : (d : List ℕ) (at : ℕ) (bs : List ℕ) → at ≤ length d → length (take at d ++ bs) ≡ at + length bs
 length-head d at bs h = length-append (take at d) bs ∙ ap (λ (k : ℕ). k + length bs) (length-take-le at d h)

@@ -47,7 +47,7 @@ unfoldable pub watts : Reading → ℤ
 watts (Watts w) = w
 watts Missing = pos 0
 
--- no reading of these is missing
+-- a reading that isn't missing, and readings of which none is
 unfoldable pub known : Reading → Bool
 known (Watts w) = true
 known Missing = false

@@ -1,29 +1,27 @@
 -- Exactly X days are taken, those with the greatest sums; all results are whole grains; and what a loop over readings goes by.
 use mathlib.Core.Path.{_≡_, refl, sym, ap, ap₂, _∙_}
 use mathlib.Core.Logic.{_⊎_, inl, inr, ⊎-elim}
-use mathlib.Core.Bool.{Bool, true, false, cond, _&&_}
+use mathlib.Core.Bool.{Bool, true, false, _&&_, and-true}
 use mathlib.Core.List.{List, [], _∷_, _++_, map, flatMap, List·Memᴰ}
-use Prim.Native.Nat.{ℕ, zero, suc, _+_, _-_, _*_, _≤_, _<_, min}
+use Prim.Native.Nat.{ℕ, suc, _+_, _-_, _*_, _≤_, _<_}
 use native.Mathlib.Nat.{mul-assoc, mul-comm, add-mul, zero-mul}
 use native.Mathlib.Omega.{arith}
-use lib.Dec.{leb}
-use lib.IntN.{ℤ, pos, _+ℤ_, _-ℤ_, _*ℤ_}
-use lib.ListN.{length, take, length-take, length-map}
+use lib.IntN.{ℤ, pos, _+ℤ_, _-ℤ_, _*ℤ_, +ℤ-idr}
+use lib.ListN.{length, length-take, length-map}
 use lib.Signed.{_≤ℤ_}
 use borrow.Author.Tests.{le-leb, lt-leb}
 use Rattle.integers.specs.Z.{up, dn, eqZ, sum, dif, mul}
 use Rattle.integers.specs.Ranges.{range}
-use Rattle.integers.specs.Sums.{integers, sumBy, sumZ, sum-cong, sum-swap, sum-map, sum-flatMap}
+use Rattle.integers.specs.Sums.{integers, sumBy, sumZ, sum-append, sum-cong, sum-swap, sum-map, sum-flatMap}
 use Rattle.wire.specs.declared.Reading.{Reading}
-use Rattle.wire.specs.declared.Reading.the-variants.{Watts, Missing}
 use Rattle.grains.specs.Grains.{perWatt, grainsZ, share, Shares}
 use Rattle.grains.specs.GrainsLaws.{shares-x, shares-12x}
 use Rattle.book.specs.declared.Engagement.{Engagement}
 use Rattle.book.specs.Book.{Book}
 use Rattle.volumes.specs.Order.{le-library}
 use Rattle.volumes.specs.Quarters.{quarterHours}
-use Rattle.volumes.specs.QuartersLaws.{map-range-cong, length-flatMap}
-use Rattle.volumes.specs.Ranking.{ranked, sumOfLargest}
+use Rattle.volumes.specs.QuartersLaws.{map-range-next, map-range-cong, length-flatMap}
+use Rattle.volumes.specs.Ranking.{sumOfLargest}
 use Rattle.volumes.specs.RankingLaws.{length-ranked, largest}
 use Rattle.volumes.specs.Baseline.{watts, known, complete, mean, readingBefore, window, dayReading, dayReadings, ownWindow, dayWindow, eligibleDays, xOf, yOf, latest, daySum, taken, high, addend}
 
@@ -35,6 +33,15 @@ complete-append (r ∷ l) m = go (known r) (complete-append l m)
     go : (t : Bool) → complete (l ++ m) ≡ (complete l && complete m) → (t && complete (l ++ m)) ≡ ((t && complete l) && complete m)
     go true e = e
     go false e = refl
+
+-- one more reading
+pub complete-next : (f : ℕ → Reading) (a n : ℕ) → complete (map f (range a (suc n))) ≡ (complete (map f (range a n)) && known (f (a + n)))
+unfolding complete
+complete-next f a n = ap complete (map-range-next f a n) ∙ complete-append (map f (range a n)) (f (a + n) ∷ []) ∙ ap (λ t. complete (map f (range a n)) && t) (and-true (known (f (a + n))))
+
+pub watts-next : (f : ℕ → Reading) (a n : ℕ) → sumZ watts (map f (range a (suc n))) ≡ sumZ watts (map f (range a n)) +ℤ watts (f (a + n))
+unfolding sumBy
+watts-next f a n = ap (sumZ watts) (map-range-next f a n) ∙ sum-append integers watts (map f (range a n)) (f (a + n) ∷ []) ∙ ap (λ z. sumZ watts (map f (range a n)) +ℤ z) (+ℤ-idr (watts (f (a + n))))
 
 -- the 12 from quarter-hour q - 24 on, which lie in the calendar where q is 24 or more
 pub window-inside : (book : Book) (p q : ℕ) → 24 ≤ q → window book p q ≡ map (λ i. book .reading p (q - 24 + i)) (range 0 12)

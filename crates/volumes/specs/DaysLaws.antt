@@ -13,7 +13,7 @@ use Rattle.book.specs.declared.Engagement.{Engagement}
 use Rattle.book.specs.Book.{Book}
 use Rattle.volumes.specs.Ranking.{ranked}
 use Rattle.volumes.specs.RankingLaws.{insertLast, ranked-next}
-use Rattle.volumes.specs.Baseline.{eligible, before, keep, eligibleDays, yOf, latest}
+use Rattle.volumes.specs.Baseline.{before, keep, eligibleDays, yOf, latest}
 
 -- the days that pass a test among a - 1 down to d
 unfoldable pub scanned : (ℕ → Bool) → ℕ → ℕ → List ℕ
@@ -68,13 +68,13 @@ module _ (test : ℕ → Bool) where
     scanned-all = ap (keep test) (take-all (a - 0) (before a) (rw length-before (omega arith)))
 
     -- what is scanned comes first
-    scanned-first : (d : ℕ) → d ≤ a → keep test (before a) ≡ scanned test a d ++ keep test (drop (a - d) (before a))
+    scanned-first : (d : ℕ) → keep test (before a) ≡ scanned test a d ++ keep test (drop (a - d) (before a))
     unfolding scanned
-    scanned-first d h = ap (keep test) (sym (take-append-drop (a - d) (before a))) ∙ keep-append (take (a - d) (before a)) (drop (a - d) (before a))
+    scanned-first d = ap (keep test) (sym (take-append-drop (a - d) (before a))) ∙ keep-append (take (a - d) (before a)) (drop (a - d) (before a))
 
     -- so a scan that has found y days has the y latest, and one that ends with no more has all there are
-    pub scanned-full : (d y : ℕ) → d ≤ a → length (scanned test a d) ≡ y → take y (keep test (before a)) ≡ scanned test a d
-    scanned-full d y h e = ap (take y) (scanned-first d h) ∙ take-at (scanned test a d) (keep test (drop (a - d) (before a))) y e
+    pub scanned-full : (d y : ℕ) → length (scanned test a d) ≡ y → take y (keep test (before a)) ≡ scanned test a d
+    scanned-full d y e = ap (take y) (scanned-first d) ∙ take-at (scanned test a d) (keep test (drop (a - d) (before a))) y e
 
     pub scanned-few : (y : ℕ) → length (scanned test a 0) ≤ y → take y (keep test (before a)) ≡ scanned test a 0
     scanned-few y h = ap (take y) (sym scanned-all) ∙ take-all y (scanned test a 0) h

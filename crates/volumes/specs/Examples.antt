@@ -1,8 +1,8 @@
 -- P1 to P10 of document 01, "Checked examples", on books that have what each names; and further examples.
 use mathlib.Core.Path.{_≡_}
-use mathlib.Core.Bool.{Bool, true, false, cond, _&&_}
+use mathlib.Core.Bool.{cond, _&&_}
 use mathlib.Core.List.{List, [], _∷_, map, flatMap}
-use mathlib.Core.Option.{Option, none, some}
+use mathlib.Core.Option.{none}
 use Prim.Native.Nat.{ℕ, _+_, _*_, _/_, _%_}
 use lib.Dec.{eqb, leb}
 use lib.IntN.{ℤ, pos, negℤ}
@@ -24,15 +24,16 @@ use Rattle.book.specs.Refusals.{refused}
 use Rattle.book.specs.Book.{Book}
 use Rattle.volumes.specs.Baseline.{mean, ownWindow, dayWindow, latest, daySum, taken, high, addend, baseline}
 use Rattle.volumes.specs.Settlement.{settlementRefusal, delivered, fspCorrection, rows}
-use Rattle.volumes.specs.Series.{Toe01, Series, seriesWatts}
+use Rattle.volumes.specs.Sheets.{sheetAt, requestedVolume}
+use Rattle.volumes.specs.Series.{Toe01, Toe02, Toe03, Series, seriesWatts}
 
 -- "June 2021, L 3"
 unfoldable pub june : Calendar
 june = record { year = 2021; month = 6; lead = 3 }
 
--- "one point (supplier 3, FSP 7, off-take, transfer, .., mask 0": its EAN, method and largest watts each way
-unfoldable pub point : ℕ → Method → ℕ → Point
-point ean method most =
+-- "one point (supplier 3, FSP 7, off-take, transfer, .., mask 0": its parties, EAN, method and largest watts each way
+unfoldable pub pointFor : ℕ → ℕ → ℕ → Method → ℕ → Point
+pointFor source fsp ean method most =
     record {
       delivery = ean;
       access = 2;
@@ -41,12 +42,15 @@ point ean method most =
       mask = 0;
       upward = most;
       downward = most;
-      sourceparty = 10;
-      fspparty = 20;
+      sourceparty = source;
+      fspparty = fsp;
       situation = Transfer;
       supply = OffTake;
       method = method;
     }
+
+unfoldable pub point : ℕ → Method → ℕ → Point
+point = pointFor 10 20
 
 -- an engagement of a point on "day 3 from quarter-hour 0": count, direction, requested watts
 unfoldable pub engagement : ℕ → ℕ → Direction → ℕ → Engagement
@@ -83,11 +87,14 @@ unfoldable pub engagementF : Engagement
 engagementF = engagement 0 2 Up 3000
 
 -- "(X 2, Y 3), one point (.., method 1, mask 0, 5,000 W each way"; "First two readings of days 0 to 3: 10000 10000; 9000 9001; 8000 8000; 7000 7000."
-unfoldable pub caseF : Book
-caseF =
-    plain 2 3 (point 1 HighXOfY 5000 ∷ [])
+unfoldable pub bookF : Point → Book
+bookF p =
+    plain 2 3 (p ∷ [])
     (byQuarter ((10000 ∷ 10000 ∷ []) ∷ (9000 ∷ 9001 ∷ []) ∷ (8000 ∷ 8000 ∷ []) ∷ (7000 ∷ 7000 ∷ []) ∷ []))
     (engagementF ∷ [])
+
+unfoldable pub caseF : Book
+caseF = bookF (point 1 HighXOfY 5000)
 
 -- the upward series of these points, by supplier
 unfoldable pub series : Series
@@ -178,6 +185,10 @@ gap day y = plain 1 y (point 1 HighXOfY 5000 ∷ []) (λ d q. cond (eqb d day &&
 unfoldable pub turns : Book
 turns = book (λ d. d % 2) 1 1 (point 1 HighXOfY 5000 ∷ []) (byDay []) (one ∷ [])
 
+-- case F with one party in both columns
+unfoldable pub oneParty : Book
+oneParty = bookF (pointFor 10 10 1 HighXOfY 5000)
+
 pub record Further : Type 0 where
   -- "Y eligible days pass, Y - 1 give 9"; method 0 looks at none; day 0 has no 12 before the calendar
   pub enough : settlementRefusal (flat HighXOfY 3 (one ∷ [])) ≡ none
@@ -192,3 +203,14 @@ pub record Further : Type 0 where
   -- a day that misses a reading, or has another category, uses up no Y
   pub stepped-over : latest (gap 2 2) next ≡ 1 ∷ 0 ∷ []
   pub other-category : latest turns one ≡ 1 ∷ []
+  -- the quantities of case F's file, 2.500 twice, from either side; TOE03 has none
+  pub file-of-fsp : map (seriesWatts caseF Toe01 7 series) (1 ∷ 2 ∷ 3 ∷ []) ≡ 2500 ∷ 2500 ∷ 0 ∷ []
+  pub file-of-supplier : map (seriesWatts caseF Toe02 3 (record { partner = 7; supply = OffTake; delivery = Up })) (1 ∷ 2 ∷ 3 ∷ []) ≡ 2500 ∷ 2500 ∷ 0 ∷ []
+  pub file-by-access : map (seriesWatts caseF Toe03 3 (record { partner = 2; supply = OffTake; delivery = Up })) (1 ∷ 2 ∷ 3 ∷ []) ≡ 0 ∷ 0 ∷ 0 ∷ []
+  -- the sheets of both parties, upward and downward, and of one party that stands in both columns
+  pub sheet-of-source : map (sheetAt caseF 10) (1 ∷ 2 ∷ 3 ∷ []) ≡ pos 75600000 ∷ pos 75615120 ∷ pos 0 ∷ []
+  pub sheet-of-fsp : map (sheetAt caseF 20) (1 ∷ 2 ∷ 3 ∷ []) ≡ pos 15120000 ∷ pos 15104880 ∷ pos 0 ∷ []
+  pub sheets-down : (sheetAt (risen Down) 10 1 ≡ minus 400) × (sheetAt (risen Down) 20 1 ≡ minus 100)
+  pub sheet-of-both : map (sheetAt oneParty 10) (1 ∷ 2 ∷ 3 ∷ []) ≡ plus 3000 ∷ plus 3000 ∷ pos 0 ∷ []
+  -- "up less down"
+  pub requested : (map (requestedVolume caseF) (1 ∷ 2 ∷ 3 ∷ []) ≡ plus 3000 ∷ plus 3000 ∷ pos 0 ∷ []) × (requestedVolume (risen Down) 1 ≡ minus 500)

@@ -1,6 +1,6 @@
 -- The examples hold: each side computes to the other.
 use mathlib.Core.Path.{refl}
-use mathlib.Core.List.{flatMap}
+use mathlib.Core.List.{flatMap, zip, zipWith}
 use Rattle.integers.specs.Ranges.{range}
 use Rattle.integers.specs.Sums.{sumBy}
 use Rattle.integers.specs.Running.{upTo, floorAt}
@@ -9,12 +9,12 @@ use Rattle.volumes.specs.Quarters.{quarterHours, start, referenceQuarter
 use Rattle.volumes.specs.Ranking.{insert, ranked}
 use Rattle.volumes.specs.Baseline.{pointOf, watts, known, complete, mean, readingBefore, window, ownReading, dayReading, dayReadings, ownWindow, dayWindow, windowed, eligible, before, keep, eligibleDays, latest, daySum, taken, high, addend, lastReading, baselineBy, baseline}
 use Rattle.volumes.specs.Settlement.{neededBy, needed, tooFew, refusalNumber, rowRefusal, refusalFrom, settlementRefusal, requestedAt, limited, deliveredBy, delivered, signed, sourceCorrection, fspCorrection, corrections, row, rowsOf, rows}
-use Rattle.volumes.specs.Sheets.{covers, quarterAt}
+use Rattle.volumes.specs.Sheets.{covers, quarterAt, partiesOf, shareOf, correctionAt, sheetAt, requestedBy, requestedVolume}
 use Rattle.volumes.specs.Series.{takes, receiverOf, partnerOf, sameSupply, sameDirection, isPoint, isEngagement, grainsOf, grainsAt, seriesWatts}
-use Rattle.volumes.specs.Examples.{june, point, engagement, book, plain, byDay, byQuarter, engagementF, caseF, series, thirds, halves, risen, equalSums, shifted, windows, Checked, one, next, flat, gap, turns, Further}
+use Rattle.volumes.specs.Examples.{june, pointFor, point, engagement, book, plain, byDay, byQuarter, engagementF, bookF, caseF, series, thirds, halves, risen, equalSums, shifted, windows, Checked, one, next, flat, gap, turns, oneParty, Further}
 
 pub checked : Checked
-unfolding june point engagement book plain byDay byQuarter engagementF caseF series thirds halves risen equalSums shifted windows quarters dayStart quarterHours start referenceQuarter reference position insert ranked pointOf watts known complete mean readingBefore window ownReading dayReading dayReadings ownWindow dayWindow windowed eligible before keep eligibleDays latest daySum taken high addend lastReading baselineBy baseline neededBy needed tooFew refusalNumber rowRefusal refusalFrom settlementRefusal requestedAt limited deliveredBy delivered signed sourceCorrection fspCorrection corrections row rowsOf rows covers quarterAt takes receiverOf partnerOf sameSupply sameDirection isPoint isEngagement grainsOf grainsAt seriesWatts range sumBy upTo floorAt flatMap
+unfolding june pointFor point engagement book plain byDay byQuarter engagementF bookF caseF series thirds halves risen equalSums shifted windows quarters dayStart quarterHours start referenceQuarter reference position insert ranked pointOf watts known complete mean readingBefore window ownReading dayReading dayReadings ownWindow dayWindow windowed eligible before keep eligibleDays latest daySum taken high addend lastReading baselineBy baseline neededBy needed tooFew refusalNumber rowRefusal refusalFrom settlementRefusal requestedAt limited deliveredBy delivered signed sourceCorrection fspCorrection corrections row rowsOf rows covers quarterAt takes receiverOf partnerOf sameSupply sameDirection isPoint isEngagement grainsOf grainsAt seriesWatts range sumBy upTo floorAt flatMap
 checked =
     record {
       p1 = refl;
@@ -38,7 +38,7 @@ checked =
     }
 
 pub further : Further
-unfolding one next flat gap turns june point engagement book plain byDay quarters dayStart quarterHours start referenceQuarter reference position insert ranked pointOf watts known complete mean readingBefore window ownReading dayReading dayReadings ownWindow dayWindow windowed eligible before keep eligibleDays latest lastReading neededBy needed tooFew refusalNumber rowRefusal refusalFrom settlementRefusal range sumBy flatMap
+unfolding one next flat gap turns oneParty june pointFor point engagement book plain byDay byQuarter engagementF bookF caseF series thirds halves risen equalSums shifted windows quarters dayStart quarterHours start referenceQuarter reference position insert ranked pointOf watts known complete mean readingBefore window ownReading dayReading dayReadings ownWindow dayWindow windowed eligible before keep eligibleDays latest daySum taken high addend lastReading baselineBy baseline neededBy needed tooFew refusalNumber rowRefusal refusalFrom settlementRefusal requestedAt limited deliveredBy delivered signed sourceCorrection fspCorrection corrections row rowsOf rows covers quarterAt partiesOf shareOf correctionAt sheetAt requestedBy requestedVolume takes receiverOf partnerOf sameSupply sameDirection isPoint isEngagement grainsOf grainsAt seriesWatts range sumBy upTo floorAt flatMap zip zipWith
 further =
     record {
       enough = refl;
@@ -51,4 +51,12 @@ further =
       day-missing = refl;
       stepped-over = refl;
       other-category = refl;
+      file-of-fsp = refl;
+      file-of-supplier = refl;
+      file-by-access = refl;
+      sheet-of-source = refl;
+      sheet-of-fsp = refl;
+      sheets-down = (refl, refl);
+      sheet-of-both = refl;
+      requested = (refl, refl);
     }

@@ -1,20 +1,20 @@
 -- The sum of the n largest, by recursion: it grows with the keys, and by no more than all keys together do.
 use mathlib.Core.Path.{_≡_, refl, sym, ap, _∙_}
-use mathlib.Core.Logic.{_⊎_, ⊎-elim}
+use mathlib.Core.Logic.{⊎-elim}
 use mathlib.Core.Bool.{Bool, true, false, cond}
 use mathlib.Core.List.{List, [], _∷_, List·Memᴰ, List·Memᴰ·head, List·Memᴰ·tail, List·Memᴰ·cases-cons}
-use Prim.Native.Nat.{ℕ, zero, suc, _+_, _≤_, _<_}
+use Prim.Native.Nat.{ℕ, zero, suc, _≤_, _<_}
 use native.Mathlib.Nat.{eq-or-lt-of-le}
 use native.Mathlib.Omega.{arith}
 use lib.IntN.{ℤ, pos, _+ℤ_, _-ℤ_}
 use lib.ListN.{length, take}
 use lib.Seq.{take-length}
 use lib.Signed.{leZ}
-use Rattle.integers.specs.Z.{up, dn, eqZ, sum, dif, le-yes, le-no}
+use Rattle.integers.specs.Z.{eqZ, sum, dif, le-yes}
 use Rattle.integers.specs.Sums.{sumBy, sumZ}
 use Rattle.volumes.specs.Order.{Le, le-refl, le-trans, le-of-no, add-le, maxZ, max-left, max-right, over-left, over-right, max-under, max-add}
 use Rattle.volumes.specs.Ranking.{insert, ranked, sumOfLargest}
-use Rattle.volumes.specs.RankingLaws.{AtMost, Falling, none, next, falling-ranked, length-ranked}
+use Rattle.volumes.specs.RankingLaws.{AtMost, Falling, next, falling-ranked, length-ranked}
 
 module _ {ℓ} {A : Type ℓ} (key : A → ℤ) where
   -- one more of elements that are at most m

@@ -12,10 +12,14 @@ pub mod RankingLaws
 pub mod DaysLaws
 pub mod BaselineLaws
 pub mod SettlementLaws
+pub mod UsedLaws
 pub mod SheetsLaws
 pub mod SeriesLaws
 pub mod OwnPointLaws
 pub mod LargestLaws
+pub mod BookLaws
 pub mod SoundLaws
 pub mod WidthsLaws
+pub mod RaisedLaws
+pub mod RunningLaws
 pub mod ExamplesLaws

@@ -1,7 +1,7 @@
 -- An engagement's numbers and refusal depend on its own point, that point's readings and the tables alone.
-use mathlib.Core.Path.{_≡_, refl, ap, ap₂, _∙_}
+use mathlib.Core.Path.{_≡_, refl, ap, ap₂}
 use mathlib.Core.Bool.{cond}
-use mathlib.Core.List.{List, [], _∷_, _++_, map}
+use mathlib.Core.List.{[], _∷_, _++_, map}
 use mathlib.Core.Option.{none, some}
 use Prim.Native.Nat.{ℕ}
 use lib.IntN.{pos, _-ℤ_}

@@ -4,13 +4,13 @@ use mathlib.Core.Path.{_≡_, refl, ap, _∙_}
 use mathlib.Core.Logic.{_⊎_, inl, inr, ⊎-elim}
 use mathlib.Core.Bool.{Bool, true, false, cond}
 use mathlib.Core.List.{List, [], _∷_, _++_, List·Memᴰ, List·Memᴰ·head, List·Memᴰ·tail, List·Memᴰ·not-nil, List·Memᴰ·cases-cons, List·Memᴰ·append-cases}
-use Prim.Native.Nat.{ℕ, zero, suc}
+use Prim.Native.Nat.{ℕ, zero, suc, _≤_, _<_}
 use native.Mathlib.Omega.{arith}
 use lib.IntN.{ℤ}
-use lib.ListN.{length, take, drop, take-append-drop}
+use lib.ListN.{length, take, drop, getD, take-append-drop}
 use lib.Signed.{leZ}
 use Rattle.integers.specs.Z.{le-yes, le-no}
-use Rattle.volumes.specs.Order.{Le, le-trans, le-of-no}
+use Rattle.volumes.specs.Order.{Le, le-refl, le-trans, le-of-no}
 use Rattle.volumes.specs.Ranking.{insert, ranked}
 
 module _ {ℓ} {A : Type ℓ} (key : A → ℤ) where
@@ -111,6 +111,11 @@ le-all a b c p q r = omega (arith, le-yes a b p, le-yes b c q, le-no a c r)
 le-none : (a b c : ℤ) → leZ a b ≡ false → leZ b c ≡ false → leZ a c ≡ true → ⊥
 le-none a b c p q r = omega (arith, le-no a b p, le-no b c q, le-yes a c r)
 
+pub getD-mem {ℓ} : {A : Type ℓ} (z : A) (l : List A) (i : ℕ) → i < length l → List·Memᴰ (getD l i z) l
+getD-mem z [] i h = absurd (omega arith)
+getD-mem z (b ∷ l) zero h = List·Memᴰ·head refl
+getD-mem z (b ∷ l) (suc i) h = List·Memᴰ·tail (getD-mem z l i (omega arith))
+
 module _ {ℓ} {A : Type ℓ} (key : A → ℤ) where
   -- c comes in front of its equals, a behind its own: in either order
   insert-swap : (c a : A) (l : List A) → insert key c (insertLast key a l) ≡ insertLast key a (insert key c l)
@@ -135,3 +140,19 @@ module _ {ℓ} {A : Type ℓ} (key : A → ℤ) where
   unfolding ranked insert insertLast
   ranked-next [] a = refl
   ranked-next (c ∷ l) a = ap (insert key c) (ranked-next l a) ∙ insert-swap c a (ranked key l)
+
+  -- the place where a goes: behind j that are no smaller, before one that is
+  pub insert-last-at : (a z : A) (l : List A) (j : ℕ) → j ≤ length l → ((i : ℕ) → i < j → leZ (key a) (key (getD l i z)) ≡ true) → (j < length l → leZ (key a) (key (getD l j z)) ≡ false) → insertLast key a l ≡ take j l ++ (a ∷ drop j l)
+  unfolding insertLast
+  insert-last-at a z [] zero h front back = refl
+  insert-last-at a z [] (suc j) h front back = absurd (omega arith)
+  insert-last-at a z (b ∷ l) zero h front back = rw (back (omega arith))
+  insert-last-at a z (b ∷ l) (suc j) h front back = rw (front 0 (omega arith)) (ap (λ t. b ∷ t) (insert-last-at a z l j (omega arith) (λ i k. front (suc i) (omega arith)) (λ k. back (omega arith))))
+
+  -- in a falling list the earlier is no smaller
+  pub falling-at : (z : A) (l : List A) → Falling key l → (i j : ℕ) → i ≤ j → j < length l → Le (key (getD l j z)) (key (getD l i z))
+  falling-at z [] r i j h k = absurd (omega arith)
+  falling-at z (b ∷ l) r zero zero h k = le-refl (key b)
+  falling-at z (b ∷ l) (next f r) zero (suc j) h k = f (getD l j z) (getD-mem z l j (omega arith))
+  falling-at z (b ∷ l) r (suc i) zero h k = absurd (omega arith)
+  falling-at z (b ∷ l) (next f r) (suc i) (suc j) h k = falling-at z l r i j (omega arith) (omega arith)

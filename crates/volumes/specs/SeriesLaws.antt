@@ -1,19 +1,17 @@
 -- A series' watts add up to its grains rounded down once, a pair's TOE01 and TOE02 series are the same, and a kind takes what the register says.
 use mathlib.Core.Path.{_≡_, refl, ap, _∙_}
 use mathlib.Core.Bool.{Bool, true, false, cond, _&&_}
-use mathlib.Core.List.{List, [], _∷_}
 use Prim.Native.Nat.{ℕ, zero, suc, _≤_}
 use native.Mathlib.Omega.{arith}
 use lib.Dec.{eqb}
-use Rattle.integers.specs.Sums.{naturals, sumOf, sum-all}
-use Rattle.integers.specs.Running.{upTo, floorAt, telescope, floorAt-cong}
+use Rattle.integers.specs.Sums.{naturals, sum-all}
+use Rattle.integers.specs.Running.{upTo, telescope, floorAt-cong}
 use Rattle.grains.specs.Grains.{perWatt, wholeWatts}
 use Rattle.book.specs.declared.Situation.{Situation}
 use Rattle.book.specs.declared.Situation.the-variants.{Transfer, PassThrough, OptOut, NetInjector}
 use Rattle.book.specs.declared.Supply.{Supply}
 use Rattle.book.specs.declared.Direction.{Direction}
 use Rattle.book.specs.declared.Point.{Point}
-use Rattle.book.specs.declared.Engagement.{Engagement}
 use Rattle.book.specs.declared.register.Takers.{Takers}
 use Rattle.book.specs.declared.register.Takers.the-variants.{Aggregated, Individual, Neither, Refused}
 use Rattle.book.specs.Register.{situationOf, takersOf}

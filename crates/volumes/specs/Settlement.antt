@@ -1,5 +1,6 @@
 -- Document 01, "Delivered volume, corrections", and what a settling sends back.
-use mathlib.Core.Bool.{Bool, true, false, cond}
+use mathlib.Core.Path.{_≡_}
+use mathlib.Core.Bool.{Bool, false, cond}
 use mathlib.Core.List.{List, [], _∷_, _++_, map, flatMap}
 use mathlib.Core.Option.{Option, none, some}
 use Prim.Native.Nat.{ℕ, suc, _*_, min}
@@ -120,3 +121,7 @@ bookRefusal bytes = orElse (refusalOf bytes) (settlementRefusal (bookOf bytes))
 -- and 10 where the rows lent, so many numbers, are "shorter than the answer"
 unfoldable pub settlingRefusal : List ℕ → ℕ → Option Refusal
 settlingRefusal bytes lent = orElse (bookRefusal bytes) (unless (leb (rowWidth * rowCount (bookOf bytes)) lent) 10 none)
+
+-- "A book is accepted if settling with a long enough buffer doesn't refuse it."
+unfoldable pub Accepted : List ℕ → Type 0
+Accepted bytes = settlingRefusal bytes (rowWidth * rowCount (bookOf bytes)) ≡ none

@@ -1,14 +1,11 @@
 -- What a settling that is not refused has; refusals by row and rows by engagement, as loops over them go; and how many numbers there are.
-use mathlib.Core.Path.{_≡_, refl, sym, ap, ap₂, _∙_}
+use mathlib.Core.Path.{_≡_, refl, sym, ap, _∙_}
 use mathlib.Core.Logic.{⊎-elim}
 use mathlib.Core.Bool.{Bool, true, false, cond}
-use mathlib.Core.List.{List, [], _∷_, _++_, map, flatMap, append-nil, List·Memᴰ, List·Memᴰ·not-nil, List·Memᴰ·cases-cons}
+use mathlib.Core.List.{List, [], _∷_, _++_, flatMap, append-nil, List·Memᴰ, List·Memᴰ·not-nil, List·Memᴰ·cases-cons}
 use mathlib.Core.Option.{Option, none, some}
-use Prim.Native.Nat.{ℕ, zero, suc, _+_, _*_, _≤_, _<_}
-use native.Mathlib.Nat.{mul-add}
+use Prim.Native.Nat.{ℕ, suc, _+_, _*_, _≤_, _<_}
 use native.Mathlib.Omega.{arith}
-use lib.Dec.{ltb}
-use lib.IntN.{ℤ}
 use lib.ListN.{length, take, drop, getD, length-append, drop-of-length-le}
 use lib.Seq.{take-suc, drop-cons}
 use borrow.Author.Tests.{ltb-false, le-leb}
@@ -17,14 +14,14 @@ use Rattle.integers.specs.Sums.{naturals, sumBy, sumOf, sum-append}
 use Rattle.book.specs.declared.Method.{Method}
 use Rattle.book.specs.declared.Method.the-variants.{LastQuarter, HighXOfY, Adjusted}
 use Rattle.book.specs.declared.Engagement.{Engagement}
-use Rattle.book.specs.Refusals.{Refusal, refused}
+use Rattle.book.specs.Refusals.{Refusal}
 use Rattle.book.specs.Book.{Book, bookOf}
 use Rattle.book.specs.Judged.{refusalOf}
 use Rattle.volumes.specs.Quarters.{quarterHours}
 use Rattle.volumes.specs.QuartersLaws.{range-next, flatMap-append, length-flatMap}
 use Rattle.volumes.specs.Baseline.{pointOf, complete, eligibleDays, taken, xOf, yOf}
 use Rattle.volumes.specs.BaselineLaws.{taken-length}
-use Rattle.volumes.specs.Settlement.{needed, tooFew, refusalNumber, rowRefusal, refusalFrom, settlementRefusal, corrections, rowWidth, row, rowsOf, rows, rowCount, orElse, bookRefusal, settlingRefusal}
+use Rattle.volumes.specs.Settlement.{needed, tooFew, refusalNumber, rowRefusal, refusalFrom, settlementRefusal, corrections, rowWidth, row, rowsOf, rows, rowCount, orElse, bookRefusal, settlingRefusal, Accepted}
 
 -- an engagement that is not refused
 pub record Settles (book : Book) (e : Engagement) : Type 0 where
@@ -112,7 +109,7 @@ pub row-next : (book : Book) (e : Engagement) (k : ℕ) → flatMap (row book e)
 unfolding flatMap
 row-next book e k = ap (flatMap (row book e)) (range-next 0 k ∙ ap (λ n. range 0 k ++ (n ∷ [])) (omega arith)) ∙ flatMap-append (row book e) (range 0 k) (k ∷ []) ∙ ap (λ l. flatMap (row book e) (range 0 k) ++ l) (append-nil (row book e k))
 
--- "A book is accepted if settling with a long enough buffer doesn't refuse it.": refusals 1 to 9 decide
+-- with a buffer that is long enough refusals 1 to 9 decide
 pub settling-long : (bytes : List ℕ) (lent : ℕ) → rowWidth * rowCount (bookOf bytes) ≤ lent → settlingRefusal bytes lent ≡ bookRefusal bytes
 unfolding settlingRefusal orElse
 settling-long bytes lent h = rw (le-leb (rowWidth * rowCount (bookOf bytes)) lent h) (go (bookRefusal bytes))
@@ -121,15 +118,19 @@ settling-long bytes lent h = rw (le-leb (rowWidth * rowCount (bookOf bytes)) len
     go none = refl
     go (some r) = refl
 
--- such a book passes 1 to 7, and each of its engagements settles
-pub record Accepted (bytes : List ℕ) : Type 0 where
+pub accepted : (bytes : List ℕ) → Accepted bytes → bookRefusal bytes ≡ none
+unfolding Accepted
+accepted bytes a = sym (settling-long bytes (rowWidth * rowCount (bookOf bytes)) (omega arith)) ∙ a
+
+-- an accepted book passes 1 to 7, and is not refused with 8 or 9
+pub record Passing (bytes : List ℕ) : Type 0 where
   pub passed : refusalOf bytes ≡ none
   pub settled : settlementRefusal (bookOf bytes) ≡ none
 
-pub accepted : (bytes : List ℕ) → bookRefusal bytes ≡ none → Accepted bytes
+pub passing : (bytes : List ℕ) → bookRefusal bytes ≡ none → Passing bytes
 unfolding bookRefusal orElse
-accepted bytes e = go (refusalOf bytes) refl e
+passing bytes e = go (refusalOf bytes) refl e
   where
-    go : (r : Option Refusal) → refusalOf bytes ≡ r → orElse r (settlementRefusal (bookOf bytes)) ≡ none → Accepted bytes
+    go : (r : Option Refusal) → refusalOf bytes ≡ r → orElse r (settlementRefusal (bookOf bytes)) ≡ none → Passing bytes
     go none p e = record { passed = p; settled = e }
     go (some r) p e = let z : _≡_ {A = ℕ} 0 1 = cc in absurd (omega arith)

@@ -1,5 +1,5 @@
 -- Document 01, "Delivered volume, corrections, series": the sheets of balance parties, and the requested volume.
-use mathlib.Core.Bool.{Bool, true, false, cond, _&&_}
+use mathlib.Core.Bool.{Bool, cond, _&&_}
 use mathlib.Core.List.{List, [], _∷_, map, flatMap, zip}
 use Prim.Native.Nat.{ℕ, _+_, _-_}
 use lib.Dec.{eqb, leb, ltb}

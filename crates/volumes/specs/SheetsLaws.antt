@@ -1,18 +1,20 @@
 -- The corrections of a quarter-hour make up what was requested, so at each position all sheets sum to the requested volume.
-use mathlib.Core.Path.{_≡_, refl, sym, ap, _∙_}
+use mathlib.Core.Path.{_≡_, ap, _∙_}
 use mathlib.Core.Logic.{⊎-elim}
-use mathlib.Core.Bool.{Bool, true, false, cond}
-use mathlib.Core.List.{List, [], _∷_, map, flatMap, zip, zipWith, List·Memᴰ, List·Memᴰ·head, List·Memᴰ·tail, List·Memᴰ·not-nil, List·Memᴰ·cases-cons, Memᴰ·append-left, Memᴰ·append-right}
-use Prim.Native.Nat.{ℕ, zero, suc, _+_, _-_, _≤_, _<_}
+use mathlib.Core.Bool.{Bool, true, false, cond, and-false}
+use mathlib.Core.List.{List, [], _∷_, flatMap, zip, zipWith, List·Memᴰ, List·Memᴰ·head, List·Memᴰ·tail, List·Memᴰ·not-nil, List·Memᴰ·cases-cons, Memᴰ·append-left, Memᴰ·append-right}
+use Prim.Native.Nat.{ℕ, zero, suc, _+_, _≤_, _<_}
 use native.Mathlib.Omega.{arith}
-use lib.Dec.{eqb}
+use lib.Dec.{eqb, leb}
 use lib.IntN.{ℤ, pos, negℤ, _+ℤ_, _-ℤ_}
 use lib.ListN.{length, getD, length-map}
-use Rattle.integers.specs.Z.{up, dn, eqZ, sum, dif, neg}
+use borrow.Author.Tests.{le-leb, lt-leb, lt-ltb, le-ltb}
+use Rattle.integers.specs.Z.{eqZ, sum, dif, neg}
 use Rattle.integers.specs.Counts.{times}
 use Rattle.integers.specs.Ranges.{range, length-range}
 use Rattle.integers.specs.Sums.{integers, sumBy, sumZ, sum-zero, sum-cong, sum-swap, sum-once}
 use Rattle.integers.specs.Once.{Once}
+use Rattle.book.specs.declared.Calendar.{Calendar}
 use Rattle.book.specs.declared.Direction.{Direction}
 use Rattle.book.specs.declared.Direction.the-variants.{Up, Down}
 use Rattle.book.specs.declared.Point.{Point}
@@ -21,7 +23,7 @@ use Rattle.book.specs.Book.{Book}
 use Rattle.volumes.specs.Quarters.{monthQuarters}
 use Rattle.volumes.specs.Baseline.{noPoint, pointOf}
 use Rattle.volumes.specs.Settlement.{delivered, requestedAt, signed, sourceCorrection, fspCorrection, corrections}
-use Rattle.volumes.specs.Sheets.{covers, quarterAt, partiesOf, parties, shareOf, correctionAt, sheetAt, sheet, requestedBy, requestedVolume}
+use Rattle.volumes.specs.Sheets.{startPosition, covers, quarterAt, partiesOf, parties, shareOf, correctionAt, sheetAt, sheet, requestedBy, requestedVolume}
 
 -- the corrections of a quarter-hour make up what was requested
 two : (d : Direction) (r v : ℤ) → signed d v +ℤ (signed d (r -ℤ v) +ℤ pos 0) ≡ signed d r
@@ -77,3 +79,25 @@ balance book ps once inside p = sheets-of book ps (λ e m party k. once .once pa
 pub sheet-length : (book : Book) (party : ℕ) → length (sheet book party) ≡ monthQuarters (book .calendar)
 unfolding sheet
 sheet-length book party = length-map (range 1 (monthQuarters (book .calendar))) (sheetAt book party) ∙ length-range 1 (monthQuarters (book .calendar))
+
+-- an engagement covers its own positions and no others
+pub covers-inside : (c : Calendar) (e : Engagement) (k : ℕ) → k < e .count → covers c e (startPosition c e + k) ≡ true
+unfolding covers
+covers-inside c e k h = rw (le-leb (startPosition c e) (startPosition c e + k) (omega arith), lt-ltb (startPosition c e + k) (startPosition c e + e .count) (omega arith))
+
+pub covers-before : (c : Calendar) (e : Engagement) (p : ℕ) → p < startPosition c e → covers c e p ≡ false
+unfolding covers
+covers-before c e p h = rw (lt-leb (startPosition c e) p h)
+
+pub covers-after : (c : Calendar) (e : Engagement) (p : ℕ) → startPosition c e + e .count ≤ p → covers c e p ≡ false
+unfolding covers
+covers-after c e p h = rw (le-ltb p (startPosition c e + e .count) h) (and-false (leb (startPosition c e) p))
+
+pub quarter-at : (c : Calendar) (e : Engagement) (k : ℕ) → quarterAt c e (startPosition c e + k) ≡ k
+unfolding quarterAt
+quarter-at c e k = omega arith
+
+-- what an engagement adds to a sheet at its quarter-hour k
+pub correction-inside : (book : Book) (party : ℕ) (e : Engagement) (k : ℕ) → k < e .count → correctionAt book party (startPosition (book .calendar) e + k) e ≡ shareOf party (zip (partiesOf (pointOf book e)) (corrections book e k))
+unfolding correctionAt
+correction-inside book party e k h = rw (covers-inside (book .calendar) e k h, quarter-at (book .calendar) e k)

@@ -1,5 +1,5 @@
 -- What a book has that passes refusals 1 to 7 (document 01, "The book"): the ranges on which its volumes rest.
-use mathlib.Core.List.{List, List·Memᴰ}
+use mathlib.Core.List.{List·Memᴰ}
 use Prim.Native.Nat.{ℕ, _+_, _^_, _≤_, _<_}
 use lib.ListN.{length}
 use lib.IntN.{ℤ}

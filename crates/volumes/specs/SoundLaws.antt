@@ -2,16 +2,16 @@
 use mathlib.Core.Path.{_≡_, refl, sym, ap, _∙_}
 use mathlib.Core.Logic.{⊎-elim}
 use mathlib.Core.Bool.{Bool, true, false, cond, not, _&&_, _||_, false≢true, and-eq-true-iff}
-use mathlib.Core.List.{List, [], _∷_, map, List·Memᴰ, List·Memᴰ·not-nil, List·Memᴰ·cases-cons, Memᴰ·of-map}
+use mathlib.Core.List.{List, [], _∷_, List·Memᴰ, List·Memᴰ·not-nil, List·Memᴰ·cases-cons, Memᴰ·of-map}
 use mathlib.Core.Option.{Option, none, some}
-use Prim.Native.Nat.{ℕ, zero, suc, _+_, _*_, _^_, _≤_, _<_, min}
-use native.Mathlib.Nat.{mul-assoc, mul-le-mul-left}
+use Prim.Native.Nat.{ℕ, zero, suc, _+_, _*_, _^_, _≤_, _<_}
+use native.Mathlib.Nat.{mul-assoc}
 use native.Mathlib.Omega.{arith}
 use lib.Dec.{eqb, leb, ltb}
-use lib.IntN.{ℤ, pos, negsuc, negℤ}
-use lib.ListN.{length, take, drop, length-take, length-map, drop-of-length-le, List·getD-eq-default}
+use lib.IntN.{ℤ, pos, negℤ}
+use lib.ListN.{length, length-take, length-map, drop-of-length-le, List·getD-eq-default}
 use lib.Signed.{leZ}
-use borrow.Author.Tests.{eqb-true, eqb-false, leb-true, ltb-true, leb-false, ltb-false, not-true, not-false}
+use borrow.Author.Tests.{eqb-true, eqb-false, leb-true, ltb-true, ltb-false, not-true, not-false}
 use Rattle.integers.specs.First.{first, anyBelow, any-of}
 use Rattle.integers.specs.Ranges.{range, length-range}
 use Rattle.integers.specs.Z.{up, dn, one-0, le-yes}
@@ -20,7 +20,7 @@ use Rattle.wire.specs.Readings.{readingAt, readingOf}
 use Rattle.wire.specs.declared.Reading.{Reading}
 use Rattle.wire.specs.declared.Reading.the-variants.{Watts, Missing}
 use Rattle.book.specs.Calendars.{daysOf, quarters, quartersOf}
-use Rattle.book.specs.Header.{calendarOf, pointCount, engagementCount, between, headerGood, layoutGood, lengthOf, offsetOf, isPair, sizes, pointWidth, engagementWidth, calendarSection, pairSection, registerSection, readingSection, engagementSection}
+use Rattle.book.specs.Header.{calendarOf, pointCount, engagementCount, between, headerGood, layoutGood, lengthOf, offsetOf, pointWidth, engagementWidth, calendarSection, pairSection, registerSection, readingSection, engagementSection}
 use Rattle.book.specs.HeaderLaws.{headed, adjoins}
 use Rattle.book.specs.Tables.{categoryAt, xAt, yAt, badDay, calendarGood, pairGood, pairsGood}
 use Rattle.book.specs.Register.{pointAt, registerRow, deliveryIn, accessIn, supplierIn, fspIn, maskIn, upwardIn, downwardIn, numbersGood, bytesGood, notAbove, differs, badPoint}
@@ -29,7 +29,7 @@ use Rattle.book.specs.declared.Calendar.{Calendar}
 use Rattle.book.specs.Engagements.{engagementOf, engagementAt, engagementRow, pointIn, dayIn, firstIn, countIn, directionIn, noticeIn, requestedIn, placeGood, termsGood, outOfOrder, badEngagement}
 use Rattle.book.specs.Refusals.{Refusal, refused, unless, unlessFound}
 use Rattle.book.specs.Judged.{clockChangeIn, rowsRefusal, sectionsRefusal, refusalOf}
-use Rattle.book.specs.Book.{Book, bookOf}
+use Rattle.book.specs.Book.{bookOf}
 use Rattle.book.specs.declared.Point.{Point}
 use Rattle.book.specs.declared.Engagement.{Engagement}
 use Rattle.volumes.specs.Baseline.{watts}

@@ -1,22 +1,22 @@
 -- Every number of a sound book fits its width: readings, limits and requests are at most 10^9 watts, and at most three of them add up to a number
 -- of a row, and two for each engagement to one of a sheet.
-use mathlib.Core.Path.{_≡_, refl, sym, ap, _∙_}
+use mathlib.Core.Path.{_≡_, refl}
 use mathlib.Core.Logic.{⊎-elim}
 use mathlib.Core.Bool.{Bool, true, false, cond}
 use mathlib.Core.List.{List, [], _∷_, map, flatMap, zip, zipWith, List·Memᴰ, List·Memᴰ·head, List·Memᴰ·tail, List·Memᴰ·not-nil, List·Memᴰ·append-cases, Memᴰ·of-map}
-use Prim.Native.Nat.{ℕ, zero, suc, _+_, _-_, _*_, _/_, _^_, _≤_, _<_, min}
-use native.Mathlib.Nat.{mul-assoc, mul-comm, mul-zero, mul-suc, mul-le-mul-left, mul-le-mul-right, div-mul-le-self}
+use Prim.Native.Nat.{ℕ, zero, suc, _+_, _-_, _*_, _^_, _≤_, _<_}
+use native.Mathlib.Nat.{mul-assoc, mul-comm, mul-suc, mul-le-mul-left, mul-le-mul-right, div-mul-le-self}
 use native.Mathlib.Omega.{arith}
 use lib.Dec.{eqb, leb}
 use lib.IntN.{ℤ, pos, negsuc, negℤ, _+ℤ_, _-ℤ_, _*ℤ_}
 use lib.ListN.{length, getD}
 use mir.Syntax.{w64}
 use mir.Val.{SFits}
-use Rattle.integers.specs.Z.{up, dn, one-0, sum, dif, neg, mul, sfits}
+use Rattle.integers.specs.Z.{one-0, sum, dif, neg, mul, sfits}
 use Rattle.integers.specs.Ranges.{range}
 use Rattle.integers.specs.Sums.{sumBy, sumZ}
 use Rattle.wire.specs.declared.Reading.{Reading}
-use Rattle.wire.specs.declared.Reading.the-variants.{Watts, Missing}
+use Rattle.wire.specs.declared.Reading.the-variants.{Missing}
 use Rattle.grains.specs.Grains.{perWatt, grains, grainsZ, share}
 use Rattle.book.specs.declared.Method.{Method}
 use Rattle.book.specs.declared.Method.the-variants.{LastQuarter, HighXOfY, Adjusted}
@@ -27,7 +27,7 @@ use Rattle.book.specs.declared.Engagement.{Engagement}
 use Rattle.book.specs.Book.{Book}
 use Rattle.volumes.specs.Quarters.{start, reference}
 use Rattle.volumes.specs.Baseline.{noPoint, pointOf, watts, mean, readingBefore, window, dayReading, ownReading, ownWindow, dayWindow, taken, high, addend, lastReading, baselineBy, baseline}
-use Rattle.volumes.specs.Settlement.{requestedAt, limited, deliveredBy, delivered, signed, sourceCorrection, fspCorrection, corrections, row}
+use Rattle.volumes.specs.Settlement.{requestedAt, limited, deliveredBy, delivered, signed, sourceCorrection, fspCorrection, corrections}
 use Rattle.volumes.specs.Sheets.{covers, quarterAt, partiesOf, shareOf, correctionAt, sheetAt}
 use Rattle.volumes.specs.Sound.{Bounded, Limited, OnTerms, Sound}
 

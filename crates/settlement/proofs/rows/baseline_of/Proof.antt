@@ -1,7 +1,6 @@
 -- The difference of the raised baseline and the bias is the baseline; both are far below 2^63.
 use mathlib.Core.Path.{_≡_, ap, _∙_}
 use lib.IntN.{pos, _-ℤ_}
-use native.Mathlib.Omega.{arith}
 use borrow.Author.Needs.{needs}
 use mir.Syntax.{w64}
 use mir.Val.{toZ, ofZ}

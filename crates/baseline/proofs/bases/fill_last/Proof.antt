@@ -1,0 +1,67 @@
+-- The one reading of method 0 is there, so it lies in the calendar.
+use mathlib.Core.Path.{_≡_, refl, subst}
+use Prim.Native.Nat.{ℕ, _+_}
+use Rattle.baseline.specs.Shown.{beforeIn}
+use Rattle.baseline.specs.ShownLaws.{stands}
+use Rattle.baseline.specs.Levels.{Lasts}
+use Rattle.baseline.specs.BasesLaws.{subst-both}
+use Rattle.baseline.specs.FilledLaws.{last-inside, method-0, by-last}
+use native.Mathlib.Omega.{arith}
+use borrow.Author.Needs.{needs}
+use Rattle.baseline.proofs.bases.fill_last.Statement.{statement}
+use Rattle.baseline.proofs.bases.fill_last.Tie as tie
+
+base-of-requires : tie.Need-base-of-requires
+base-of-requires c κs = (c .before .before .before .pre .0 .fits .ranged, c .before .before .before .pre .0 .fits .few)
+
+start-of-requires : tie.Need-start-of-requires
+start-of-requires c κs = let s = c .before .before .before .before in
+    let a = s .pre .0 in
+    let m = stands (s .args .c) (s .args .calendar .now) (s .args .readings .now) (s .args .e) (s .args .e .day) (a .fits) (a .fits .day) in
+    m .early
+
+cast-last-level : tie.Need-cast-last-level
+cast-last-level c = search needs
+
+add-last-level : tie.Need-add-last-level
+add-last-level c = search needs
+
+last-level-requires : tie.Need-last-level-requires
+last-level-requires c κs = let s = c .before .before .before .before .before .before in
+    let a = s .pre .0 in
+    let m = stands (s .args .c) (s .args .calendar .now) (s .args .readings .now) (s .args .e) (s .args .e .day) (a .fits) (a .fits .day) in
+    let w = last-inside (a .settled) (method-0 (a .settled) (s .args .point .method) refl (s .pre .1)) in
+    (omega (arith, m .base, c .before .before .base-of .ensures), omega (arith, m .inside, m .few, c .before .start-of .ensures), omega arith, omega (arith, w, c .before .start-of .ensures), omega (arith, m .roomy, c .before .before .base-of .ensures, c .before .start-of .ensures))
+
+cast-fill-flat : tie.Need-cast-fill-flat
+cast-fill-flat c = search needs
+
+fill-flat-requires : tie.Need-fill-flat-requires
+fill-flat-requires c κs = search needs
+
+same-length : tie.Need-same-length
+same-length c = search needs
+
+returns : tie.Need-returns
+returns c = let s = c .before .before .before .before .before .before .before .before .before .before .before .before in
+    let level = c .before .before .before .before .before .last-level in
+    let here = c .before .before .fill-flat .ensures in
+    let lasts = subst-both (λ (b q : ℕ). Lasts (beforeIn (s .args .readings .now) b q (s .args .e .notice + 1)) (level .result)) (c .before .before .before .before .before .before .before .before .base-of .ensures) (c .before .before .before .before .before .before .before .start-of .ensures) (level .ensures) in
+    record {
+      small = λ k h. omega (arith, here k h, level .ensures .small);
+      levels = λ book settled k h. rw (here k h) (by-last settled k (level .result) (method-0 settled (s .args .point .method) refl (s .pre .1)) lasts);
+    }
+
+pub fill-last-spec : {M : Type 1} → statement M
+fill-last-spec =
+    tie.close
+    (tie.spec
+    base-of-requires
+    start-of-requires
+    cast-last-level
+    add-last-level
+    last-level-requires
+    cast-fill-flat
+    fill-flat-requires
+    same-length
+    returns)

@@ -1,0 +1,181 @@
+-- From the levels that are read to the baselines that document 01 states.
+use mathlib.Core.Path.{_≡_, refl, sym, ap, ap₂, subst, _∙_}
+use mathlib.Core.Bool.{Bool, true, false, cond}
+use mathlib.Core.List.{List, [], _∷_, map, flatMap}
+use Prim.Native.Nat.{ℕ, zero, suc, _+_, _-_, _*_, _%_, _≤_, _<_}
+use native.Mathlib.Omega.{arith}
+use lib.Dec.{leb}
+use lib.IntN.{ℤ, pos, _+ℤ_, _-ℤ_, _*ℤ_, +ℤ-idr}
+use lib.ListN.{length, take, getD, length-map, length-take, List·getD-map}
+use lib.Seq.{getD-take}
+use borrow.Author.Tests.{ltb-false, leb-true}
+use Rattle.integers.specs.Sums.{sumZ}
+use Rattle.integers.specs.Z.{Over}
+use Rattle.grains.specs.Grains.{grains, grainsZ, share}
+use Rattle.wire.specs.Readings.{readingAt}
+use Rattle.wire.specs.declared.Reading.{Reading}
+use Rattle.wire.specs.declared.Reading.the-variants.{Missing}
+use Rattle.book.specs.declared.Calendar.{Calendar}
+use Rattle.book.specs.declared.Engagement.{Engagement}
+use Rattle.book.specs.declared.Point.{Point}
+use Rattle.book.specs.declared.Method.{Method}
+use Rattle.book.specs.declared.Method.the-variants.{LastQuarter, HighXOfY, Adjusted}
+use Rattle.book.specs.Calendars.{daysOf, dayStart, quartersOf}
+use Rattle.book.specs.Book.{Book}
+use Rattle.volumes.specs.Quarters.{start, reference}
+use Rattle.volumes.specs.QuartersLaws.{length-flatMap}
+use Rattle.volumes.specs.Baseline.{pointOf, watts, known, complete, mean, dayReading, dayWindow, ownWindow, lastReading, taken, high, addend, baselineBy, baseline, eligibleDays, yOf, xOf, latest}
+use Rattle.volumes.specs.BaselineLaws.{window-12}
+use Rattle.volumes.specs.Settlement.{tooFew, refusalNumber}
+use Rattle.volumes.specs.SettlementLaws.{Settles, settles}
+use Rattle.volumes.specs.UsedLaws.{high-complete, windows-complete, own-window-complete, last-known}
+use Rattle.baseline.specs.Shown.{Shows, Fits, beforeIn, windowIn}
+use Rattle.baseline.specs.ShownLaws.{own-window, before-at, start-at, Stands, stands}
+use Rattle.baseline.specs.Rows.{daysIn, dayRows, Lies, Lie}
+use Rattle.baseline.specs.Levels.{Lasts, Adds}
+use Rattle.baseline.specs.LevelsLaws.{quarter-rows, window-rows, window-inside}
+use Rattle.baseline.specs.Ranks.{RankedTo}
+use Rattle.baseline.specs.Taken.{All, Serves, Took}
+use Rattle.baseline.specs.TakenLaws.{took}
+use Rattle.baseline.specs.Needs.{looksBack}
+use Rattle.baseline.specs.Bases.{Raises, Added}
+use Rattle.baseline.specs.Filled.{Settled}
+
+enough : (book : Book) (e : Engagement) (m : Method) → looksBack m ≡ true → tooFew m (yOf book e) (length (eligibleDays book e)) ≡ false → yOf book e ≤ length (eligibleDays book e)
+unfolding looksBack tooFew
+enough book e LastQuarter b f = let z : _≡_ {A = ℕ} 0 1 = cc in absurd (omega arith)
+enough book e HighXOfY b f = ltb-false (length (eligibleDays book e)) (yOf book e) f
+enough book e Adjusted b f = ltb-false (length (eligibleDays book e)) (yOf book e) f
+
+own-length : (book : Book) (e : Engagement) → length (ownWindow book e) ≡ 12
+unfolding ownWindow
+own-length book e = window-12 book (e .point) (start (book .calendar) e)
+
+day-length : (book : Book) (e : Engagement) (d : ℕ) → length (dayWindow book e d) ≡ 12
+unfolding dayWindow
+day-length book e d = window-12 book (e .point) (reference (book .calendar) e d 0)
+
+known-inside : (readings : List ℕ) (base q n : ℕ) → known (beforeIn readings base q n) ≡ true → n ≤ q
+unfolding known
+known-inside readings base q n h = go (leb n q) refl h
+  where
+    go : (b : Bool) → leb n q ≡ b → known (cond b (readingAt readings (base + (q - n))) Missing) ≡ true → n ≤ q
+    go true e k = leb-true n q e
+    go false e k = let z : _≡_ {A = ℕ} 0 1 = cc in absurd (omega arith)
+
+all-at : (P : ℕ → Type 0) (l : List ℕ) (j : ℕ) → All P l → j < length l → P (getD l j 0)
+all-at P [] j h i = absurd (omega arith)
+all-at P (d ∷ l) zero h i = h .0
+all-at P (d ∷ l) (suc j) h i = all-at P l j (h .1) (omega arith)
+
+module _ {c : Calendar} {calendar readings : List ℕ} {point : Point} {e : Engagement} {x y : ℕ} {book : Book} (s : Settled c calendar readings point e x y book) where
+  method-is : pointOf book e .method ≡ point .method
+  method-is = ap (λ (p : Point). p .method) (s .shows .owner)
+
+  -- the ranking has its Y days, and the first X keys tell the days that are taken
+  pub took-days : (keys : List ℕ) (n : ℕ) → looksBack (point .method) ≡ true → x ≤ y → RankedTo book e y keys n → Took book e keys x
+  took-days keys n back few r = took book e keys x y n r (s .takes) (s .wants) (omega (arith, r .count, length-take y (eligibleDays book e), enough book e (point .method) back (rw method-is at (settles book e (s .good) .enough)), s .wants)) few
+
+  -- a quarter-hour's mean
+  pub high-level : (keys : List ℕ) (k add r : ℕ) (z : ℤ) → Took book e keys x → k < e .count → Over (grains 4294967296) z add
+      → Raises (dayRows readings c (quartersOf c * e .point) (e .first + k) 0 1 (daysIn keys x)) x add r → Over (grains 6442450944) (high book e k +ℤ z) r
+  unfolding high mean
+  high-level keys k add r z t h o raises =
+      let rows : dayRows readings c (quartersOf c * e .point) (e .first + k) 0 1 (daysIn keys x) ≡ map (dayReading book e k) (taken book e) = ap (dayRows readings c (quartersOf c * e .point) (e .first + k) 0 1) (t .days) ∙ quarter-rows (s .shows) k (taken book e) in
+      let count : length (map (dayReading book e k) (taken book e)) ≡ x = length-map (taken book e) (dayReading book e k) ∙ t .count in
+      rw count (subst (λ (l : List Reading). Over (grains 6442450944) (sumZ watts l *ℤ pos (share x) +ℤ z) r) rows (raises .level z (ap complete rows ∙ high-complete book e k h) o))
+
+  -- method 2's addend
+  pub addend-level-is : (keys : List ℕ) (r : ℕ) → Took book e keys x → point .method ≡ Adjusted
+      → Adds (windowIn readings (quartersOf c * e .point) (dayStart c (e .day) + e .first)) (dayRows readings c (quartersOf c * e .point) (e .first) 24 12 (daysIn keys x)) x r → Over (grains 4294967296) (addend book e) r
+  unfolding addend mean
+  addend-level-is keys r t m adds =
+      let own = sym (own-window (s .shows)) in
+      let rows = ap (dayRows readings c (quartersOf c * e .point) (e .first) 24 12) (t .days) ∙ window-rows (s .shows) (taken book e) m (t .each) in
+      let mine : length (ownWindow book e) ≡ 12 = own-length book e in
+      let count : length (flatMap (dayWindow book e) (taken book e)) ≡ 12 * x = length-flatMap 12 (dayWindow book e) (λ d. day-length book e d) (taken book e) ∙ ap (λ (n : ℕ). 12 * n) (t .count) in
+      let here = method-is ∙ m in
+      rw (mine, count)
+      (subst (λ (l : List Reading). Over (grains 4294967296) (sumZ watts (ownWindow book e) *ℤ pos (share 12) -ℤ sumZ watts l *ℤ pos (share (12 * x))) r) rows
+      (subst (λ (l : List Reading). Over (grains 4294967296) (sumZ watts l *ℤ pos (share 12) -ℤ sumZ watts (dayRows readings c (quartersOf c * e .point) (e .first) 24 12 (daysIn keys x)) *ℤ pos (share (12 * x))) r) own
+      (adds .level (ap complete own ∙ own-window-complete book e (settles book e (s .good)) here) (ap complete rows ∙ windows-complete book e here))))
+
+  -- what the methods make of these
+  pub by-mean : (keys : List ℕ) (k add r : ℕ) → Took book e keys x → point .method ≡ HighXOfY → k < e .count → add ≡ grains 4294967296
+      → Raises (dayRows readings c (quartersOf c * e .point) (e .first + k) 0 1 (daysIn keys x)) x add r → Over (grains 6442450944) (baseline book e k) r
+  unfolding baseline baselineBy
+  by-mean keys k add r t m h a raises =
+      rw (method-is ∙ m) (rw (+ℤ-idr (high book e k)) at (high-level keys k add r (pos 0) t h (record { law = omega arith }) raises))
+
+  pub by-addend : (keys : List ℕ) (k add r : ℕ) → Took book e keys x → point .method ≡ Adjusted → k < e .count
+      → Adds (windowIn readings (quartersOf c * e .point) (dayStart c (e .day) + e .first)) (dayRows readings c (quartersOf c * e .point) (e .first) 24 12 (daysIn keys x)) x add
+      → Raises (dayRows readings c (quartersOf c * e .point) (e .first + k) 0 1 (daysIn keys x)) x add r → Over (grains 6442450944) (baseline book e k) r
+  unfolding baseline baselineBy
+  by-addend keys k add r t m h adds raises = rw (method-is ∙ m) (high-level keys k add r (addend book e) t h (addend-level-is keys add t m adds) raises)
+
+  last-is : lastReading book e ≡ beforeIn readings (quartersOf c * e .point) (dayStart c (e .day) + e .first) (e .notice + 1)
+  unfolding lastReading
+  last-is = before-at (s .shows) (start (book .calendar) e) (e .notice + 1) ∙ ap (λ (q : ℕ). beforeIn readings (quartersOf c * e .point) q (e .notice + 1)) (start-at (s .shows))
+
+  last-there : point .method ≡ LastQuarter → known (beforeIn readings (quartersOf c * e .point) (dayStart c (e .day) + e .first) (e .notice + 1)) ≡ true
+  last-there m = ap known (sym last-is) ∙ last-known book e (settles book e (s .good)) (method-is ∙ m)
+
+  pub last-inside : point .method ≡ LastQuarter → e .notice + 1 ≤ dayStart c (e .day) + e .first
+  last-inside m = known-inside readings (quartersOf c * e .point) (dayStart c (e .day) + e .first) (e .notice + 1) (last-there m)
+
+  pub by-last : (k r : ℕ) → point .method ≡ LastQuarter → Lasts (beforeIn readings (quartersOf c * e .point) (dayStart c (e .day) + e .first) (e .notice + 1)) r → Over (grains 6442450944) (baseline book e k) r
+  unfolding baseline baselineBy
+  by-last k r m lasts = rw (method-is ∙ m, last-is) (lasts .level (last-there m))
+
+  -- the days that are taken can be read
+  pub serves-at : (keys : List ℕ) → Took book e keys x → x ≤ length keys → (j : ℕ) → j < x → Serves book e (getD keys j 0 % 64)
+  serves-at keys t h j i =
+      let day : getD (daysIn keys x) j 0 ≡ getD keys j 0 % 64 = List·getD-map (λ k. k % 64) (take x keys) j 0 ∙ ap (λ (k : ℕ). k % 64) (getD-take x keys j 0 i) in
+      subst (Serves book e) day (all-at (Serves book e) (daysIn keys x) j (rw (t .days) (t .each)) (omega (arith, length-map (take x keys) (λ k. k % 64), length-take x keys)))
+
+  pub lie-quarters : (keys : List ℕ) → Fits c calendar readings e → Took book e keys x → x ≤ 10 → x ≤ length keys → (k : ℕ) → k < e .count → Lie readings keys c (quartersOf c * e .point) (e .first + k) 0 1 x
+  lie-quarters keys f t few room k h =
+      let own = stands c calendar readings e (e .day) f (f .day) in
+      record {
+        start = omega (arith, own .base);
+        quarter = omega (arith, own .short);
+        short = omega arith;
+        few = few;
+        some = room;
+        lies = λ j i.
+            let v = serves-at keys t room j i in
+            let m = stands c calendar readings e (getD keys j 0 % 64) f (omega (arith, v .early, f .day)) in
+            record { early = v .small; from = omega arith; room = omega (arith, m .roomy) };
+      }
+
+  pub lie-windows : (keys : List ℕ) → Fits c calendar readings e → Took book e keys x → x ≤ 10 → x ≤ length keys → point .method ≡ Adjusted → Lie readings keys c (quartersOf c * e .point) (e .first) 24 12 x
+  lie-windows keys f t few room w =
+      let own = stands c calendar readings e (e .day) f (f .day) in
+      record {
+        start = omega (arith, own .base);
+        quarter = omega (arith, own .short);
+        short = omega arith;
+        few = few;
+        some = room;
+        lies = λ j i.
+            let v = serves-at keys t room j i in
+            let m = stands c calendar readings e (getD keys j 0 % 64) f (omega (arith, v .early, f .day)) in
+            let q = window-inside (s .shows) (getD keys j 0 % 64) w (v .good) in
+            record { early = v .small; from = q; room = omega (arith, m .roomy) };
+      }
+
+  -- methods 1 and 2 together
+  pub by-days : (keys : List ℕ) (k add r : ℕ) (m : Method) → point .method ≡ m → looksBack m ≡ true → Took book e keys x → k < e .count
+      → Added m (windowIn readings (quartersOf c * e .point) (dayStart c (e .day) + e .first)) (dayRows readings c (quartersOf c * e .point) (e .first) 24 12 (daysIn keys x)) x add
+      → Raises (dayRows readings c (quartersOf c * e .point) (e .first + k) 0 1 (daysIn keys x)) x add r → Over (grains 6442450944) (baseline book e k) r
+  unfolding looksBack
+  by-days keys k add r LastQuarter m b t h a raises = let z : _≡_ {A = ℕ} 0 1 = cc in absurd (omega arith)
+  by-days keys k add r HighXOfY m b t h a raises = by-mean keys k add r t m h (a .plain refl) raises
+  by-days keys k add r Adjusted m b t h a raises = by-addend keys k add r t m h (a .adjusted refl) raises
+
+  -- and method 0
+  pub method-0 : (m : Method) → point .method ≡ m → looksBack m ≡ false → point .method ≡ LastQuarter
+  unfolding looksBack
+  method-0 LastQuarter m b = m
+  method-0 HighXOfY m b = let z : _≡_ {A = ℕ} 0 1 = cc in absurd (omega arith)
+  method-0 Adjusted m b = let z : _≡_ {A = ℕ} 0 1 = cc in absurd (omega arith)

@@ -1,0 +1,103 @@
+-- The rows of a valid file's partners give these partners, and the partners of rows give these rows.
+use mathlib.Core.Path.{_≡_, refl, sym, ap, ap₂, _∙_}
+use mathlib.Core.Bool.{true, _&&_}
+use mathlib.Core.List.{List, [], _∷_, _++_, map, flatMap}
+use Prim.Native.Nat.{ℕ, _≤_}
+use lib.ListN.{length, length-append, length-map}
+use lib.Dec.{eqb}
+use native.Mathlib.Omega.{arith}
+use borrow.Author.Tests.{eqb-true}
+use Rattle.formats.specs.Rising.{rises, All, all-map, and-left, and-right}
+use Rattle.message.specs.declared.Kind.{Kind}
+use Rattle.message.specs.Contents.{Observation, Series, Partner, place, number}
+use Rattle.message.specs.Valid.{monthOf, periods, firstOf, IsSeries, IsPartner}
+use Rattle.message.specs.Keys.{numberKeys, pairKeys}
+use Rattle.message.specs.Group.{group, spread, spread-group, group-spread, rising-groups, first-group}
+use Rattle.message.specs.Rows.{Row, seriesRows, partnerRows, rowsOf, seriesOf, partnerOf, partnersOf}
+
+map-undo : {A B : Type 0} (f : A → B) (g : B → A) (l : List A) → All (λ a. g (f a) ≡ a) l → map g (map f l) ≡ l
+unfolding All
+map-undo f g [] h = refl
+map-undo f g (a ∷ l) h = ap₂ _∷_ (h .0) (map-undo f g l (h .1))
+
+all-of : {A : Type 0} (P : A → Type 0) → ((a : A) → P a) → (l : List A) → All P l
+unfolding All
+all-of P h [] = tt
+all-of P h (a ∷ l) = (h a, all-of P h l)
+
+-- ---- rows, their partners, and rows again
+
+partner-undo : (q : ℕ × ℕ) (g : ℕ × List ((ℕ × ℕ) × Observation)) → partnerRows (partnerOf q g) ≡ g
+partner-undo q g =
+    ap (λ (l : List ((ℕ × ℕ) × Observation)). (g .0, l))
+    (ap spread (map-undo (seriesOf q) seriesRows (group pairKeys (g .1)) (all-of _ (λ h. refl) (group pairKeys (g .1)))) ∙ spread-group pairKeys (g .1))
+
+pub rows-undo : (q : ℕ × ℕ) (rows : List Row) → rowsOf (partnersOf q rows) ≡ rows
+unfolding rowsOf partnersOf
+rows-undo q rows =
+    ap spread (map-undo (partnerOf q) partnerRows (group numberKeys rows) (all-of _ (partner-undo q) (group numberKeys rows))) ∙ spread-group numberKeys rows
+
+-- ---- partners of one month, their rows, and the partners again
+
+one-place : (a b : Series) → (eqb (a .supply) (b .supply) && eqb (a .delivery) (b .delivery)) ≡ true → place a ≡ place b
+one-place a b e =
+    let x = eqb-true (a .supply) (b .supply) (and-left (eqb (a .supply) (b .supply)) (eqb (a .delivery) (b .delivery)) e) in
+    let y = eqb-true (a .delivery) (b .delivery) (and-right (eqb (a .supply) (b .supply)) (eqb (a .delivery) (b .delivery)) e) in
+    omega arith
+
+series-undo : (q : ℕ × ℕ) (l : List Series) → rises 0 (map place l) ≡ true → All IsSeries l → All (λ (s : Series). monthOf s ≡ q) l
+    → map (seriesOf q) (group pairKeys (spread (map seriesRows l))) ≡ l
+series-undo q l r v m =
+    ap (map (seriesOf q)) (group-spread pairKeys (map seriesRows l) (rising-groups pairKeys seriesRows place one-place 0 l r (all-map (λ s h. h .volume .counted .some) l v)))
+    ∙ map-undo seriesRows (seriesOf q) l (all-map (λ s e. ap (λ (p : ℕ × ℕ). seriesOf p (seriesRows s)) (sym e)) l m)
+
+-- a partner has rows
+pub some-rows : (l : List Series) → 1 ≤ length l → All IsSeries l → 1 ≤ length (spread (map seriesRows l))
+unfolding spread flatMap All
+some-rows [] h v = absurd (omega arith)
+some-rows (s ∷ l) h v =
+    let f : Observation → (ℕ × ℕ) × Observation = λ o. ((s .supply, s .delivery), o) in
+    omega (arith, length-append (map f (s .observations)) (spread (map seriesRows l)), length-map (s .observations) f, v .0 .volume .counted .some)
+
+all-left : {A : Type 0} (P : A → Type 0) (l m : List A) → All P (l ++ m) → All P l
+unfolding All
+all-left P [] m h = tt
+all-left P (a ∷ l) m h = (h .0, all-left P l m (h .1))
+
+all-right : {A : Type 0} (P : A → Type 0) (l m : List A) → All P (l ++ m) → All P m
+unfolding All
+all-right P [] m h = h
+all-right P (a ∷ l) m h = all-right P l m (h .1)
+
+all-back : (q : ℕ × ℕ) (l : List Series) → All (λ x. x ≡ q) (map monthOf l) → All (λ (s : Series). monthOf s ≡ q) l
+unfolding All
+all-back q [] h = tt
+all-back q (s ∷ l) h = (h .0, all-back q l (h .1))
+
+partner-again : (k : Kind) (q : ℕ × ℕ) (ps : List Partner) → All (IsPartner k) ps → All (λ x. x ≡ q) (periods ps) → All (λ (p : Partner). partnerOf q (partnerRows p) ≡ p) ps
+unfolding All periods flatMap
+partner-again k q [] v m = tt
+partner-again k q (p ∷ ps) v m =
+    let months = all-back q (p .series) (all-left (λ x. x ≡ q) (map monthOf (p .series)) (periods ps) m) in (
+      ap (λ (l : List Series). record { number = p .number; series = l }) (series-undo q (p .series) (v .0 .rising) (v .0 .each) months),
+      partner-again k q ps (v .1) (all-right (λ x. x ≡ q) (map monthOf (p .series)) (periods ps) m),
+    )
+
+pub partners-undo : (k : Kind) (q : ℕ × ℕ) (ps : List Partner) → rises 0 (map number ps) ≡ true → All (IsPartner k) ps → All (λ x. x ≡ q) (periods ps)
+    → partnersOf q (rowsOf ps) ≡ ps
+unfolding rowsOf partnersOf
+partners-undo k q ps r v m =
+    ap (map (partnerOf q))
+    (group-spread numberKeys (map partnerRows ps)
+    (rising-groups numberKeys partnerRows number (λ a b e. eqb-true (a .number) (b .number) e) 0 ps r (all-map (λ p h. some-rows (p .series) (h .counted .some) (h .each)) ps v)))
+    ∙ map-undo partnerRows (partnerOf q) ps (partner-again k q ps v m)
+
+-- ---- the month
+
+-- partners that are made of rows are of the month q
+pub first-month : (q : ℕ × ℕ) (x : Row) (rows : List Row) → firstOf (periods (partnersOf q (x ∷ rows))) ≡ q
+unfolding partnersOf periods flatMap firstOf
+first-month q x rows =
+    let a = first-group numberKeys x rows in
+    let b = first-group pairKeys (x .1) (a .more) in
+    rw (a .is) (rw (b .is) refl)

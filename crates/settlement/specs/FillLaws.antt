@@ -1,0 +1,48 @@
+-- The readings from the engagement's first on are its own, and none is missing where it is not refused.
+use mathlib.Core.Path.{_≡_, refl, sym, ap, ap₂, _∙_}
+use mathlib.Core.Bool.{true}
+use mathlib.Core.List.{List, [], _∷_, map}
+use Prim.Native.Nat.{ℕ, _+_, _*_, _<_}
+use native.Mathlib.Omega.{arith}
+use lib.ListN.{getD}
+use Rattle.integers.specs.Ranges.{range}
+use Rattle.wire.specs.Readings.{readingAt}
+use Rattle.wire.specs.declared.Reading.{Reading}
+use Rattle.book.specs.declared.Calendar.{Calendar}
+use Rattle.book.specs.declared.Engagement.{Engagement}
+use Rattle.book.specs.declared.Point.{Point}
+use Rattle.book.specs.Calendars.{dayStart, quartersOf}
+use Rattle.book.specs.Book.{Book}
+use Rattle.volumes.specs.Quarters.{start, quarterHours}
+use Rattle.volumes.specs.Baseline.{pointOf, complete, ownReading, baseline}
+use Rattle.volumes.specs.BaselineLaws.{complete-append}
+use Rattle.volumes.specs.Settlement.{neededBy, needed, rowsOf}
+use Rattle.volumes.specs.SettlementLaws.{Settles, settles}
+use Rattle.volumes.specs.QuartersLaws.{map-range-cong}
+use Rattle.baseline.specs.Shown.{Shows}
+use Rattle.baseline.specs.ShownLaws.{start-at}
+use Rattle.baseline.specs.Filled.{Settled, Filled}
+use Rattle.settlement.specs.Rows.{readingsFrom, rowsFrom}
+use Rattle.settlement.specs.RaisedLaws.{both}
+use Rattle.settlement.specs.RowsLaws.{rows-from}
+
+module _ {c : Calendar} {calendar readings : List ℕ} {point : Point} {e : Engagement} {x y : ℕ} {book : Book} (s : Settled c calendar readings point e x y book) where
+  pub own-at : (first : ℕ) → first ≡ quartersOf c * e .point + (dayStart c (e .day) + e .first) → (k : ℕ) → readingAt readings (first + k) ≡ ownReading book e k
+  unfolding ownReading
+  own-at first f k =
+      let q = start-at (s .shows) in
+      let place : first + k ≡ quartersOf c * e .point + (start (book .calendar) e + k) = omega arith in
+      ap (readingAt readings) place ∙ sym (s .shows .reading (e .point) (start (book .calendar) e + k))
+
+  pub own-whole : (first : ℕ) → first ≡ quartersOf c * e .point + (dayStart c (e .day) + e .first) → complete (readingsFrom e readings first) ≡ true
+  unfolding needed quarterHours
+  own-whole first f =
+      let own = map (ownReading book e) (range 0 (e .count)) in
+      let other = neededBy (pointOf book e .method) book e in
+      ap complete (map-range-cong (λ k. readingAt readings (first + k)) (ownReading book e) 0 (e .count) (λ k _ _. own-at first f k))
+      ∙ both (complete own) (complete other) (sym (complete-append own other) ∙ settles book e (s .good) .known) .0
+
+  pub rows-are : (bases : List ℕ) (first : ℕ) → Filled c calendar readings point e x y bases → first ≡ quartersOf c * e .point + (dayStart c (e .day) + e .first) → rowsFrom e point bases readings first ≡ rowsOf book e
+  rows-are bases first f g =
+      ap (λ (p : Point). rowsFrom e p bases readings first) (sym (s .shows .owner))
+      ∙ rows-from book e bases readings first (f .levels book s) (λ k h. own-at first g k)

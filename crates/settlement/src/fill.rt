@@ -1,0 +1,32 @@
+// An engagement's rows, from its baselines and its readings.
+use book::Calendar;
+use book::Engagement;
+use book::Point;
+ghost use mathlib.Core.Path.{_≡_};
+ghost use Prim.Native.Nat.{_+_, _*_, _≤_};
+ghost use lib.ListN.{length};
+ghost use lib.Seq.{sets};
+ghost use Rattle.book.specs.Book.{Book};
+ghost use Rattle.volumes.specs.Settlement.{rowWidth, rowsOf};
+ghost use Rattle.baseline.specs.Filled.{Settled, Accepts};
+
+// Fills the rows of an engagement that is not refused, from place `at` on.
+pub fn settle_engagement(
+    c: Calendar,
+    calendar: &[u8],
+    readings: &[u8],
+    point: Point,
+    e: Engagement,
+    x: usize,
+    y: usize,
+    out: &mut [i64],
+    at: usize,
+)
+    requires { ⌜ Accepts c (now calendar) (now readings) point e x y × (at + rowWidth * e .count ≤ length (now out)) ⌝ }
+    ensures { λ r. ⌜ ((b : Book) → Settled c (now (calendar .entry)) (now (readings .entry)) point e x y b → now (out .exit) ≡ sets (now (out .entry)) at (rowsOf b e)) ⌝ }
+{
+    let mut bases = [0u64; 96];
+    baseline::bases::fill_bases(c, calendar, readings, point, e, x, y, &mut bases);
+    let first = baseline::judge::base_of(c, e) + baseline::judge::start_of(c, e);
+    crate::rows::write_rows(out, at, e, point, &bases, readings, first);
+}
