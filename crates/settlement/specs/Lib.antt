@@ -8,3 +8,6 @@ pub mod Sections
 pub mod SectionsLaws
 pub mod Verdicts
 pub mod VerdictsLaws
+pub mod Settling
+pub mod SettlingLaws
+pub mod CallsLaws

@@ -17,18 +17,18 @@ use Rattle.book.specs.Book.{Book}
 use Rattle.volumes.specs.Sound.{Sound}
 
 -- "Register, P rows of 64 bytes", "Engagements, 16 bytes"
-abbrev pub pointsIn : List ℕ → ℕ
-pointsIn register = length register / pointWidth
+abbrev pub pointCountIn : List ℕ → ℕ
+pointCountIn register = length register / pointWidth
 
-abbrev pub rowsIn : List ℕ → ℕ
-rowsIn engagements = length engagements / engagementWidth
+abbrev pub engagementCountIn : List ℕ → ℕ
+engagementCountIn engagements = length engagements / engagementWidth
 
 unfoldable pub engagementsIn : List ℕ → List Engagement
-engagementsIn engagements = map (engagementAt engagements) (range 0 (rowsIn engagements))
+engagementsIn engagements = map (engagementAt engagements) (range 0 (engagementCountIn engagements))
 
 -- "Each engagement quarter-hour" is a row
-unfoldable pub countIn : List ℕ → ℕ
-countIn engagements = sumOf (λ e. e .count) (engagementsIn engagements)
+unfoldable pub rowCountIn : List ℕ → ℕ
+rowCountIn engagements = sumOf (λ e. e .count) (engagementsIn engagements)
 
 -- calendar, pairs X and Y, register, readings, engagements
 unfoldable pub bookIn : Calendar → List ℕ → List ℕ → List ℕ → List ℕ → List ℕ → Book
@@ -38,7 +38,7 @@ bookIn c calendar pairs register readings engagements =
       category = categoryAt calendar;
       x = xAt pairs;
       y = yAt pairs;
-      points = map (pointAt register) (range 0 (pointsIn register));
+      points = map (pointAt register) (range 0 (pointCountIn register));
       reading = meterAt c readings;
       engagements = engagementsIn engagements;
     }
@@ -48,5 +48,5 @@ pub record Sectioned (c : Calendar) (calendar pairs register readings engagement
   pub sound : Sound (bookIn c calendar pairs register readings engagements)
   pub days : length calendar ≡ daysOf c
   pub four : length pairs ≡ 8
-  pub few : pointsIn register ≤ 256
-  pub metered : length readings ≡ 4 * quartersOf c * pointsIn register
+  pub few : pointCountIn register ≤ 256
+  pub metered : length readings ≡ 4 * quartersOf c * pointCountIn register

@@ -1,22 +1,22 @@
 -- The sections of a book that passes refusals 1 to 7 make that book, and each of its engagements can be judged and settled from them.
-use mathlib.Core.Path.{_≡_, refl, sym, ap, ap₂, _∙_}
-use mathlib.Core.Bool.{Bool, true, false, _&&_, and-eq-true-iff}
+use mathlib.Core.Path.{_≡_, refl, sym, ap, _∙_}
+use mathlib.Core.Bool.{Bool, true, false}
 use mathlib.Core.List.{List, [], _∷_, map, List·Memᴰ, List·Memᴰ·head, List·Memᴰ·tail}
 use mathlib.Core.Option.{none}
-use Prim.Native.Nat.{ℕ, zero, suc, _+_, _*_, _/_, _≤_, _<_}
+use Prim.Native.Nat.{ℕ, zero, suc, _+_, _*_, _≤_, _<_}
 use native.Mathlib.Nat.{mul-le-mul-left, mul-assoc, mul-suc}
 use native.Mathlib.Numerals.{add-one}
 use native.Mathlib.Omega.{arith}
 use lib.Dec.{eqb, ltb}
 use lib.Seq.{take-all}
-use lib.ListN.{length, take, drop, getD, length-take, length-drop, length-map, List·getD-map, List·getD-eq-default}
+use lib.ListN.{length, take, getD, length-take, length-drop, length-map, List·getD-eq-default}
 use borrow.Author.Tests.{eqb-true, ltb-true, ltb-false}
 use Rattle.integers.specs.Ranges.{range, length-range}
 use Rattle.integers.specs.Sums.{sumBy, sumOf}
 use Rattle.book.specs.declared.Calendar.{Calendar}
 use Rattle.book.specs.declared.Engagement.{Engagement}
 use Rattle.book.specs.Calendars.{daysOf, quartersOf}
-use Rattle.book.specs.Header.{calendarOf, pointCount, engagementCount, pointWidth, engagementWidth, offsetOf, lengthOf, isPair, sizes, adjoining, layoutGood, sectionOf, calendarSection, pairSection, registerSection, readingSection, engagementSection}
+use Rattle.book.specs.Header.{calendarOf, pointCount, engagementCount, pointWidth, engagementWidth, offsetOf, lengthOf, isPair, layoutGood, sectionOf, calendarSection, pairSection, registerSection, readingSection, engagementSection}
 use Rattle.book.specs.HeaderLaws.{adjoins, headed}
 use Rattle.book.specs.Tables.{categoryAt, xAt, yAt}
 use Rattle.book.specs.Register.{pointAt}
@@ -24,12 +24,13 @@ use Rattle.book.specs.Engagements.{engagementAt}
 use Rattle.book.specs.Book.{Book, bookOf}
 use Rattle.book.specs.Judged.{refusalOf}
 use Rattle.volumes.specs.Baseline.{pointOf, noPoint, xOf, yOf}
-use Rattle.volumes.specs.Settlement.{refusalNumber, rowRefusal}
-use Rattle.volumes.specs.Sound.{Paired, Placed, OnTerms, Sound}
+use Rattle.volumes.specs.Settlement.{refusalNumber, rowRefusal, settlementRefusal, rowCount, bookRefusal}
+use Rattle.volumes.specs.Sound.{Paired, Placed}
 use Rattle.volumes.specs.SoundLaws.{passes, sound}
-use Rattle.volumes.specs.SettlementLaws.{refusalAt, refusal-next, refusal-end, count-next}
+use Rattle.volumes.specs.SettlementLaws.{refusalAt, refusal-next, refusal-end, count-next, passing}
 use Rattle.baseline.specs.Shown.{Shows, Fits}
-use Rattle.settlement.specs.Sections.{pointsIn, rowsIn, engagementsIn, countIn, bookIn, Sectioned}
+use Rattle.settlement.specs.RaisedLaws.{both}
+use Rattle.settlement.specs.Sections.{pointCountIn, engagementCountIn, engagementsIn, rowCountIn, bookIn, Sectioned}
 
 -- the i-th of the values of a function at numbers in a row; an element is a member
 made-from : {A : Type 0} (f : ℕ → A) (a n i : ℕ) (d : A) → i < n → getD (map f (range a n)) i d ≡ f (a + i)
@@ -50,9 +51,6 @@ getD-mem (a ∷ l) (suc i) d h = List·Memᴰ·tail (getD-mem l i d (omega arith
 pub record Held (bytes : List ℕ) (k n : ℕ) : Type 0 where
   pub inside : offsetOf bytes k + lengthOf bytes k ≤ length bytes
   pub size : length (sectionOf bytes k) ≡ n
-
-both : (a b : Bool) → (a && b) ≡ true → (a ≡ true) × (b ≡ true)
-both a b = and-eq-true-iff a b .0
 
 held : (bytes : List ℕ) (k at n : ℕ) → isPair bytes k at n ≡ true → at + n ≤ length bytes → Held bytes k n
 held bytes k at n e h =
@@ -111,10 +109,10 @@ section-inside bytes e k h = at k h
     at (suc (suc (suc (suc (suc n))))) h = absurd (omega arith)
 
 -- the rows that the lengths tell are those that the header counts
-pub points-counted : (bytes : List ℕ) → refusalOf bytes ≡ none → pointsIn (registerSection bytes) ≡ pointCount bytes
+pub points-counted : (bytes : List ℕ) → refusalOf bytes ≡ none → pointCountIn (registerSection bytes) ≡ pointCount bytes
 points-counted bytes e = omega (arith, all-held bytes e .register .size)
 
-pub rows-counted : (bytes : List ℕ) → refusalOf bytes ≡ none → rowsIn (engagementSection bytes) ≡ engagementCount bytes
+pub rows-counted : (bytes : List ℕ) → refusalOf bytes ≡ none → engagementCountIn (engagementSection bytes) ≡ engagementCount bytes
 rows-counted bytes e = omega (arith, all-held bytes e .engagements .size)
 
 -- the book of the bytes, as its sections make it
@@ -137,6 +135,21 @@ sectioned bytes e =
       metered = l .readings .size ∙ ap (λ (n : ℕ). 4 * quartersOf (calendarOf bytes) * n) (sym p);
     }
 
+-- and the rows that the engagements' section has are the book's
+pub count-in : (c : Calendar) (calendar pairs register readings engagements : List ℕ) → rowCountIn engagements ≡ rowCount (bookIn c calendar pairs register readings engagements)
+unfolding rowCountIn rowCount bookIn
+count-in c calendar pairs register readings engagements = refl
+
+pub count-book : (bytes : List ℕ) → refusalOf bytes ≡ none → rowCountIn (engagementSection bytes) ≡ rowCount (bookOf bytes)
+count-book bytes e = count-in (calendarOf bytes) (calendarSection bytes) (pairSection bytes) (registerSection bytes) (readingSection bytes) (engagementSection bytes) ∙ ap rowCount (same-book bytes e)
+
+pub rows-few : (bytes : List ℕ) → refusalOf bytes ≡ none → engagementCountIn (engagementSection bytes) ≤ 512
+rows-few bytes e = omega (arith, rows-counted bytes e, headed bytes (passes bytes e .header) .rows)
+
+-- nor are the engagements refused that the sections make, where the book's are not
+pub cut-settled : (bytes : List ℕ) → bookRefusal bytes ≡ none → settlementRefusal (bookCut bytes) ≡ none
+cut-settled bytes e = let a = passing bytes e in ap settlementRefusal (same-book bytes (a .passed)) ∙ a .settled
+
 -- engagement i of the book, all that judging and settling it ask
 pub record Engaged (c : Calendar) (calendar pairs register readings engagements : List ℕ) (i : ℕ) (e : Engagement) : Type 0 where
   pub named : (d : Engagement) → getD (bookIn c calendar pairs register readings engagements .engagements) i d ≡ e
@@ -150,46 +163,46 @@ pub record Engaged (c : Calendar) (calendar pairs register readings engagements 
   pub shows : Shows c calendar readings (pointAt register (e .point)) e (bookIn c calendar pairs register readings engagements)
 
 -- the first i engagements' rows, and one engagement's more
-unfoldable pub countTo : List ℕ → ℕ → ℕ
-countTo engagements i = sumOf (λ e. e .count) (take i (engagementsIn engagements))
+unfoldable pub rowCountTo : List ℕ → ℕ → ℕ
+rowCountTo engagements i = sumOf (λ e. e .count) (take i (engagementsIn engagements))
 
-engagement-count : (engagements : List ℕ) → length (engagementsIn engagements) ≡ rowsIn engagements
+engagement-count : (engagements : List ℕ) → length (engagementsIn engagements) ≡ engagementCountIn engagements
 unfolding engagementsIn
 engagement-count engagements = rw (length-map, length-range)
 
-pub count-none : (engagements : List ℕ) → countTo engagements 0 ≡ 0
-unfolding countTo sumBy
+pub count-none : (engagements : List ℕ) → rowCountTo engagements 0 ≡ 0
+unfolding rowCountTo sumBy
 count-none engagements = refl
 
-pub count-more : (engagements : List ℕ) (i : ℕ) → i < rowsIn engagements → countTo engagements (i + 1) ≡ countTo engagements i + engagementAt engagements i .count
-unfolding countTo engagementsIn
+pub count-more : (engagements : List ℕ) (i : ℕ) → i < engagementCountIn engagements → rowCountTo engagements (i + 1) ≡ rowCountTo engagements i + engagementAt engagements i .count
+unfolding rowCountTo engagementsIn
 count-more engagements i h =
     let d = engagementAt engagements i in
     rw add-one
     (count-next (engagementsIn engagements) i d (omega (arith, engagement-count engagements))
-    ∙ ap (λ (e : Engagement). countTo engagements i + e .count) (getD-made (engagementAt engagements) (rowsIn engagements) i d h))
+    ∙ ap (λ (e : Engagement). rowCountTo engagements i + e .count) (getD-made (engagementAt engagements) (engagementCountIn engagements) i d h))
 
-pub count-all : (engagements : List ℕ) (i : ℕ) → rowsIn engagements ≤ i → countTo engagements i ≡ countIn engagements
-unfolding countTo countIn
+pub count-all : (engagements : List ℕ) (i : ℕ) → engagementCountIn engagements ≤ i → rowCountTo engagements i ≡ rowCountIn engagements
+unfolding rowCountTo rowCountIn
 count-all engagements i h = ap (sumOf (λ e. e .count)) (take-all i (engagementsIn engagements) (omega (arith, engagement-count engagements)))
 
 module _ {c : Calendar} {calendar pairs register readings engagements : List ℕ} (s : Sectioned c calendar pairs register readings engagements) where
   -- the points and the engagements are as many as the lengths say
-  point-count : length (bookIn c calendar pairs register readings engagements .points) ≡ pointsIn register
+  point-count : length (bookIn c calendar pairs register readings engagements .points) ≡ pointCountIn register
   unfolding bookIn
   point-count = rw (length-map, length-range)
 
-  pub row-count : length (bookIn c calendar pairs register readings engagements .engagements) ≡ rowsIn engagements
+  pub row-count : length (bookIn c calendar pairs register readings engagements .engagements) ≡ engagementCountIn engagements
   unfolding bookIn engagementsIn
   row-count = rw (length-map, length-range)
 
-  row-named : (i : ℕ) (d : Engagement) → i < rowsIn engagements → getD (bookIn c calendar pairs register readings engagements .engagements) i d ≡ engagementAt engagements i
+  pub row-named : (i : ℕ) (d : Engagement) → i < engagementCountIn engagements → getD (bookIn c calendar pairs register readings engagements .engagements) i d ≡ engagementAt engagements i
   unfolding bookIn engagementsIn
-  row-named i d h = getD-made (engagementAt engagements) (rowsIn engagements) i d h
+  row-named i d h = getD-made (engagementAt engagements) (engagementCountIn engagements) i d h
 
-  owner : (e : Engagement) → e .point < pointsIn register → pointOf (bookIn c calendar pairs register readings engagements) e ≡ pointAt register (e .point)
+  owner : (e : Engagement) → e .point < pointCountIn register → pointOf (bookIn c calendar pairs register readings engagements) e ≡ pointAt register (e .point)
   unfolding bookIn pointOf
-  owner e h = getD-made (pointAt register) (pointsIn register) (e .point) noPoint h
+  owner e h = getD-made (pointAt register) (pointCountIn register) (e .point) noPoint h
 
   pairs-of : (d : ℕ) → Paired (xAt pairs (categoryAt calendar d)) (yAt pairs (categoryAt calendar d))
   unfolding bookIn
@@ -203,20 +216,20 @@ module _ {c : Calendar} {calendar pairs register readings engagements : List ℕ
       go true p = omega (arith, s .four, ltb-true (2 * categoryAt calendar d) (length pairs) p)
       go false p = absurd (omega (arith, pairs-of d .one, List·getD-eq-default pairs 0 (ltb-false (2 * categoryAt calendar d) (length pairs) p)))
 
-  member : (i : ℕ) → i < rowsIn engagements → List·Memᴰ (engagementAt engagements i) (bookIn c calendar pairs register readings engagements .engagements)
+  pub member : (i : ℕ) → i < engagementCountIn engagements → List·Memᴰ (engagementAt engagements i) (bookIn c calendar pairs register readings engagements .engagements)
   member i h = let d = engagementAt engagements 0 in
       rw (← row-named i d h) (getD-mem (bookIn c calendar pairs register readings engagements .engagements) i d (omega (arith, row-count)))
 
-  placed : (i : ℕ) → i < rowsIn engagements → Placed c (pointsIn register) (engagementAt engagements i)
+  placed : (i : ℕ) → i < engagementCountIn engagements → Placed c (pointCountIn register) (engagementAt engagements i)
   unfolding bookIn
   placed i h = rw (← point-count) (s .sound .engagements (engagementAt engagements i) (member i h))
 
-  readings-room : (p : ℕ) → p < pointsIn register → 4 * (quartersOf c * p + quartersOf c) ≤ length readings
+  readings-room : (p : ℕ) → p < pointCountIn register → 4 * (quartersOf c * p + quartersOf c) ≤ length readings
   readings-room p h =
       let q = quartersOf c in
-      omega (arith, s .metered, mul-le-mul-left {m = suc p} {n = pointsIn register} (4 * q) (omega arith), mul-assoc 4 q (suc p), mul-suc q p)
+      omega (arith, s .metered, mul-le-mul-left {m = suc p} {n = pointCountIn register} (4 * q) (omega arith), mul-assoc 4 q (suc p), mul-suc q p)
 
-  pub engaged : (i : ℕ) → i < rowsIn engagements → Engaged c calendar pairs register readings engagements i (engagementAt engagements i)
+  pub engaged : (i : ℕ) → i < engagementCountIn engagements → Engaged c calendar pairs register readings engagements i (engagementAt engagements i)
   unfolding bookIn
   engaged i h =
       let e = engagementAt engagements i in
@@ -244,12 +257,12 @@ module _ {c : Calendar} {calendar pairs register readings engagements : List ℕ
       }
 
   -- the refusals from row i on: that of row i, or of those after it
-  pub refusal-row : (i : ℕ) → i < rowsIn engagements → refusalAt (bookIn c calendar pairs register readings engagements) i ≡ rowRefusal i (refusalNumber (bookIn c calendar pairs register readings engagements) (engagementAt engagements i)) (refusalAt (bookIn c calendar pairs register readings engagements) (i + 1))
+  pub refusal-row : (i : ℕ) → i < engagementCountIn engagements → refusalAt (bookIn c calendar pairs register readings engagements) i ≡ rowRefusal i (refusalNumber (bookIn c calendar pairs register readings engagements) (engagementAt engagements i)) (refusalAt (bookIn c calendar pairs register readings engagements) (i + 1))
   refusal-row i h =
       let book = bookIn c calendar pairs register readings engagements in
       let d = engagementAt engagements i in
       refusal-next book i (i + 1) d refl (omega (arith, row-count))
       ∙ ap (λ (e : Engagement). rowRefusal i (refusalNumber book e) (refusalAt book (i + 1))) (row-named i d h)
 
-  pub refusal-last : (i : ℕ) → rowsIn engagements ≤ i → refusalAt (bookIn c calendar pairs register readings engagements) i ≡ none
+  pub refusal-last : (i : ℕ) → engagementCountIn engagements ≤ i → refusalAt (bookIn c calendar pairs register readings engagements) i ≡ none
   refusal-last i h = refusal-end (bookIn c calendar pairs register readings engagements) i (omega (arith, row-count))

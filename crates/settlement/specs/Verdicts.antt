@@ -1,7 +1,5 @@
 -- What judging a settlement and settling answer, in document 01's numbers and items.
-use mathlib.Core.List.{List}
-use mathlib.Core.Option.{Option, none, some}
-use Prim.Native.Nat.{ℕ}
+use mathlib.Core.Option.{Option, none}
 use Rattle.book.specs.Refusals.{Refusal, refused}
 use Rattle.settlement.specs.declared.judge.Verdict.{Verdict}
 use Rattle.settlement.specs.declared.judge.Verdict.the-variants.{Passed, Refused}

@@ -8,7 +8,7 @@ ghost use Rattle.book.specs.Engagements.{engagementAt};
 ghost use Rattle.book.specs.Judged.{sentBack};
 ghost use Rattle.volumes.specs.Settlement.{refusalNumber, settlementRefusal, bookRefusal};
 ghost use Rattle.baseline.specs.Needs.{numberOf};
-ghost use Rattle.settlement.specs.Sections.{rowsIn, bookIn, Sectioned};
+ghost use Rattle.settlement.specs.Sections.{engagementCountIn, bookIn, Sectioned};
 ghost use Rattle.settlement.specs.Verdicts.{refusalIn};
 
 // Passed, or refused with a number and its item.
@@ -43,7 +43,7 @@ fn judge_row(
     engagements: &[u8],
     i: usize,
 ) -> Lack
-    requires { ⌜ Sectioned c (now calendar) (now pairs) (now register) (now readings) (now engagements) × (i < rowsIn (now engagements)) ⌝ }
+    requires { ⌜ Sectioned c (now calendar) (now pairs) (now register) (now readings) (now engagements) × (i < engagementCountIn (now engagements)) ⌝ }
     ensures { λ r. ⌜ numberOf r ≡ refusalNumber (bookIn c (now (calendar .entry)) (now (pairs .entry)) (now (register .entry)) (now (readings .entry)) (now (engagements .entry))) (engagementAt (now (engagements .entry)) i) ⌝ }
 {
     let e = book::engagements::engagement_at(engagements, i);

@@ -1,5 +1,5 @@
 -- The engagement, its point and its category's Y are those of the book that the sections make.
-use mathlib.Core.Path.{_≡_, sym, ap, subst, _∙_}
+use mathlib.Core.Path.{sym, ap, subst, _∙_}
 use Rattle.book.specs.Tables.{yAt}
 use Rattle.volumes.specs.Settlement.{refusalNumber}
 use Rattle.settlement.specs.Sections.{bookIn}

@@ -8,7 +8,6 @@ use Rattle.baseline.specs.Needs.{numberOf}
 use Rattle.settlement.specs.Sections.{bookIn}
 use Rattle.settlement.specs.SectionsLaws.{refusal-row, refusal-last}
 use borrow.Author.Needs.{needs}
-use native.Mathlib.Omega.{arith}
 use Rattle.settlement.proofs.judge.judge_rows.Statement.{statement}
 use Rattle.settlement.proofs.judge.judge_rows.Tie as tie
 

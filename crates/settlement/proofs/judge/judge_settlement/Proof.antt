@@ -7,7 +7,6 @@ use Rattle.settlement.specs.Sections.{bookIn}
 use Rattle.settlement.specs.SectionsLaws.{bytes-long, same-book, sectioned}
 use Rattle.settlement.specs.Verdicts.{refusalIn}
 use Rattle.settlement.specs.VerdictsLaws.{book-refused, book-passed}
-use native.Mathlib.Omega.{arith}
 use borrow.Author.Needs.{needs}
 use Rattle.settlement.proofs.judge.judge_settlement.Statement.{statement}
 use Rattle.settlement.proofs.judge.judge_settlement.Tie as tie

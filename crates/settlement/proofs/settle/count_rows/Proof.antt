@@ -3,14 +3,13 @@ use mathlib.Core.Path.{_≡_, sym, ap, _∙_}
 use Prim.Native.Nat.{ℕ, _+_, _*_, _-_, _≤_}
 use Rattle.book.specs.declared.Engagement.{Engagement}
 use Rattle.book.specs.Engagements.{engagementAt}
-use Rattle.settlement.specs.SectionsLaws.{countTo, count-none, count-more, count-all}
+use Rattle.settlement.specs.SectionsLaws.{rowCountTo, count-none, count-more, count-all}
 use borrow.Author.Needs.{needs}
-use native.Mathlib.Omega.{arith}
 use Rattle.settlement.proofs.settle.count_rows.Statement.{statement}
 use Rattle.settlement.proofs.settle.count_rows.Tie as tie
 
 abbrev Inv-loop : tie.InvT-loop
-Inv-loop engagements n count₀ i₀ count i = (i ≤ n) × (count ≡ countTo engagements i) × (count ≤ 255 * i)
+Inv-loop engagements n count₀ i₀ count i = (i ≤ n) × (count ≡ rowCountTo engagements i) × (count ≤ 255 * i)
 
 abbrev μ-loop : tie.MeasureT-loop
 μ-loop engagements n count₀ i₀ count i = n - i
@@ -41,8 +40,9 @@ loop-again c =
     (search needs, ap (λ (g : Engagement). l .loop .count + g .count) (e .ensures) ∙ ap (λ (n : ℕ). n + engagementAt (a .engagements .now) (l .loop .i) .count) (l .loop .inv .1) ∙ sym (count-more (a .engagements .now) (l .loop .i) (search needs)), search needs)
 
 returns : tie.Need-returns Inv-loop μ-loop
-returns c = let l = c .before in
-    l .loop .inv .1 ∙ count-all (c .before .before .before .args .engagements .now) (l .loop .i) (search needs)
+returns c =
+    let l = c .before in
+    (l .loop .inv .1 ∙ count-all (l .before .before .args .engagements .now) (l .loop .i) (search needs), search needs)
 
 pub count-rows-spec : {M : Type 1} → statement M
 count-rows-spec =
