@@ -4,3 +4,10 @@ pub mod Rows
 pub mod RowsLaws
 pub mod StoresLaws
 pub mod FillLaws
+pub mod Sections
+pub mod SectionsLaws
+pub mod Verdicts
+pub mod VerdictsLaws
+pub mod Settling
+pub mod SettlingLaws
+pub mod CallsLaws

@@ -1,0 +1,84 @@
+-- Engagements passed lack nothing: the book's refusal is the first from the present one on.
+use mathlib.Core.Path.{_≡_, sym, ap, _∙_}
+use mathlib.Core.Option.{Option}
+use Prim.Native.Nat.{ℕ, _+_, _-_, _≤_}
+use Rattle.volumes.specs.Settlement.{settlementRefusal, rowRefusal}
+use Rattle.volumes.specs.SettlementLaws.{refusalAt, refusal-all}
+use Rattle.baseline.specs.Needs.{numberOf}
+use Rattle.settlement.specs.Sections.{bookIn}
+use Rattle.settlement.specs.SectionsLaws.{refusal-row, refusal-last}
+use borrow.Author.Needs.{needs}
+use Rattle.settlement.proofs.judge.judge_rows.Statement.{statement}
+use Rattle.settlement.proofs.judge.judge_rows.Tie as tie
+
+abbrev Inv-loop : tie.InvT-loop
+Inv-loop c calendar pairs register readings engagements n i₀ i = (i ≤ n) × (settlementRefusal (bookIn c calendar pairs register readings engagements) ≡ refusalAt (bookIn c calendar pairs register readings engagements) i)
+
+abbrev μ-loop : tie.MeasureT-loop
+μ-loop c calendar pairs register readings engagements n i₀ i = n - i
+
+loop-holds : tie.Need-loop-holds Inv-loop μ-loop
+loop-holds c = (search needs, refusal-all _)
+
+judge-row-requires : tie.Need-judge-row-requires Inv-loop μ-loop
+judge-row-requires c κs = search needs
+
+-- what is known of the present engagement, by what it lacks
+judged : (c : tie.After-judge-row Inv-loop μ-loop) → let s = c .before .before .before .before .before .before .before .before in
+    let i = c .before .before .loop .i in
+    let book = bookIn (s .args .c) (s .args .calendar .now) (s .args .pairs .now) (s .args .register .now) (s .args .readings .now) (s .args .engagements .now) in settlementRefusal book ≡ rowRefusal i (numberOf (c .judge-row .result)) (refusalAt book (i + 1))
+judged c = let s = c .before .before .before .before .before .before .before .before in
+    let l = c .before .before .loop in
+    let book = bookIn (s .args .c) (s .args .calendar .now) (s .args .pairs .now) (s .args .register .now) (s .args .readings .now) (s .args .engagements .now) in
+    l .inv .1
+    ∙ refusal-row (s .pre) (l .i) (search needs)
+    ∙ ap (λ (o : Option ℕ). rowRefusal (l .i) o (refusalAt book (l .i + 1))) (sym (c .judge-row .ensures))
+
+enum-told : tie.Need-enum-told Inv-loop μ-loop
+enum-told c = search needs
+
+enum-told-2 : tie.Need-enum-told-2 Inv-loop μ-loop
+enum-told-2 c = search needs
+
+returns : tie.Need-returns Inv-loop μ-loop
+unfolding rowRefusal
+returns c = sym (judged (c .before .before) ∙ rw (c .enum-told2 .given .1))
+
+enum-told-3 : tie.Need-enum-told-3 Inv-loop μ-loop
+enum-told-3 c = search needs
+
+returns-2 : tie.Need-returns-2 Inv-loop μ-loop
+unfolding rowRefusal
+returns-2 c = sym (judged (c .before .before) ∙ rw (c .enum-told3 .given .1))
+
+add-i : tie.Need-add-i Inv-loop μ-loop
+add-i c = search needs
+
+loop-less : tie.Need-loop-less Inv-loop μ-loop
+loop-less c = search needs
+
+loop-again : tie.Need-loop-again Inv-loop μ-loop
+unfolding rowRefusal
+loop-again c = (search needs, judged (c .before .before) ∙ rw (c .enum-told .given .1))
+
+returns-3 : tie.Need-returns-3 Inv-loop μ-loop
+returns-3 c = let l = c .before in
+    sym (l .loop .inv .1 ∙ refusal-last (c .before .before .before .before .before .before .before .pre) (l .loop .i) (search needs))
+
+pub judge-rows-spec : {M : Type 1} → statement M
+judge-rows-spec =
+    tie.close
+    (tie.spec
+    Inv-loop
+    μ-loop
+    loop-holds
+    judge-row-requires
+    enum-told
+    enum-told-2
+    returns
+    enum-told-3
+    returns-2
+    add-i
+    loop-less
+    loop-again
+    returns-3)

@@ -1,0 +1,118 @@
+-- The engagement, its point and its category's X and Y are those of the book that the sections make.
+use mathlib.Core.Path.{_≡_, sym, ap, subst, _∙_}
+use mathlib.Core.Option.{none}
+use Prim.Native.Nat.{_+_, _*_, _≤_}
+use lib.ListN.{length}
+use lib.Seq.{sets}
+use Rattle.book.specs.declared.Engagement.{Engagement}
+use Rattle.book.specs.Tables.{categoryAt, xAt, yAt}
+use Rattle.volumes.specs.Settlement.{refusalNumber, rowWidth, rowsOf}
+use Rattle.settlement.specs.Sections.{bookIn}
+use Rattle.settlement.specs.SectionsLaws.{Engaged, engaged}
+use Rattle.settlement.specs.SettlingLaws.{settled, accepts}
+use native.Mathlib.Omega.{arith}
+use borrow.Author.Needs.{needs}
+use Rattle.settlement.proofs.settle.fill_row.Statement.{statement}
+use Rattle.settlement.proofs.settle.fill_row.Tie as tie
+
+engagement-at-requires : tie.Need-engagement-at-requires
+engagement-at-requires c κs = search needs
+
+-- what the sections say of the engagement
+here : (c : tie.After-engagement-at) → Engaged (c .before .before .before .before .before .before .args .c) (c .before .before .before .before .before .before .args .calendar .now) (c .before .before .before .before .before .before .args .pairs .now) (c .before .before .before .before .before .before .args .register .now) (c .before .before .before .before .before .before .args .readings .now) (c .before .before .before .before .before .before .args .engagements .now) (c .before .before .before .before .before .before .args .i) (c .engagement-at .result)
+here c =
+    let s = c .before .before .before .before .before .before in
+    let a = s .args in
+    subst (Engaged (a .c) (a .calendar .now) (a .pairs .now) (a .register .now) (a .readings .now) (a .engagements .now) (a .i)) (sym (c .engagement-at .ensures)) (engaged (s .pre .0) (a .i) (s .pre .1))
+
+cast-point-at : tie.Need-cast-point-at
+cast-point-at c = search needs
+
+point-at-requires : tie.Need-point-at-requires
+point-at-requires c κs = here (c .before) .registered
+
+cast-category : tie.Need-cast-category
+cast-category c = search needs
+
+category-requires : tie.Need-category-requires
+category-requires c κs = let f = here (c .before .before .before) .fits in omega (arith, f .day, f .days)
+
+cast-category-2 : tie.Need-cast-category-2
+cast-category-2 c = search needs
+
+x-of-requires : tie.Need-x-of-requires
+x-of-requires c κs = rw (c .category .ensures) (here (c .before .before .before .before) .category)
+
+cast-x : tie.Need-cast-x
+cast-x c = search needs
+
+y-of-requires : tie.Need-y-of-requires
+y-of-requires c κs = rw (c .before .category .ensures) (here (c .before .before .before .before .before) .category)
+
+cast-y : tie.Need-cast-y
+cast-y c = search needs
+
+-- it is not refused, and its X and Y are its category's
+good : (c : tie.After-engagement-at) → let a = c .before .before .before .before .before .before .args in
+    refusalNumber (bookIn (a .c) (a .calendar .now) (a .pairs .now) (a .register .now) (a .readings .now) (a .engagements .now)) (c .engagement-at .result) ≡ none
+good c = let a = c .before .before .before .before .before .before .args in
+    ap (refusalNumber (bookIn (a .c) (a .calendar .now) (a .pairs .now) (a .register .now) (a .readings .now) (a .engagements .now))) (c .engagement-at .ensures) ∙ c .before .before .before .before .before .before .pre .2
+
+room : (c : tie.After-engagement-at) → c .before .before .before .before .before .before .args .at + rowWidth * c .engagement-at .result .count ≤ length (c .before .before .before .before .before .before .args .out .now)
+room c = rw (c .engagement-at .ensures) (c .before .before .before .before .before .before .pre .3)
+
+takes : (c : tie.After-y-of) → c .before .x-of .result ≡ xAt (c .before .before .before .before .before .before .before .before .before .before .before .before .args .pairs .now) (categoryAt (c .before .before .before .before .before .before .before .before .before .before .before .before .args .calendar .now) (c .before .before .before .before .before .before .engagement-at .result .day))
+takes c = c .before .x-of .ensures ∙ ap (xAt (c .before .before .before .before .before .before .before .before .before .before .before .before .args .pairs .now)) (c .before .before .category .ensures)
+
+wants : (c : tie.After-y-of) → c .y-of .result ≡ yAt (c .before .before .before .before .before .before .before .before .before .before .before .before .args .pairs .now) (categoryAt (c .before .before .before .before .before .before .before .before .before .before .before .before .args .calendar .now) (c .before .before .before .before .before .before .engagement-at .result .day))
+wants c = c .y-of .ensures ∙ ap (yAt (c .before .before .before .before .before .before .before .before .before .before .before .before .args .pairs .now)) (c .before .before .category .ensures)
+
+settle-engagement-requires : tie.Need-settle-engagement-requires
+settle-engagement-requires c κs =
+    let w = c .before in
+    let g = w .before .before .before .before .before .before in
+    (accepts (here g) (good g) (w .before .before .before .before .point-at .ensures) (takes w) (wants w), room g)
+
+cast-result : tie.Need-cast-result
+cast-result c = search needs
+
+mul-result : tie.Need-mul-result
+mul-result c = search needs
+
+add-result : tie.Need-add-result
+add-result c = omega (arith, room (c .before .before .before .before .before .before .before .before .before .before), c .before .before .before .before .before .before .before .before .before .before .before .before .before .before .before .before .good)
+
+same-length : tie.Need-same-length
+same-length c = search needs
+
+returns : tie.Need-returns
+returns c =
+    let w = c .before .before .before .before in
+    let g = w .before .before .before .before .before .before in
+    let a = g .before .before .before .before .before .before .args in
+    let book = bookIn (a .c) (a .calendar .now) (a .pairs .now) (a .register .now) (a .readings .now) (a .engagements .now) in (
+      ap (λ (e : Engagement). a .at + 4 * e .count) (g .engagement-at .ensures),
+      c .before .before .settle-engagement .ensures book (settled (here g) (good g) (w .before .before .before .before .point-at .ensures) (takes w) (wants w))
+          ∙ ap (λ (e : Engagement). sets (a .out .now) (a .at) (rowsOf book e)) (g .engagement-at .ensures),
+    )
+
+pub fill-row-spec : {M : Type 1} → statement M
+fill-row-spec =
+    tie.close
+    (tie.spec
+    engagement-at-requires
+    cast-point-at
+    point-at-requires
+    cast-category
+    category-requires
+    cast-category-2
+    x-of-requires
+    cast-x
+    y-of-requires
+    cast-y
+    settle-engagement-requires
+    cast-result
+    mul-result
+    add-result
+    same-length
+    returns)

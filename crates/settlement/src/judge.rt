@@ -1,0 +1,97 @@
+// Refusals 1 to 9: those of the book, then by engagement.
+use baseline::judge::Lack;
+use book::Calendar;
+use book::Judged;
+ghost use mathlib.Core.Path.{_≡_};
+ghost use Prim.Native.Nat.{_<_};
+ghost use Rattle.book.specs.Engagements.{engagementAt};
+ghost use Rattle.book.specs.Judged.{sentBack};
+ghost use Rattle.volumes.specs.Settlement.{refusalNumber, settlementRefusal, bookRefusal};
+ghost use Rattle.baseline.specs.Needs.{numberOf};
+ghost use Rattle.settlement.specs.Sections.{engagementCountIn, bookIn, Sectioned};
+ghost use Rattle.settlement.specs.Verdicts.{refusalIn};
+
+// Passed, or refused with a number and its item.
+pub enum Verdict {
+    Passed,
+    Refused(u64, usize),
+}
+
+// A book's own refusal, by its number and item.
+fn of_book(judged: Judged) -> Verdict
+    ensures { λ r. ⌜ refusalIn r ≡ sentBack judged ⌝ }
+{
+    match judged {
+        Judged::Passed => Verdict::Passed,
+        Judged::Header => Verdict::Refused(1, 0),
+        Judged::Layout => Verdict::Refused(2, 0),
+        Judged::ClockChange => Verdict::Refused(3, 0),
+        Judged::Tables => Verdict::Refused(4, 0),
+        Judged::Register(row) => Verdict::Refused(5, row),
+        Judged::Readings(point) => Verdict::Refused(6, point),
+        Judged::Engagements(row) => Verdict::Refused(7, row),
+    }
+}
+
+// What engagement i lacks.
+fn judge_row(
+    c: Calendar,
+    calendar: &[u8],
+    pairs: &[u8],
+    register: &[u8],
+    readings: &[u8],
+    engagements: &[u8],
+    i: usize,
+) -> Lack
+    requires { ⌜ Sectioned c (now calendar) (now pairs) (now register) (now readings) (now engagements) × (i < engagementCountIn (now engagements)) ⌝ }
+    ensures { λ r. ⌜ numberOf r ≡ refusalNumber (bookIn c (now (calendar .entry)) (now (pairs .entry)) (now (register .entry)) (now (readings .entry)) (now (engagements .entry))) (engagementAt (now (engagements .entry)) i) ⌝ }
+{
+    let e = book::engagements::engagement_at(engagements, i);
+    let point = book::register::point_at(register, e.point as usize);
+    let category = book::tables::category(calendar, e.day as usize);
+    let y = book::tables::y_of(pairs, category as usize);
+    baseline::judge::judge_engagement(c, calendar, readings, point, e, y as usize)
+}
+
+// Refusals 8 and 9, by engagement.
+pub fn judge_rows(
+    c: Calendar,
+    calendar: &[u8],
+    pairs: &[u8],
+    register: &[u8],
+    readings: &[u8],
+    engagements: &[u8],
+) -> Verdict
+    requires { ⌜ Sectioned c (now calendar) (now pairs) (now register) (now readings) (now engagements) ⌝ }
+    ensures { λ r. ⌜ refusalIn r ≡ settlementRefusal (bookIn c (now (calendar .entry)) (now (pairs .entry)) (now (register .entry)) (now (readings .entry)) (now (engagements .entry))) ⌝ }
+{
+    let n = engagements.len() / 16;
+    let mut i = 0;
+    while i < n {
+        let lack = judge_row(c, calendar, pairs, register, readings, engagements, i);
+        match lack {
+            Lack::Nothing => {}
+            Lack::Reading => return Verdict::Refused(8, i),
+            Lack::Days => return Verdict::Refused(9, i),
+        }
+        i += 1;
+    }
+    Verdict::Passed
+}
+
+// Refusals 1 to 9.
+pub fn judge_settlement(book: &[u8]) -> Verdict
+    ensures { λ r. ⌜ refusalIn r ≡ bookRefusal (now (book .entry)) ⌝ }
+{
+    let verdict = of_book(book::judge::judge_book(book));
+    if let Verdict::Refused(number, item) = verdict {
+        return Verdict::Refused(number, item);
+    }
+    let calendar = crate::sections::section(book, 0);
+    let pairs = crate::sections::section(book, 1);
+    let register = crate::sections::section(book, 2);
+    let readings = crate::sections::section(book, 3);
+    let engagements = crate::sections::section(book, 4);
+    let c = book::header::calendar_of(book);
+    judge_rows(c, calendar, pairs, register, readings, engagements)
+}

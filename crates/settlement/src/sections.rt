@@ -1,0 +1,16 @@
+// The sections of a book, as parts of it.
+ghost use mathlib.Core.Path.{_≡_};
+ghost use mathlib.Core.Option.{none};
+ghost use Prim.Native.Nat.{_≤_};
+ghost use Rattle.book.specs.Header.{sectionOf};
+ghost use Rattle.book.specs.Judged.{refusalOf};
+
+// The section that pair k names, of a book that passes refusals 1 to 7.
+pub fn section(book: &[u8], k: usize) -> &[u8]
+    requires { ⌜ (refusalOf (now book) ≡ none) × (k ≤ 4) ⌝ }
+    ensures { λ r. ⌜ now r ≡ sectionOf (now (book .entry)) k ⌝ }
+{
+    let a = wire::u32_at(book, 16 + 8 * k) as usize;
+    let e = a + (wire::u32_at(book, 20 + 8 * k) as usize);
+    &book[a..e]
+}

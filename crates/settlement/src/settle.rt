@@ -1,0 +1,130 @@
+// Settling a book: its rows, or why there are none.
+use crate::judge::Verdict;
+use book::Calendar;
+ghost use mathlib.Core.Path.{_≡_};
+ghost use mathlib.Core.Option.{none};
+ghost use Prim.Native.Nat.{_+_, _*_, _≤_, _<_};
+ghost use lib.ListN.{length};
+ghost use lib.Seq.{sets};
+ghost use Rattle.book.specs.Engagements.{engagementAt};
+ghost use Rattle.book.specs.Judged.{refusalOf};
+ghost use Rattle.book.specs.Book.{bookOf};
+ghost use Rattle.volumes.specs.Settlement.{refusalNumber, settlementRefusal, rowWidth, rowsOf, rows, rowCount, bookRefusal};
+ghost use Rattle.settlement.specs.Sections.{engagementCountIn, rowCountIn, bookIn, Sectioned};
+ghost use Rattle.settlement.specs.Settling.{SettleCall};
+
+// The number of rows, or a refusal with its item.
+pub enum Settled {
+    Rows(usize),
+    Refused(u64, usize),
+}
+
+// The rows of a section: the engagements' quarter-hours.
+pub fn count_rows(engagements: &[u8]) -> usize
+    requires { ⌜ engagementCountIn (now engagements) ≤ 512 ⌝ }
+    ensures { λ r. ⌜ (r ≡ rowCountIn (now (engagements .entry))) × (r ≤ 130560) ⌝ }
+{
+    let n = engagements.len() / 16;
+    let mut count = 0;
+    let mut i = 0;
+    while i < n {
+        let e = book::engagements::engagement_at(engagements, i);
+        count += e.count as usize;
+        i += 1;
+    }
+    count
+}
+
+// The rows of a book that passes refusals 1 to 7.
+pub fn row_count(book: &[u8]) -> usize
+    requires { ⌜ refusalOf (now book) ≡ none ⌝ }
+    ensures { λ r. ⌜ (r ≡ rowCount (bookOf (now (book .entry)))) × (r ≤ 130560) ⌝ }
+{
+    count_rows(crate::sections::section(book, 4))
+}
+
+// The rows of engagement i, from `at` on; the place after them.
+fn fill_row(
+    c: Calendar,
+    calendar: &[u8],
+    pairs: &[u8],
+    register: &[u8],
+    readings: &[u8],
+    engagements: &[u8],
+    i: usize,
+    out: &mut [i64],
+    at: usize,
+) -> usize
+    requires { ⌜ Sectioned c (now calendar) (now pairs) (now register) (now readings) (now engagements) × (i < engagementCountIn (now engagements)) × (refusalNumber (bookIn c (now calendar) (now pairs) (now register) (now readings) (now engagements)) (engagementAt (now engagements) i) ≡ none) × (at + rowWidth * engagementAt (now engagements) i .count ≤ length (now out)) ⌝ }
+    ensures { λ r. ⌜ (r ≡ at + rowWidth * engagementAt (now (engagements .entry)) i .count) × (now (out .exit) ≡ sets (now (out .entry)) at (rowsOf (bookIn c (now (calendar .entry)) (now (pairs .entry)) (now (register .entry)) (now (readings .entry)) (now (engagements .entry))) (engagementAt (now (engagements .entry)) i))) ⌝ }
+{
+    let e = book::engagements::engagement_at(engagements, i);
+    let point = book::register::point_at(register, e.point as usize);
+    let category = book::tables::category(calendar, e.day as usize) as usize;
+    let x = book::tables::x_of(pairs, category) as usize;
+    let y = book::tables::y_of(pairs, category) as usize;
+    crate::fill::settle_engagement(c, calendar, readings, point, e, x, y, out, at);
+    at + 4 * (e.count as usize)
+}
+
+// The rows of all engagements, of a book that is not refused.
+pub fn fill_rows(
+    c: Calendar,
+    calendar: &[u8],
+    pairs: &[u8],
+    register: &[u8],
+    readings: &[u8],
+    engagements: &[u8],
+    out: &mut [i64],
+)
+    requires { ⌜ Sectioned c (now calendar) (now pairs) (now register) (now readings) (now engagements) × (settlementRefusal (bookIn c (now calendar) (now pairs) (now register) (now readings) (now engagements)) ≡ none) × (rowWidth * rowCountIn (now engagements) ≤ length (now out)) ⌝ }
+    ensures { λ r. ⌜ now (out .exit) ≡ sets (now (out .entry)) 0 (rows (bookIn c (now (calendar .entry)) (now (pairs .entry)) (now (register .entry)) (now (readings .entry)) (now (engagements .entry)))) ⌝ }
+{
+    let n = engagements.len() / 16;
+    let mut at = 0;
+    let mut i = 0;
+    while i < n {
+        at = fill_row(
+            c,
+            calendar,
+            pairs,
+            register,
+            readings,
+            engagements,
+            i,
+            out,
+            at,
+        );
+        i += 1;
+    }
+}
+
+// The rows of a book that refusals 1 to 9 pass.
+pub fn fill_book(book: &[u8], out: &mut [i64])
+    requires { ⌜ (bookRefusal (now book) ≡ none) × (rowWidth * rowCount (bookOf (now book)) ≤ length (now out)) ⌝ }
+    ensures { λ r. ⌜ now (out .exit) ≡ sets (now (out .entry)) 0 (rows (bookOf (now (book .entry)))) ⌝ }
+{
+    let calendar = crate::sections::section(book, 0);
+    let pairs = crate::sections::section(book, 1);
+    let register = crate::sections::section(book, 2);
+    let readings = crate::sections::section(book, 3);
+    let engagements = crate::sections::section(book, 4);
+    let c = book::header::calendar_of(book);
+    fill_rows(c, calendar, pairs, register, readings, engagements, out);
+}
+
+// Settles a book: fills its rows, or changes nothing and says why.
+pub fn settle(book: &[u8], rows: &mut [i64]) -> Settled
+    ensures { λ r. ⌜ SettleCall (now (book .entry)) (now (rows .entry)) r (now (rows .exit)) ⌝ }
+{
+    let verdict = crate::judge::judge_settlement(book);
+    if let Verdict::Refused(number, item) = verdict {
+        return Settled::Refused(number, item);
+    }
+    let count = row_count(book);
+    if rows.len() < 4 * count {
+        return Settled::Refused(10, 0);
+    }
+    fill_book(book, rows);
+    Settled::Rows(count)
+}
