@@ -25,7 +25,9 @@ pub fn cases() -> Vec<SettleCase> {
     cases.method_2();
     cases.volumes();
     cases.order_of_8_and_9();
+    cases.book("256 points, 512 engagements", &largest_book());
     cases.0.extend(random_cases(2, 200));
+    cases.0.extend(random_large_cases(3));
     cases.0
 }
 
@@ -527,6 +529,24 @@ impl Cases {
     }
 }
 
+/// As many engagements as a book can have, two for each of as many points as it can have.
+pub fn largest_book() -> Book {
+    let mut book = Book::plain(2021, 2, 2, 256);
+    book.choices = vec![Choice { x: 1, y: 2 }; 4];
+    for point in 0..256 {
+        let row = &mut book.register[point];
+        row.method = (point % 3) as u8;
+        (row.largest_up, row.largest_down) = (20 * point as u32, 15 * point as u32);
+        let (first, watts) = (40 + point % 50, point as i32);
+        read(&mut book, point, 1, first - 1, &[5000 - 7 * watts, 4000 + 3 * watts]);
+        read(&mut book, point, 2, first - 1, &[300 * (watts % 7), 9 * watts]);
+        let direction = (point / 3 % 2) as u8;
+        engage(&mut book, point as u16, 2, first as u8, 1, direction, 100 + point as u32);
+        engage(&mut book, point as u16, 29, 95, 1, 1 - direction, 1 + point as u32);
+    }
+    book
+}
+
 /// Random books, now and then with rows that are too short or longer than needed.
 pub fn random_cases(seed: u64, count: usize) -> Vec<SettleCase> {
     let mut cases = Cases(Vec::new());
@@ -550,7 +570,31 @@ pub fn random_book(random: &mut Random) -> Book {
     let points = random.range(1, 2) as u16;
     let month = random.pick(&[1, 2, 6, 9]);
     let mut book = Book::plain(random.range(2018, 2099) as u16, month, lead_days, points);
-    let last = lead_days as usize + 3;
+    let all: Vec<u16> = (0..points).collect();
+    fill(random, &mut book, &all, lead_days);
+    book
+}
+
+/// Books of many points, few of which are engaged.
+pub fn random_large_cases(seed: u64) -> Vec<SettleCase> {
+    let mut cases = Cases(Vec::new());
+    let mut random = Random::new(seed);
+    for points in [5, 17, 60, 130, 255, 256, 256, 256] {
+        let mut book = Book::plain(random.pick(&[2018, 2019, 2021, 2099]), 2, 2, points);
+        for row in &mut book.register {
+            row.access_ean += 1000;
+        }
+        let engaged: Vec<u16> =
+            (1..=4).map(|part| part * points / 4 - random.range(1, points as i64 / 4) as u16).collect();
+        fill(&mut random, &mut book, &engaged, 7);
+        cases.book(format!("random book of {points} points"), &book);
+    }
+    cases.0
+}
+
+/// Gives these points fields, readings and engagements, all in a few days up to the fourth from day `from` on.
+fn fill(random: &mut Random, book: &mut Book, engaged: &[u16], from: u8) {
+    let last = from as usize + 3;
     for day in 0..=last {
         book.calendar[day] = if random.once_in(4) { 1 } else { 0 };
     }
@@ -558,7 +602,7 @@ pub fn random_book(random: &mut Random) -> Book {
     book.choices[0].y = random.range(book.choices[0].x as i64, 3) as u8;
     let first = random.range(0, 92);
     let count = random.range(1, 3);
-    for point in 0..points as usize {
+    for point in engaged.iter().map(|&point| point as usize) {
         let row = &mut book.register[point];
         row.method = random.range(0, 2) as u8;
         row.situation = random.pick(&[0, 0, 0, 1, 1, 2, 3]);
@@ -583,8 +627,8 @@ pub fn random_book(random: &mut Random) -> Book {
             }
         }
     }
-    for point in 0..points {
-        for day in lead_days..=lead_days + 3 {
+    for &point in engaged {
+        for day in from..=from + 3 {
             if random.once_in(2) {
                 let shift = random.range(0, count - 1) as u8;
                 book.engagements.push(Engagement {
@@ -601,5 +645,4 @@ pub fn random_book(random: &mut Random) -> Book {
         }
     }
     book.lay_out();
-    book
 }

@@ -1,6 +1,6 @@
 //! What the proved programs are run on and held to is what this crate makes.
 
-use reference::book_cases;
+use reference::{book_cases, settle_cases};
 
 fn stored(program: &str, name: &str) -> String {
     std::fs::read_to_string(format!("../crates/{program}/{name}")).unwrap()
@@ -11,4 +11,11 @@ fn book_vectors() {
     let cases = book_cases::cases_text(&book_cases::cases());
     assert!(stored("book_vectors", "stdin") == cases);
     assert!(stored("book_vectors", "stdout") == book_cases::answers(&cases));
+}
+
+#[test]
+fn settle_vectors() {
+    let cases = settle_cases::cases_text(&settle_cases::cases());
+    assert!(stored("settle_vectors", "stdin") == cases);
+    assert!(stored("settle_vectors", "stdout") == settle_cases::answers(&cases));
 }
