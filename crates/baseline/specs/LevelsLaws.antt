@@ -7,6 +7,7 @@ use native.Mathlib.Omega.{arith}
 use lib.Dec.{eqb, ltb}
 use borrow.Author.Tests.{ltb-true, ltb-false}
 use Rattle.integers.specs.Ranges.{range}
+use Rattle.integers.specs.Tests.{both}
 use Rattle.wire.specs.Readings.{readingAt}
 use Rattle.wire.specs.declared.Reading.{Reading}
 use Rattle.book.specs.declared.Calendar.{Calendar}
@@ -25,19 +26,15 @@ use Rattle.baseline.specs.ShownLaws.{day-window, window-row, window-earl
 use Rattle.baseline.specs.Rows.{dayRow, dayRows}
 use Rattle.baseline.specs.Taken.{All, Serves}
 
-halves : (a b : Bool) → (a && b) ≡ true → (a ≡ true) × (b ≡ true)
-halves true b e = (refl, e)
-halves false b e = let z : _≡_ {A = ℕ} 0 1 = cc in absurd (omega arith)
-
 -- an eligible day has its window where the method looks at it
 windowed-day : (book : Book) (e : Engagement) (d : ℕ) → eligible book e d ≡ true → windowed (pointOf book e .method) (dayWindow book e d) ≡ true
 unfolding eligible
 windowed-day book e d h =
     let w = windowed (pointOf book e .method) (dayWindow book e d) in
     let n = not (excludes (pointOf book e .mask) d) in
-    let a = halves (eqb (book .category d) (book .category (e .day))) (n && (complete (dayReadings book e d) && w)) h in
-    let b = halves n (complete (dayReadings book e d) && w) (a .1) in
-    halves (complete (dayReadings book e d)) w (b .1) .1
+    let a = both (eqb (book .category d) (book .category (e .day))) (n && (complete (dayReadings book e d) && w)) h in
+    let b = both n (complete (dayReadings book e d) && w) (a .1) in
+    both (complete (dayReadings book e d)) w (b .1) .1
 
 module _ {c : Calendar} {calendar readings : List ℕ} {point : Point} {e : Engagement} {book : Book} (s : Shows c calendar readings point e book) where
   -- quarter-hour k of the days

@@ -6,6 +6,7 @@ use Prim.Native.Nat.{ℕ, _+_, _*_}
 use native.Mathlib.Omega.{arith}
 use lib.Dec.{eqb}
 use lib.ListN.{getD}
+use Rattle.integers.specs.Tests.{both}
 use Rattle.integers.specs.Sums.{sumZ}
 use Rattle.integers.specs.Z.{Over}
 use Rattle.wire.specs.declared.Reading.{Reading}
@@ -28,10 +29,6 @@ alike calendar point e d = eqb (getD calendar d 0) (getD calendar (e .day) 0) &&
 both-first : (a n x : Bool) → (a && (n && x)) ≡ ((a && n) && x)
 both-first true n x = refl
 both-first false n x = refl
-
-first : (a b : Bool) → (a && b) ≡ true → a ≡ true
-first true b f = refl
-first false b f = f
 
 module _ {c : Calendar} {calendar readings : List ℕ} {point : Point} {e : Engagement} {book : Book} (s : Shows c calendar readings point e book) (d : ℕ) where
   eligible-is : eligible book e d ≡ (alike calendar point e d && (complete (dayReadings book e d) && windowed (point .method) (dayWindow book e d)))
@@ -57,5 +54,5 @@ module _ {c : Calendar} {calendar readings : List ℕ} {point : Point} {e : Enga
       let win = g ∙ ap (windowed (point .method)) (sym (day-window s d)) in
       record {
         whole = ap₂ _&&_ (k .whole ∙ ap complete row) win ∙ sym (eligible-is ∙ ap (λ (b : Bool). b && (complete (dayReadings book e d) && windowed (point .method) (dayWindow book e d))) h);
-        sum = λ z. rw (← row) (k .sum (first (t .whole) good z));
+        sum = λ z. rw (← row) (k .sum (both (t .whole) good z .0));
       }

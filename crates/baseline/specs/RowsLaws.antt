@@ -1,7 +1,7 @@
 -- One day more.
 use mathlib.Core.Path.{_≡_, refl, sym, ap, ap₂, _∙_}
 use mathlib.Core.Bool.{_&&_}
-use mathlib.Core.List.{List, [], _∷_, _++_, map, flatMap, map-append, append-nil, append-assoc}
+use mathlib.Core.List.{List, [], _∷_, _++_, map, flatMap, map-append, append-nil}
 use Prim.Native.Nat.{ℕ, zero, suc, _+_, _-_, _*_, _%_, _≤_, _<_}
 use native.Mathlib.Nat.{add-mul, one-mul, mul-le-mul}
 use native.Mathlib.Omega.{arith}
@@ -10,15 +10,11 @@ use lib.Seq.{take-suc}
 use Rattle.wire.specs.declared.Reading.{Reading}
 use Rattle.book.specs.declared.Calendar.{Calendar}
 use Rattle.book.specs.Calendars.{dayStart}
+use Rattle.volumes.specs.QuartersLaws.{flatMap-append}
 use Rattle.baseline.specs.declared.tally.Tally.{Tally}
 use Rattle.baseline.specs.Tally.{Tallied}
 use Rattle.baseline.specs.TallyLaws.{tally-append}
 use Rattle.baseline.specs.Rows.{daysIn, dayRow, dayRows}
-
-pub flatMap-append : {A B : Type 0} (f : A → List B) (l m : List A) → flatMap f (l ++ m) ≡ flatMap f l ++ flatMap f m
-unfolding flatMap
-flatMap-append f [] m = refl
-flatMap-append f (a ∷ l) m = ap (λ (t : List _). f a ++ t) (flatMap-append f l m) ∙ sym (append-assoc (f a) (flatMap f l) (flatMap f m))
 
 flatMap-one : {A B : Type 0} (f : A → List B) (a : A) → flatMap f (a ∷ []) ≡ f a
 unfolding flatMap

@@ -8,6 +8,7 @@ use lib.Dec.{eqb}
 use lib.IntN.{ℤ, pos, negsuc, _+ℤ_, +ℤ-idr}
 use borrow.Author.Tests.{eqb-true, eqb-false, eq-eqb, ne-eqb}
 use Rattle.integers.specs.Ranges.{range, range-more}
+use Rattle.integers.specs.Tests.{both}
 use Rattle.integers.specs.Sums.{sumZ, sumBy, integers, sum-append}
 use Rattle.integers.specs.Z.{Over, Within, over-add}
 use Rattle.wire.specs.Readings.{readingAt, readingOf, missingIf, raised}
@@ -40,10 +41,6 @@ pub there : (z : ℤ) (r : ℕ) → Within z 2147483648 → r ≡ raised (readin
 unfolding readingOf watts known
 there (pos w) r h e = let o = raised-over (pos w) h in record { is = ap not (ne-eqb r 0 (λ q. omega arith)); sum = λ z. record { law = omega arith } }
 there (negsuc w) r h e = let o = raised-over (negsuc w) h in negative w r (eqb (suc w) 2147483648) refl (omega arith)
-
-both : (a b : Bool) → (a && b) ≡ true → (a ≡ true) × (b ≡ true)
-both true b e = (refl, e)
-both false b e = let z : _≡_ {A = ℕ} 0 1 = cc in absurd (omega arith)
 
 sum-more : (l : List Reading) (r : Reading) → sumZ watts (l ++ (r ∷ [])) ≡ sumZ watts l +ℤ watts r
 unfolding sumBy

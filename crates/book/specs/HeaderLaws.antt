@@ -8,6 +8,7 @@ use native.Mathlib.Omega.{arith}
 use lib.Dec.{eqb, leb}
 use lib.ListN.{length, take, drop, length-take, length-drop}
 use borrow.Author.Tests.{eqb-true, leb-true}
+use Rattle.integers.specs.Tests.{both}
 use Rattle.wire.specs.Numbers.{numberAt}
 use Rattle.wire.specs.NumbersLaws.{in-part}
 use Rattle.book.specs.declared.Calendar.{Calendar}
@@ -34,10 +35,6 @@ in-row w section i at k h = sym (in-part section (w * i) w at k h)
 
 pub at-row : (w : ℕ) (section : List ℕ) (i k : ℕ) → k ≤ w → numberAt section (w * i) k ≡ numberAt (rowAt w section i) 0 k
 at-row w section i k h = ap (λ (a : ℕ). numberAt section a k) (sym (add-zero (w * i))) ∙ in-row w section i 0 k (omega arith)
-
-both : (a b : Bool) → (a && b) ≡ true → (a ≡ true) × (b ≡ true)
-both true b e = (refl, e)
-both false b e = let z : _≡_ {A = ℕ} 0 1 = cc in absurd (omega arith)
 
 -- the first pair of those that adjoin, and the others
 pub adjoins : (book : List ℕ) (k at n : ℕ) (ns : List ℕ) → adjoining book k at (n ∷ ns) ≡ true → (isPair book k at n ≡ true) × (adjoining book (suc k) (at + n) ns ≡ true)

@@ -6,16 +6,17 @@ ghost use mathlib.Core.Path.{_≡_};
 ghost use Prim.Native.Nat.{_+_, _*_, _≤_, _<_};
 ghost use lib.ListN.{length};
 ghost use Rattle.integers.specs.First.{first};
+ghost use Rattle.book.specs.Calendars.{quartersOf, Ranged};
 ghost use Rattle.book.specs.Judged.{foundAt};
-ghost use Rattle.wire.specs.Readings.{readingAt};
-ghost use Rattle.book.specs.Metering.{isOutside, badReading};
+ghost use Rattle.book.specs.Metering.{meterAt, isOutside, badReading};
 
-// The reading of point p at quarter-hour k of a calendar that has so many.
-pub fn reading_of(readings: &[u8], quarters: usize, p: usize, k: usize) -> Reading
-    requires { ⌜ (quarters ≤ 6144) × (p < 256) × (4 * (quarters * p + k) + 4 ≤ length (now readings)) ⌝ }
-    ensures { λ r. ⌜ r ≡ readingAt (now (readings .entry)) (quarters * p + k) ⌝ }
+// The reading of point p at quarter-hour k of the calendar.
+pub fn reading_of(readings: &[u8], c: Calendar, p: usize, k: usize) -> Reading
+    requires { ⌜ Ranged c × (p < 256) × (4 * (quartersOf c * p + k) + 4 ≤ length (now readings)) ⌝ }
+    ensures { λ r. ⌜ r ≡ meterAt c (now (readings .entry)) p k ⌝ }
 {
-    wire::reading_at(readings, quarters * p + k)
+    let before = (crate::header::quarters_of(c) as usize) * p;
+    wire::reading_at(readings, before + k)
 }
 
 // A raised reading is there, and more than 10^9 watts off.

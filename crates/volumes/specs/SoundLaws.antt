@@ -1,7 +1,7 @@
 -- A book that passes refusals 1 to 7 is sound: each test that it passed says so of its rows.
 use mathlib.Core.Path.{_≡_, refl, sym, ap, _∙_}
 use mathlib.Core.Logic.{⊎-elim}
-use mathlib.Core.Bool.{Bool, true, false, cond, not, _&&_, _||_, false≢true, and-eq-true-iff}
+use mathlib.Core.Bool.{Bool, true, false, cond, not, _&&_, _||_, false≢true}
 use mathlib.Core.List.{List, [], _∷_, List·Memᴰ, List·Memᴰ·not-nil, List·Memᴰ·cases-cons, Memᴰ·of-map}
 use mathlib.Core.Option.{Option, none, some}
 use Prim.Native.Nat.{ℕ, zero, suc, _+_, _*_, _^_, _≤_, _<_}
@@ -12,6 +12,7 @@ use lib.IntN.{ℤ, pos, negℤ}
 use lib.ListN.{length, length-take, length-map, drop-of-length-le, List·getD-eq-default}
 use lib.Signed.{leZ}
 use borrow.Author.Tests.{eqb-true, eqb-false, leb-true, ltb-true, ltb-false, not-true, not-false}
+use Rattle.integers.specs.Tests.{both}
 use Rattle.integers.specs.First.{first, anyBelow, any-of}
 use Rattle.integers.specs.Ranges.{range, length-range}
 use Rattle.integers.specs.Z.{up, dn, one-0, le-yes}
@@ -46,9 +47,6 @@ passed false number later e = absurd (never number e)
 not-found : (found : Option ℕ) (number : ℕ) (later : Option Refusal) → unlessFound found number later ≡ none → (found ≡ none) × (later ≡ none)
 not-found none number later e = (refl, e)
 not-found (some i) number later e = absurd (never number e)
-
-both : (a b : Bool) → (a && b) ≡ true → (a ≡ true) × (b ≡ true)
-both a b = and-eq-true-iff a b .0
 
 neither : (a b : Bool) → (a || b) ≡ false → (a ≡ false) × (b ≡ false)
 neither false b e = (refl, e)
