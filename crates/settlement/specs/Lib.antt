@@ -6,6 +6,7 @@ pub mod StoresLaws
 pub mod FillLaws
 pub mod Sections
 pub mod SectionsLaws
+pub mod EngagedLaws
 pub mod Verdicts
 pub mod VerdictsLaws
 pub mod Settling

@@ -1,4 +1,4 @@
--- Filling the rows of one engagement after the other fills those of the book.
+-- Counting and filling the rows of one engagement after the other counts and fills those of the book.
 use mathlib.Core.Path.{_≡_, refl, sym, ap, _∙_}
 use mathlib.Core.List.{List, flatMap, _++_}
 use mathlib.Core.Option.{none}
@@ -7,9 +7,9 @@ use native.Mathlib.Numerals.{add-one}
 use native.Mathlib.Nat.{zero-add}
 use native.Mathlib.Omega.{arith}
 use lib.IntN.{ℤ}
-use lib.ListN.{length, take, drop, take-append-drop}
+use lib.ListN.{length, take, drop, take-append-drop, length-map}
 use lib.Seq.{sets, take-all}
-use Rattle.integers.specs.Sums.{naturals, sumOf, sum-append}
+use Rattle.integers.specs.Sums.{naturals, sumOf, sum-append, sumBy}
 use Rattle.book.specs.declared.Calendar.{Calendar}
 use Rattle.book.specs.declared.Engagement.{Engagement}
 use Rattle.book.specs.declared.Point.{Point}
@@ -18,11 +18,36 @@ use Rattle.book.specs.Register.{pointAt}
 use Rattle.book.specs.Engagements.{engagementAt}
 use Rattle.book.specs.Book.{Book}
 use Rattle.volumes.specs.Settlement.{refusalNumber, settlementRefusal, rowWidth, rowsOf, rows}
-use Rattle.volumes.specs.SettlementLaws.{all-settle, rows-length-of, rows-next}
-use Rattle.settlement.specs.Sections.{engagementCountIn, engagementsIn, rowCountIn, bookIn, Sectioned}
-use Rattle.settlement.specs.SectionsLaws.{rowCountTo, Engaged, row-count, row-named, member}
-use Rattle.settlement.specs.StoresLaws.{sets-append}
+use Rattle.volumes.specs.SettlementLaws.{all-settle, rows-length-of, rows-next, count-next}
 use Rattle.baseline.specs.Filled.{Settled, Accepts}
+use Rattle.integers.specs.Ranges.{length-range}
+use Rattle.settlement.specs.Sections.{engagementCountIn, engagementsIn, rowCountIn, bookIn, Sectioned}
+use Rattle.settlement.specs.EngagedLaws.{getD-made, Engaged, row-count, row-named, member}
+use Rattle.settlement.specs.StoresLaws.{sets-append}
+
+-- how many rows the first i engagements have, and one more
+unfoldable pub rowCountTo : List ℕ → ℕ → ℕ
+rowCountTo engagements i = sumOf (λ e. e .count) (take i (engagementsIn engagements))
+
+engagement-count : (engagements : List ℕ) → length (engagementsIn engagements) ≡ engagementCountIn engagements
+unfolding engagementsIn
+engagement-count engagements = rw (length-map, length-range)
+
+pub count-none : (engagements : List ℕ) → rowCountTo engagements 0 ≡ 0
+unfolding rowCountTo sumBy
+count-none engagements = refl
+
+pub count-more : (engagements : List ℕ) (i : ℕ) → i < engagementCountIn engagements → rowCountTo engagements (i + 1) ≡ rowCountTo engagements i + engagementAt engagements i .count
+unfolding rowCountTo engagementsIn
+count-more engagements i h =
+    let d = engagementAt engagements i in
+    rw add-one
+    (count-next (engagementsIn engagements) i d (omega (arith, engagement-count engagements))
+    ∙ ap (λ (e : Engagement). rowCountTo engagements i + e .count) (getD-made (engagementAt engagements) (engagementCountIn engagements) i d h))
+
+pub count-all : (engagements : List ℕ) (i : ℕ) → engagementCountIn engagements ≤ i → rowCountTo engagements i ≡ rowCountIn engagements
+unfolding rowCountTo rowCountIn
+count-all engagements i h = ap (sumOf (λ e. e .count)) (take-all i (engagementsIn engagements) (omega (arith, engagement-count engagements)))
 
 -- the rows of the first i engagements
 unfoldable pub rowsTo : Book → ℕ → List ℤ

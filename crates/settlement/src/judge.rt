@@ -18,7 +18,7 @@ pub enum Verdict {
 }
 
 // A book's own refusal, by its number and item.
-fn of_book(judged: Judged) -> Verdict
+fn verdict_of(judged: Judged) -> Verdict
     ensures { λ r. ⌜ refusalIn r ≡ sentBack judged ⌝ }
 {
     match judged {
@@ -83,7 +83,7 @@ pub fn judge_rows(
 pub fn judge_settlement(book: &[u8]) -> Verdict
     ensures { λ r. ⌜ refusalIn r ≡ bookRefusal (now (book .entry)) ⌝ }
 {
-    let verdict = of_book(book::judge::judge_book(book));
+    let verdict = verdict_of(book::judge::judge_book(book));
     if let Verdict::Refused(number, item) = verdict {
         return Verdict::Refused(number, item);
     }

@@ -19,7 +19,7 @@ pub enum Settled {
     Refused(u64, usize),
 }
 
-// The rows of a section: the engagements' quarter-hours.
+// The rows of a section of engagements: their quarter-hours, at most 255 for each of 512.
 pub fn count_rows(engagements: &[u8]) -> usize
     requires { ⌜ engagementCountIn (now engagements) ≤ 512 ⌝ }
     ensures { λ r. ⌜ (r ≡ rowCountIn (now (engagements .entry))) × (r ≤ 130560) ⌝ }

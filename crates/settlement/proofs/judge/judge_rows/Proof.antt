@@ -6,7 +6,7 @@ use Rattle.volumes.specs.Settlement.{settlementRefusal, rowRefusal}
 use Rattle.volumes.specs.SettlementLaws.{refusalAt, refusal-all}
 use Rattle.baseline.specs.Needs.{numberOf}
 use Rattle.settlement.specs.Sections.{bookIn}
-use Rattle.settlement.specs.SectionsLaws.{refusal-row, refusal-last}
+use Rattle.settlement.specs.EngagedLaws.{refusal-row, refusal-last}
 use borrow.Author.Needs.{needs}
 use Rattle.settlement.proofs.judge.judge_rows.Statement.{statement}
 use Rattle.settlement.proofs.judge.judge_rows.Tie as tie

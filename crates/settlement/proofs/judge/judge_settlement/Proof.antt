@@ -14,15 +14,15 @@ use Rattle.settlement.proofs.judge.judge_settlement.Tie as tie
 judge-book-requires : tie.Need-judge-book-requires
 judge-book-requires c κs = search needs
 
-of-book-requires : tie.Need-of-book-requires
-of-book-requires c κs = search needs
+verdict-of-requires : tie.Need-verdict-of-requires
+verdict-of-requires c κs = search needs
 
 enum-known-verdict : tie.Need-enum-known-verdict
 enum-known-verdict c = search needs
 
 returns : tie.Need-returns
 returns c = let k = c .before .before .before in
-    book-refused (k .before .before .before .args .book .now) _ (ap refusalIn (sym (c .before .verdict .given .1)) ∙ k .of-book .ensures ∙ k .before .judge-book .ensures)
+    book-refused (k .before .before .before .args .book .now) _ (ap refusalIn (sym (c .before .verdict .given .1)) ∙ k .verdict-of .ensures ∙ k .before .judge-book .ensures)
 
 enum-told : tie.Need-enum-told
 enum-told c = search needs
@@ -30,7 +30,7 @@ enum-told c = search needs
 -- the book passes refusals 1 to 7
 passed : (c : tie.After-enum-told) → refusalOf (c .before .before .before .before .before .args .book .now) ≡ none
 passed c = let k = c .before .before in
-    sym (k .before .judge-book .ensures) ∙ sym (k .of-book .ensures) ∙ ap refusalIn (c .enum-told .given .1)
+    sym (k .before .judge-book .ensures) ∙ sym (k .verdict-of .ensures) ∙ ap refusalIn (c .enum-told .given .1)
 
 section-requires : tie.Need-section-requires
 section-requires c κs = (passed (c), search needs)
@@ -69,7 +69,7 @@ judge-settlement-spec =
     tie.close
     (tie.spec
     judge-book-requires
-    of-book-requires
+    verdict-of-requires
     enum-known-verdict
     returns
     enum-told

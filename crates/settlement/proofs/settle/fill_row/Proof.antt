@@ -1,5 +1,5 @@
 -- The engagement, its point and its category's X and Y are those of the book that the sections make.
-use mathlib.Core.Path.{_≡_, sym, ap, subst, _∙_}
+use mathlib.Core.Path.{_≡_, ap, _∙_}
 use mathlib.Core.Option.{none}
 use Prim.Native.Nat.{_+_, _*_, _≤_}
 use lib.ListN.{length}
@@ -8,7 +8,7 @@ use Rattle.book.specs.declared.Engagement.{Engagement}
 use Rattle.book.specs.Tables.{categoryAt, xAt, yAt}
 use Rattle.volumes.specs.Settlement.{refusalNumber, rowWidth, rowsOf}
 use Rattle.settlement.specs.Sections.{bookIn}
-use Rattle.settlement.specs.SectionsLaws.{Engaged, engaged}
+use Rattle.settlement.specs.EngagedLaws.{Engaged, engaged-as}
 use Rattle.settlement.specs.SettlingLaws.{settled, accepts}
 use native.Mathlib.Omega.{arith}
 use borrow.Author.Needs.{needs}
@@ -19,11 +19,10 @@ engagement-at-requires : tie.Need-engagement-at-requires
 engagement-at-requires c κs = search needs
 
 -- what the sections say of the engagement
-here : (c : tie.After-engagement-at) → Engaged (c .before .before .before .before .before .before .args .c) (c .before .before .before .before .before .before .args .calendar .now) (c .before .before .before .before .before .before .args .pairs .now) (c .before .before .before .before .before .before .args .register .now) (c .before .before .before .before .before .before .args .readings .now) (c .before .before .before .before .before .before .args .engagements .now) (c .before .before .before .before .before .before .args .i) (c .engagement-at .result)
-here c =
-    let s = c .before .before .before .before .before .before in
-    let a = s .args in
-    subst (Engaged (a .c) (a .calendar .now) (a .pairs .now) (a .register .now) (a .readings .now) (a .engagements .now) (a .i)) (sym (c .engagement-at .ensures)) (engaged (s .pre .0) (a .i) (s .pre .1))
+here : (c : tie.After-engagement-at) → let a = c .before .before .before .before .before .before .args in
+    Engaged (a .c) (a .calendar .now) (a .pairs .now) (a .register .now) (a .readings .now) (a .engagements .now) (a .i) (c .engagement-at .result)
+here c = let s = c .before .before .before .before .before .before in
+    engaged-as (s .pre .0) (s .args .i) (s .pre .1) (c .engagement-at .ensures)
 
 cast-point-at : tie.Need-cast-point-at
 cast-point-at c = search needs

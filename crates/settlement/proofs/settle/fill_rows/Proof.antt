@@ -8,8 +8,7 @@ use lib.Seq.{sets, length-sets}
 use Rattle.book.specs.Engagements.{engagementAt}
 use Rattle.volumes.specs.Settlement.{rowWidth, rowsOf}
 use Rattle.settlement.specs.Sections.{bookIn}
-use Rattle.settlement.specs.SectionsLaws.{rowCountTo, count-none, count-more}
-use Rattle.settlement.specs.SettlingLaws.{rowsTo, filled-none, filled-more, filled-all, count-most, not-refused}
+use Rattle.settlement.specs.SettlingLaws.{rowCountTo, count-none, count-more, rowsTo, filled-none, filled-more, filled-all, count-most, not-refused}
 use borrow.Author.Needs.{needs}
 use native.Mathlib.Omega.{arith}
 use Rattle.settlement.proofs.settle.fill_rows.Statement.{statement}

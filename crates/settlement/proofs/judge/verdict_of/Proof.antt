@@ -1,7 +1,7 @@
 -- A case a number.
 use borrow.Author.Needs.{needs}
-use Rattle.settlement.proofs.judge.of_book.Statement.{statement}
-use Rattle.settlement.proofs.judge.of_book.Tie as tie
+use Rattle.settlement.proofs.judge.verdict_of.Statement.{statement}
+use Rattle.settlement.proofs.judge.verdict_of.Tie as tie
 
 enum-told : tie.Need-enum-told
 enum-told c = search needs
@@ -51,8 +51,8 @@ returns-7 c = rw (c .before .judged2 .given .1)
 returns-8 : tie.Need-returns-8
 returns-8 c = rw (c .before .judged3 .given .1)
 
-pub of-book-spec : {M : Type 1} → statement M
-of-book-spec =
+pub verdict-of-spec : {M : Type 1} → statement M
+verdict-of-spec =
     tie.close
     (tie.spec
     enum-told
