@@ -133,36 +133,33 @@ module _ {c : Calendar} {calendar readings : List ℕ} {point : Point} {e : Enga
       let day : getD (daysIn keys x) j 0 ≡ getD keys j 0 % 64 = List·getD-map (λ k. k % 64) (take x keys) j 0 ∙ ap (λ (k : ℕ). k % 64) (getD-take x keys j 0 i) in
       subst (Serves book e) day (all-at (Serves book e) (daysIn keys x) j (rw (t .days) (t .each)) (omega (arith, length-map (take x keys) (λ k. k % 64), length-take x keys)))
 
-  pub lie-quarters : (keys : List ℕ) → Fits c calendar readings e → Took book e keys x → x ≤ 10 → x ≤ length keys → (k : ℕ) → k < e .count → Lie readings keys c (quartersOf c * e .point) (e .first + k) 0 1 x
-  lie-quarters keys f t few room k h =
+  lie-of : (keys : List ℕ) → Fits c calendar readings e → Took book e keys x → x ≤ 10 → x ≤ length keys → (q back n : ℕ) → q ≤ 96 → n ≤ 12
+      → ((d : ℕ) → Serves book e d → Lies readings c (quartersOf c * e .point) q back n d) → Lie readings keys c (quartersOf c * e .point) q back n x
+  lie-of keys f t few room q back n h k lies =
       let own = stands c calendar readings e (e .day) f (f .day) in
       record {
         start = omega (arith, own .base);
-        quarter = omega (arith, own .short);
-        short = omega arith;
+        quarter = h;
+        short = k;
         few = few;
         some = room;
-        lies = λ j i.
-            let v = serves-at keys t room j i in
-            let m = stands c calendar readings e (getD keys j 0 % 64) f (omega (arith, v .early, f .day)) in
-            record { early = v .small; from = omega arith; room = omega (arith, m .roomy) };
+        lies = λ j i. lies (getD keys j 0 % 64) (serves-at keys t room j i);
       }
+
+  pub lie-quarters : (keys : List ℕ) → Fits c calendar readings e → Took book e keys x → x ≤ 10 → x ≤ length keys → (k : ℕ) → k < e .count → Lie readings keys c (quartersOf c * e .point) (e .first + k) 0 1 x
+  lie-quarters keys f t few room k h =
+      let own = stands c calendar readings e (e .day) f (f .day) in
+      lie-of keys f t few room (e .first + k) 0 1 (omega (arith, own .short)) (omega arith)
+      (λ d v. let m = stands c calendar readings e d f (omega (arith, v .early, f .day)) in record { early = v .small; from = omega arith; room = omega (arith, m .roomy) })
 
   pub lie-windows : (keys : List ℕ) → Fits c calendar readings e → Took book e keys x → x ≤ 10 → x ≤ length keys → point .method ≡ Adjusted → Lie readings keys c (quartersOf c * e .point) (e .first) 24 12 x
   lie-windows keys f t few room w =
       let own = stands c calendar readings e (e .day) f (f .day) in
-      record {
-        start = omega (arith, own .base);
-        quarter = omega (arith, own .short);
-        short = omega arith;
-        few = few;
-        some = room;
-        lies = λ j i.
-            let v = serves-at keys t room j i in
-            let m = stands c calendar readings e (getD keys j 0 % 64) f (omega (arith, v .early, f .day)) in
-            let q = window-inside (s .shows) (getD keys j 0 % 64) w (v .good) in
-            record { early = v .small; from = q; room = omega (arith, m .roomy) };
-      }
+      lie-of keys f t few room (e .first) 24 12 (omega (arith, own .short)) (omega arith)
+      (λ d v.
+      let m = stands c calendar readings e d f (omega (arith, v .early, f .day)) in
+      let q = window-inside (s .shows) d w (v .good) in
+      record { early = v .small; from = q; room = omega (arith, m .roomy) })
 
   -- methods 1 and 2 together
   pub by-days : (keys : List ℕ) (k add r : ℕ) (m : Method) → point .method ≡ m → looksBack m ≡ true → Took book e keys x → k < e .count

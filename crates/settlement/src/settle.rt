@@ -1,5 +1,6 @@
 // Settling a book: its rows, or why there are none.
 use crate::judge::Verdict;
+use crate::rows::ROW_WIDTH;
 use book::Calendar;
 ghost use mathlib.Core.Path.{_≡_};
 ghost use mathlib.Core.Option.{none};
@@ -64,7 +65,7 @@ fn fill_row(
     let x = book::tables::x_of(pairs, category) as usize;
     let y = book::tables::y_of(pairs, category) as usize;
     crate::fill::settle_engagement(c, calendar, readings, point, e, x, y, out, at);
-    at + 4 * (e.count as usize)
+    at + ROW_WIDTH * (e.count as usize)
 }
 
 // The rows of all engagements, of a book that is not refused.
@@ -122,7 +123,7 @@ pub fn settle(book: &[u8], rows: &mut [i64]) -> Settled
         return Settled::Refused(number, item);
     }
     let count = row_count(book);
-    if rows.len() < 4 * count {
+    if rows.len() < ROW_WIDTH * count {
         return Settled::Refused(10, 0);
     }
     fill_book(book, rows);
