@@ -15,7 +15,7 @@ use Rattle.volumes.specs.Settlement.{refusalNumber}
 use Rattle.baseline.specs.Shown.{Shows, Fits}
 
 -- the sections are those of a book that does not refuse the engagement, with these X and Y
-pub record Settled (c : Calendar) (calendar readings : List ℕ) (point : Point) (e : Engagement) (x y : ℕ) (book : Book) : Type 0 where
+pub record Unrefused (c : Calendar) (calendar readings : List ℕ) (point : Point) (e : Engagement) (x y : ℕ) (book : Book) : Type 0 where
   pub shows : Shows c calendar readings point e book
   pub good : refusalNumber book e ≡ none
   pub takes : x ≡ xOf book e
@@ -25,7 +25,7 @@ pub record Settled (c : Calendar) (calendar readings : List ℕ) (point : Point)
 pub record Accepts (c : Calendar) (calendar readings : List ℕ) (point : Point) (e : Engagement) (x y : ℕ) : Type 0 where
   pub fits : Fits c calendar readings e
   pub book : Book
-  pub settled : Settled c calendar readings point e x y book
+  pub settled : Unrefused c calendar readings point e x y book
   pub some : 1 ≤ x
   pub few : x ≤ 10
   pub within : x ≤ y
@@ -34,4 +34,4 @@ pub record Accepts (c : Calendar) (calendar readings : List ℕ) (point : Point)
 -- each quarter-hour's baseline, raised by 3 times 2^31 watts
 pub record Filled (c : Calendar) (calendar readings : List ℕ) (point : Point) (e : Engagement) (x y : ℕ) (bases : List ℕ) : Type 0 where
   pub small : (k : ℕ) → k < e .count → getD bases k 0 ≤ grains 12884901887
-  pub levels : (book : Book) → Settled c calendar readings point e x y book → (k : ℕ) → k < e .count → Over (grains 6442450944) (baseline book e k) (getD bases k 0)
+  pub levels : (book : Book) → Unrefused c calendar readings point e x y book → (k : ℕ) → k < e .count → Over (grains 6442450944) (baseline book e k) (getD bases k 0)

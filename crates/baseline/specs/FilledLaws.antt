@@ -39,7 +39,7 @@ use Rattle.baseline.specs.Taken.{All, Serves, Took}
 use Rattle.baseline.specs.TakenLaws.{took}
 use Rattle.baseline.specs.Needs.{looksBack}
 use Rattle.baseline.specs.Bases.{Raises, Added}
-use Rattle.baseline.specs.Filled.{Settled}
+use Rattle.baseline.specs.Filled.{Unrefused}
 
 enough : (book : Book) (e : Engagement) (m : Method) → looksBack m ≡ true → tooFew m (yOf book e) (length (eligibleDays book e)) ≡ false → yOf book e ≤ length (eligibleDays book e)
 unfolding looksBack tooFew
@@ -68,7 +68,7 @@ all-at P [] j h i = absurd (omega arith)
 all-at P (d ∷ l) zero h i = h .0
 all-at P (d ∷ l) (suc j) h i = all-at P l j (h .1) (omega arith)
 
-module _ {c : Calendar} {calendar readings : List ℕ} {point : Point} {e : Engagement} {x y : ℕ} {book : Book} (s : Settled c calendar readings point e x y book) where
+module _ {c : Calendar} {calendar readings : List ℕ} {point : Point} {e : Engagement} {x y : ℕ} {book : Book} (s : Unrefused c calendar readings point e x y book) where
   method-is : pointOf book e .method ≡ point .method
   method-is = ap (λ (p : Point). p .method) (s .shows .owner)
 

@@ -1,32 +1,29 @@
 -- The readings from the engagement's first on are its own, and none is missing where it is not refused.
-use mathlib.Core.Path.{_≡_, refl, sym, ap, ap₂, _∙_}
+use mathlib.Core.Path.{_≡_, sym, ap, _∙_}
 use mathlib.Core.Bool.{true}
-use mathlib.Core.List.{List, [], _∷_, map}
-use Prim.Native.Nat.{ℕ, _+_, _*_, _<_}
+use mathlib.Core.List.{List, map}
+use Prim.Native.Nat.{ℕ, _+_, _*_}
 use native.Mathlib.Omega.{arith}
-use lib.ListN.{getD}
 use Rattle.integers.specs.Ranges.{range}
 use Rattle.wire.specs.Readings.{readingAt}
-use Rattle.wire.specs.declared.Reading.{Reading}
 use Rattle.book.specs.declared.Calendar.{Calendar}
 use Rattle.book.specs.declared.Engagement.{Engagement}
 use Rattle.book.specs.declared.Point.{Point}
 use Rattle.book.specs.Calendars.{dayStart, quartersOf}
 use Rattle.book.specs.Book.{Book}
 use Rattle.volumes.specs.Quarters.{start, quarterHours}
-use Rattle.volumes.specs.Baseline.{pointOf, complete, ownReading, baseline}
+use Rattle.volumes.specs.Baseline.{pointOf, complete, ownReading}
 use Rattle.volumes.specs.BaselineLaws.{complete-append}
 use Rattle.volumes.specs.Settlement.{neededBy, needed, rowsOf}
-use Rattle.volumes.specs.SettlementLaws.{Settles, settles}
+use Rattle.volumes.specs.SettlementLaws.{settles}
 use Rattle.volumes.specs.QuartersLaws.{map-range-cong}
-use Rattle.baseline.specs.Shown.{Shows}
 use Rattle.baseline.specs.ShownLaws.{start-at}
-use Rattle.baseline.specs.Filled.{Settled, Filled}
+use Rattle.baseline.specs.Filled.{Unrefused, Filled}
 use Rattle.settlement.specs.Rows.{readingsFrom, rowsFrom}
 use Rattle.settlement.specs.RaisedLaws.{both}
 use Rattle.settlement.specs.RowsLaws.{rows-from}
 
-module _ {c : Calendar} {calendar readings : List ℕ} {point : Point} {e : Engagement} {x y : ℕ} {book : Book} (s : Settled c calendar readings point e x y book) where
+module _ {c : Calendar} {calendar readings : List ℕ} {point : Point} {e : Engagement} {x y : ℕ} {book : Book} (s : Unrefused c calendar readings point e x y book) where
   pub own-at : (first : ℕ) → first ≡ quartersOf c * e .point + (dayStart c (e .day) + e .first) → (k : ℕ) → readingAt readings (first + k) ≡ ownReading book e k
   unfolding ownReading
   own-at first f k =

@@ -19,7 +19,7 @@ use Rattle.book.specs.Engagements.{engagementAt}
 use Rattle.book.specs.Book.{Book}
 use Rattle.volumes.specs.Settlement.{refusalNumber, settlementRefusal, rowWidth, rowsOf, rows}
 use Rattle.volumes.specs.SettlementLaws.{all-settle, rows-length-of, rows-next, count-next}
-use Rattle.baseline.specs.Filled.{Settled, Accepts}
+use Rattle.baseline.specs.Filled.{Unrefused, Accepts}
 use Rattle.integers.specs.Ranges.{length-range}
 use Rattle.settlement.specs.Sections.{engagementCountIn, engagementsIn, rowCountIn, bookIn, Sectioned}
 use Rattle.settlement.specs.EngagedLaws.{getD-made, Engaged, row-count, row-named, member}
@@ -103,7 +103,7 @@ module _ {c : Calendar} {calendar pairs register readings engagements : List ℕ
 
 module _ {c : Calendar} {calendar pairs register readings engagements : List ℕ} {i x y : ℕ} {e : Engagement} {point : Point} (g : Engaged c calendar pairs register readings engagements i e) (good : refusalNumber (bookIn c calendar pairs register readings engagements) e ≡ none) (p : point ≡ pointAt register (e .point)) (h : x ≡ xAt pairs (categoryAt calendar (e .day))) (k : y ≡ yAt pairs (categoryAt calendar (e .day))) where
   -- what settling an engagement asks, of one that is not refused
-  pub settled : Settled c calendar readings point e x y (bookIn c calendar pairs register readings engagements)
+  pub settled : Unrefused c calendar readings point e x y (bookIn c calendar pairs register readings engagements)
   settled = record { shows = rw p (g .shows); good = good; takes = h ∙ sym (g .x); wants = k ∙ sym (g .y) }
 
   pub accepts : Accepts c calendar readings point e x y

@@ -8,7 +8,7 @@ ghost use lib.ListN.{length};
 ghost use lib.Seq.{sets};
 ghost use Rattle.book.specs.Book.{Book};
 ghost use Rattle.volumes.specs.Settlement.{rowWidth, rowsOf};
-ghost use Rattle.baseline.specs.Filled.{Settled, Accepts};
+ghost use Rattle.baseline.specs.Filled.{Unrefused, Accepts};
 
 // Fills the rows of an engagement that is not refused, from place `at` on.
 pub fn settle_engagement(
@@ -23,7 +23,7 @@ pub fn settle_engagement(
     at: usize,
 )
     requires { ⌜ Accepts c (now calendar) (now readings) point e x y × (at + rowWidth * e .count ≤ length (now out)) ⌝ }
-    ensures { λ r. ⌜ ((b : Book) → Settled c (now (calendar .entry)) (now (readings .entry)) point e x y b → now (out .exit) ≡ sets (now (out .entry)) at (rowsOf b e)) ⌝ }
+    ensures { λ r. ⌜ ((b : Book) → Unrefused c (now (calendar .entry)) (now (readings .entry)) point e x y b → now (out .exit) ≡ sets (now (out .entry)) at (rowsOf b e)) ⌝ }
 {
     let mut bases = [0u64; 96];
     baseline::bases::fill_bases(c, calendar, readings, point, e, x, y, &mut bases);

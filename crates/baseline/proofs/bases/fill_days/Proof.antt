@@ -10,7 +10,7 @@ use Rattle.book.specs.Book.{Book}
 use Rattle.baseline.specs.ShownLaws.{stands}
 use Rattle.baseline.specs.Rows.{daysIn, dayRows, Lie}
 use Rattle.baseline.specs.Taken.{Took}
-use Rattle.baseline.specs.Filled.{Settled}
+use Rattle.baseline.specs.Filled.{Unrefused}
 use native.Mathlib.Omega.{arith}
 use borrow.Author.Needs.{needs}
 use Rattle.baseline.proofs.bases.fill_days.Statement.{statement}
@@ -23,7 +23,7 @@ rank-days-requires : tie.Need-rank-days-requires
 rank-days-requires c κs = (c .before .before .before .before .pre .0 .fits, omega (arith, c .before .before .before .before .pre .0 .most))
 
 -- the keys tell the days that a book takes, and there are enough of them
-took-at : (c : tie.After-rank-days) (b : Book) → Settled (c .before .before .before .before .before .args .c) (c .before .before .before .before .before .args .calendar .now) (c .before .before .before .before .before .args .readings .now) (c .before .before .before .before .before .args .point) (c .before .before .before .before .before .args .e) (c .before .before .before .before .before .args .x) (c .before .before .before .before .before .args .y) b → Took b (c .before .before .before .before .before .args .e) (c .rank-days .last .1 .1 .1 .1 .1 .1 .0) (c .before .before .before .before .before .args .x)
+took-at : (c : tie.After-rank-days) (b : Book) → Unrefused (c .before .before .before .before .before .args .c) (c .before .before .before .before .before .args .calendar .now) (c .before .before .before .before .before .args .readings .now) (c .before .before .before .before .before .args .point) (c .before .before .before .before .before .args .e) (c .before .before .before .before .before .args .x) (c .before .before .before .before .before .args .y) b → Took b (c .before .before .before .before .before .args .e) (c .rank-days .last .1 .1 .1 .1 .1 .1 .0) (c .before .before .before .before .before .args .x)
 took-at c b s = took-days s (c .rank-days .last .1 .1 .1 .1 .1 .1 .0) (c .rank-days .result) (c .before .before .before .before .before .pre .1) (c .before .before .before .before .before .pre .0 .within) (c .rank-days .ensures b (s .shows))
 
 roomy : (c : tie.After-rank-days) → c .before .before .before .before .before .args .x ≤ length (c .rank-days .last .1 .1 .1 .1 .1 .1 .0)
