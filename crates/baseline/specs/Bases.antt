@@ -2,7 +2,7 @@
 use mathlib.Core.Path.{_≡_}
 use mathlib.Core.Bool.{true}
 use mathlib.Core.List.{List}
-use Prim.Native.Nat.{ℕ, _+_, _*_, _≤_, _<_}
+use Prim.Native.Nat.{ℕ, _+_, _≤_, _<_}
 use lib.IntN.{ℤ, pos, _+ℤ_, _*ℤ_}
 use Rattle.integers.specs.Sums.{sumZ}
 use Rattle.integers.specs.Z.{Over}
@@ -10,7 +10,7 @@ use Rattle.grains.specs.Grains.{grains, share}
 use Rattle.wire.specs.declared.Reading.{Reading}
 use Rattle.book.specs.declared.Calendar.{Calendar}
 use Rattle.book.specs.declared.Method.{Method}
-use Rattle.book.specs.declared.Method.the-variants.{LastQuarter, HighXOfY, Adjusted}
+use Rattle.book.specs.declared.Method.the-variants.{HighXOfY, Adjusted}
 use Rattle.volumes.specs.Baseline.{watts, complete}
 use Rattle.baseline.specs.Rows.{Lie}
 use Rattle.baseline.specs.Levels.{Adds}

@@ -1,5 +1,5 @@
 -- From the levels that are read to the baselines that document 01 states.
-use mathlib.Core.Path.{_≡_, refl, sym, ap, ap₂, subst, _∙_}
+use mathlib.Core.Path.{_≡_, refl, sym, ap, subst, _∙_}
 use mathlib.Core.Bool.{Bool, true, false, cond}
 use mathlib.Core.List.{List, [], _∷_, map, flatMap}
 use Prim.Native.Nat.{ℕ, zero, suc, _+_, _-_, _*_, _%_, _≤_, _<_}
@@ -11,7 +11,7 @@ use lib.Seq.{getD-take}
 use borrow.Author.Tests.{ltb-false, leb-true}
 use Rattle.integers.specs.Sums.{sumZ}
 use Rattle.integers.specs.Z.{Over}
-use Rattle.grains.specs.Grains.{grains, grainsZ, share}
+use Rattle.grains.specs.Grains.{grains, share}
 use Rattle.wire.specs.Readings.{readingAt}
 use Rattle.wire.specs.declared.Reading.{Reading}
 use Rattle.wire.specs.declared.Reading.the-variants.{Missing}
@@ -20,17 +20,17 @@ use Rattle.book.specs.declared.Engagement.{Engagement}
 use Rattle.book.specs.declared.Point.{Point}
 use Rattle.book.specs.declared.Method.{Method}
 use Rattle.book.specs.declared.Method.the-variants.{LastQuarter, HighXOfY, Adjusted}
-use Rattle.book.specs.Calendars.{daysOf, dayStart, quartersOf}
+use Rattle.book.specs.Calendars.{dayStart, quartersOf}
 use Rattle.book.specs.Book.{Book}
 use Rattle.volumes.specs.Quarters.{start, reference}
 use Rattle.volumes.specs.QuartersLaws.{length-flatMap}
-use Rattle.volumes.specs.Baseline.{pointOf, watts, known, complete, mean, dayReading, dayWindow, ownWindow, lastReading, taken, high, addend, baselineBy, baseline, eligibleDays, yOf, xOf, latest}
+use Rattle.volumes.specs.Baseline.{pointOf, watts, known, complete, mean, dayReading, dayWindow, ownWindow, lastReading, taken, high, addend, baselineBy, baseline, eligibleDays, yOf}
 use Rattle.volumes.specs.BaselineLaws.{window-12}
-use Rattle.volumes.specs.Settlement.{tooFew, refusalNumber}
-use Rattle.volumes.specs.SettlementLaws.{Settles, settles}
+use Rattle.volumes.specs.Settlement.{tooFew}
+use Rattle.volumes.specs.SettlementLaws.{settles}
 use Rattle.volumes.specs.UsedLaws.{high-complete, windows-complete, own-window-complete, last-known}
-use Rattle.baseline.specs.Shown.{Shows, Fits, beforeIn, windowIn}
-use Rattle.baseline.specs.ShownLaws.{own-window, before-at, start-at, Stands, stands}
+use Rattle.baseline.specs.Shown.{Fits, beforeIn, windowIn}
+use Rattle.baseline.specs.ShownLaws.{own-window, before-at, start-at, stands}
 use Rattle.baseline.specs.Rows.{daysIn, dayRows, Lies, Lie}
 use Rattle.baseline.specs.Levels.{Lasts, Adds}
 use Rattle.baseline.specs.LevelsLaws.{quarter-rows, window-rows, window-inside}

@@ -1,9 +1,7 @@
 -- Levels in arithmetic: a mean's bias is one reading's, and biases cancel in a difference.
-use mathlib.Core.Path.{_≡_, sym, subst, _∙_}
-use Prim.Native.Nat.{ℕ, _+_, _-_, _*_, _≤_}
-use native.Mathlib.Nat.{mul-comm}
+use Prim.Native.Nat.{ℕ, _+_, _-_, _≤_}
 use native.Mathlib.Omega.{arith}
-use lib.IntN.{ℤ, pos, _*ℤ_, _-ℤ_}
+use lib.IntN.{ℤ, _-ℤ_}
 use Rattle.integers.specs.Z.{Over, dif, mul}
 use Rattle.grains.specs.Grains.{perWatt, grains, grainsZ}
 

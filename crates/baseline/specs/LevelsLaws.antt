@@ -1,29 +1,26 @@
 -- What is read of the days that are taken is what the definitions look at.
-use mathlib.Core.Path.{_≡_, refl, sym, ap, ap₂, subst, _∙_}
+use mathlib.Core.Path.{_≡_, refl, sym, ap, ap₂, _∙_}
 use mathlib.Core.Bool.{Bool, true, false, not, _&&_}
 use mathlib.Core.List.{List, [], _∷_, _++_, map, flatMap}
-use Prim.Native.Nat.{ℕ, zero, suc, _+_, _-_, _*_, _≤_, _<_}
+use Prim.Native.Nat.{ℕ, _+_, _-_, _*_, _≤_}
 use native.Mathlib.Omega.{arith}
 use lib.Dec.{eqb, ltb}
 use borrow.Author.Tests.{ltb-true, ltb-false}
 use Rattle.integers.specs.Ranges.{range}
 use Rattle.integers.specs.Tests.{both}
 use Rattle.wire.specs.Readings.{readingAt}
-use Rattle.wire.specs.declared.Reading.{Reading}
 use Rattle.book.specs.declared.Calendar.{Calendar}
 use Rattle.book.specs.declared.Engagement.{Engagement}
 use Rattle.book.specs.declared.Point.{Point}
-use Rattle.book.specs.declared.Method.{Method}
 use Rattle.book.specs.declared.Method.the-variants.{Adjusted}
 use Rattle.book.specs.Calendars.{dayStart, quartersOf}
 use Rattle.book.specs.Register.{excludes}
 use Rattle.book.specs.Book.{Book}
 use Rattle.volumes.specs.Quarters.{referenceQuarter, reference}
 use Rattle.volumes.specs.Baseline.{pointOf, complete, dayReading, dayReadings, dayWindow, windowed, eligible}
-use Rattle.baseline.specs.Tally.{inRow}
-use Rattle.baseline.specs.Shown.{Shows, windowIn}
+use Rattle.baseline.specs.Shown.{Shows}
 use Rattle.baseline.specs.ShownLaws.{day-window, window-row, window-early}
-use Rattle.baseline.specs.Rows.{dayRow, dayRows}
+use Rattle.baseline.specs.Rows.{dayRows}
 use Rattle.baseline.specs.Taken.{All, Serves}
 
 -- an eligible day has its window where the method looks at it

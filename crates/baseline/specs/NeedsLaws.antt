@@ -1,12 +1,12 @@
 -- What the judging of an engagement finds is what the definitions say.
-use mathlib.Core.Path.{_≡_, refl, sym, ap, ap₂, _∙_}
+use mathlib.Core.Path.{_≡_, refl, ap, ap₂, _∙_}
 use mathlib.Core.Bool.{Bool, true, false, cond, _&&_}
-use mathlib.Core.List.{List, [], _∷_, _++_, map}
-use mathlib.Core.Option.{Option, none, some}
-use Prim.Native.Nat.{ℕ, _+_, _*_, _≤_, _<_, min}
+use mathlib.Core.List.{List, [], _∷_, map}
+use mathlib.Core.Option.{none, some}
+use Prim.Native.Nat.{ℕ, _+_, _*_}
 use native.Mathlib.Omega.{arith}
 use lib.Dec.{ltb}
-use lib.ListN.{length, take, length-take}
+use lib.ListN.{length}
 use Rattle.wire.specs.declared.Reading.{Reading}
 use Rattle.book.specs.declared.Calendar.{Calendar}
 use Rattle.book.specs.declared.Engagement.{Engagement}
@@ -16,12 +16,12 @@ use Rattle.book.specs.declared.Method.the-variants.{LastQuarter, HighXOfY, Adju
 use Rattle.book.specs.Calendars.{dayStart, quartersOf}
 use Rattle.book.specs.Book.{Book}
 use Rattle.volumes.specs.Quarters.{start, quarterHours}
-use Rattle.volumes.specs.Baseline.{pointOf, complete, readingBefore, lastReading, ownReading, ownWindow, eligibleDays, yOf, latest}
+use Rattle.volumes.specs.Baseline.{pointOf, complete, lastReading, ownReading, eligibleDays, yOf, latest}
 use Rattle.volumes.specs.BaselineLaws.{complete-append}
 use Rattle.volumes.specs.DaysLaws.{few-latest}
 use Rattle.volumes.specs.Settlement.{neededBy, needed, tooFew, refusalNumber}
 use Rattle.baseline.specs.Tally.{inRow}
-use Rattle.baseline.specs.Shown.{Shows, beforeIn, windowIn}
+use Rattle.baseline.specs.Shown.{Shows, beforeIn}
 use Rattle.baseline.specs.ShownLaws.{own-row, before-at, start-at, own-window}
 use Rattle.baseline.specs.Needs.{neededIn, looksBack}
 

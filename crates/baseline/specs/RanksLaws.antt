@@ -1,20 +1,20 @@
 -- One day more of the scan.
 use mathlib.Core.Path.{_≡_, refl, sym, ap, subst, _∙_}
 use mathlib.Core.Bool.{Bool, true, false}
-use mathlib.Core.List.{List, [], _∷_, _++_, map}
+use mathlib.Core.List.{List, [], _∷_}
 use Prim.Native.Nat.{ℕ, _+_, _*_, _≤_, _<_}
 use native.Mathlib.Omega.{arith}
-use lib.ListN.{length, take, length-append}
+use lib.ListN.{take, length-append}
 use Rattle.integers.specs.Z.{Over}
 use Rattle.book.specs.declared.Engagement.{Engagement}
 use Rattle.book.specs.Book.{Book}
 use Rattle.volumes.specs.Ranking.{ranked}
-use Rattle.volumes.specs.Baseline.{eligible, before, keep, eligibleDays, daySum}
+use Rattle.volumes.specs.Baseline.{eligible, eligibleDays, daySum}
 use Rattle.volumes.specs.DaysLaws.{scanned, scanned-none, scanned-yes, scanned-no, scanned-full, scanned-few}
 use Rattle.baseline.specs.declared.tally.Tally.{Tally}
 use Rattle.baseline.specs.Ranking.{inserted}
 use Rattle.baseline.specs.Shown.{Refers}
-use Rattle.baseline.specs.Sorting.{keyOf, Days, Above, days-more, above-more, above-less, ranked-more, raised-is}
+use Rattle.baseline.specs.Sorting.{Above, days-more, above-more, above-less, ranked-more, raised-is}
 use Rattle.baseline.specs.Ranks.{Considered, bias, keyIn, KeysOf, RankedTo}
 
 -- the days from A - 1 down to f have been scanned

@@ -7,16 +7,13 @@ use native.Mathlib.Omega.{arith}
 use lib.Dec.{eqb}
 use lib.ListN.{getD}
 use Rattle.integers.specs.Tests.{both}
-use Rattle.integers.specs.Sums.{sumZ}
-use Rattle.integers.specs.Z.{Over}
-use Rattle.wire.specs.declared.Reading.{Reading}
 use Rattle.book.specs.declared.Calendar.{Calendar}
 use Rattle.book.specs.declared.Engagement.{Engagement}
 use Rattle.book.specs.declared.Point.{Point}
 use Rattle.book.specs.Calendars.{dayStart, quartersOf}
 use Rattle.book.specs.Register.{excludes}
 use Rattle.book.specs.Book.{Book}
-use Rattle.volumes.specs.Baseline.{pointOf, watts, complete, dayReadings, dayWindow, windowed, eligible, daySum}
+use Rattle.volumes.specs.Baseline.{complete, dayReadings, dayWindow, windowed, eligible, daySum}
 use Rattle.baseline.specs.declared.tally.Tally.{Tally}
 use Rattle.baseline.specs.Tally.{inRow, Tallied}
 use Rattle.baseline.specs.Shown.{Shows, Refers, windowIn}

@@ -1,8 +1,8 @@
 -- One day more.
-use mathlib.Core.Path.{_≡_, refl, sym, ap, ap₂, _∙_}
+use mathlib.Core.Path.{_≡_, ap, _∙_}
 use mathlib.Core.Bool.{_&&_}
-use mathlib.Core.List.{List, [], _∷_, _++_, map, flatMap, map-append, append-nil}
-use Prim.Native.Nat.{ℕ, zero, suc, _+_, _-_, _*_, _%_, _≤_, _<_}
+use mathlib.Core.List.{List, [], _∷_, _++_, flatMap, map-append, append-nil}
+use Prim.Native.Nat.{ℕ, suc, _+_, _*_, _%_, _≤_, _<_}
 use native.Mathlib.Nat.{add-mul, one-mul, mul-le-mul}
 use native.Mathlib.Omega.{arith}
 use lib.ListN.{length, take, getD}

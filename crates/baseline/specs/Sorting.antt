@@ -6,11 +6,11 @@ use mathlib.Core.Bool.{Bool, true, false, cond}
 use mathlib.Core.List.{List, [], _∷_, _++_, map, map-append}
 use Prim.Native.Nat.{ℕ, _+_, _*_, _%_, _≤_, _<_, max, min}
 use native.Mathlib.Omega.{arith}
-use lib.Dec.{leb, ltb}
+use lib.Dec.{leb}
 use lib.IntN.{ℤ, pos, _+ℤ_}
 use lib.Signed.{leZ}
 use borrow.Author.Tests.{leb-true, leb-false}
-use Rattle.integers.specs.Z.{up, dn, Over, over-is, le-yes, le-no}
+use Rattle.integers.specs.Z.{up, Over, over-is, le-yes, le-no}
 use Rattle.volumes.specs.Ranking.{insert, ranked}
 use Rattle.baseline.specs.Ranking.{inserted}
 

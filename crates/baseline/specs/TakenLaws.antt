@@ -1,11 +1,11 @@
 -- The keys of the latest eligible days, ranked, tell the days that are taken: the first X of them.
-use mathlib.Core.Path.{_≡_, refl, sym, ap, ap₂, subst, _∙_}
+use mathlib.Core.Path.{_≡_, refl, sym, ap, ap₂, _∙_}
 use mathlib.Core.Bool.{Bool, true, false, cond}
 use mathlib.Core.List.{List, [], _∷_, map}
-use Prim.Native.Nat.{ℕ, zero, suc, _*_, _%_, _≤_, _<_}
+use Prim.Native.Nat.{ℕ, zero, suc, _%_, _≤_}
 use native.Mathlib.Omega.{arith}
 use lib.IntN.{ℤ}
-use lib.ListN.{length, take, length-map, length-take}
+use lib.ListN.{take, length-take}
 use lib.Seq.{take-take}
 use lib.Signed.{leZ}
 use Rattle.book.specs.declared.Engagement.{Engagement}
@@ -13,9 +13,8 @@ use Rattle.book.specs.Book.{Book}
 use Rattle.volumes.specs.Ranking.{insert, ranked}
 use Rattle.volumes.specs.RankingLaws.{length-ranked}
 use Rattle.volumes.specs.Baseline.{eligible, before, keep, eligibleDays, xOf, yOf, latest, daySum, taken}
-use Rattle.baseline.specs.Rows.{daysIn}
-use Rattle.baseline.specs.Sorting.{keyOf, Ranks, Days, key-day}
-use Rattle.baseline.specs.Ranks.{bias, keyIn, KeysOf, RankedTo}
+use Rattle.baseline.specs.Sorting.{Days, key-day}
+use Rattle.baseline.specs.Ranks.{bias, keyIn, RankedTo}
 use Rattle.baseline.specs.Taken.{All, Serves, Took}
 
 module _ (P : ℕ → Type 0) where

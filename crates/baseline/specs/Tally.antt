@@ -2,7 +2,7 @@
 use mathlib.Core.Path.{_≡_}
 use mathlib.Core.Bool.{true}
 use mathlib.Core.List.{List, map}
-use Prim.Native.Nat.{ℕ, _+_, _*_, _≤_}
+use Prim.Native.Nat.{ℕ, _*_, _≤_}
 use Rattle.integers.specs.Ranges.{range}
 use Rattle.integers.specs.Sums.{sumZ}
 use Rattle.integers.specs.Z.{Over}

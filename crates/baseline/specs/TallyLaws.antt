@@ -2,7 +2,7 @@
 use mathlib.Core.Path.{_≡_, refl, sym, ap, ap₂, _∙_}
 use mathlib.Core.Bool.{Bool, true, false, not, _&&_, and-true}
 use mathlib.Core.List.{List, [], _∷_, _++_, map, map-append}
-use Prim.Native.Nat.{ℕ, zero, suc, _+_, _*_, _≤_, _<_}
+use Prim.Native.Nat.{ℕ, suc, _+_, _*_, _<_}
 use native.Mathlib.Omega.{arith}
 use lib.Dec.{eqb}
 use lib.IntN.{ℤ, pos, negsuc, _+ℤ_, +ℤ-idr}
@@ -14,7 +14,7 @@ use Rattle.integers.specs.Z.{Over, Within, over-add}
 use Rattle.wire.specs.Readings.{readingAt, readingOf, missingIf, raised}
 use Rattle.wire.specs.ReadingsLaws.{raised-over}
 use Rattle.wire.specs.declared.Reading.{Reading}
-use Rattle.wire.specs.declared.Reading.the-variants.{Watts, Missing}
+use Rattle.wire.specs.declared.Reading.the-variants.{Watts}
 use Rattle.volumes.specs.Baseline.{watts, known, complete}
 use Rattle.volumes.specs.BaselineLaws.{complete-append}
 use Rattle.baseline.specs.Tally.{inRow, Tallied}

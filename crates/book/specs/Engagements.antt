@@ -1,5 +1,5 @@
 -- Document 01, "The book", section 5: the engagements.
-use mathlib.Core.Bool.{Bool, true, false, not, _&&_, _||_}
+use mathlib.Core.Bool.{Bool, false, not, _&&_, _||_}
 use mathlib.Core.List.{List}
 use Prim.Native.Nat.{ℕ, zero, suc, _+_, _^_}
 use lib.Dec.{eqb, leb, ltb}

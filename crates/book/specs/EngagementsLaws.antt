@@ -5,7 +5,7 @@ use mathlib.Core.List.{List}
 use Prim.Native.Nat.{ℕ, zero, suc, _-_}
 use native.Mathlib.Omega.{arith}
 use Rattle.book.specs.Engagements.{directionOf, engagementRow, rises, overlaps, outOfOrder}
-use Rattle.book.specs.declared.Direction.the-variants.{Up, Down}
+use Rattle.book.specs.declared.Direction.the-variants.{Down}
 
 pub direction-else : (n : ℕ) → (n ≡ 0 → ⊥) → Down ≡ directionOf n
 direction-else zero h = absurd (h refl)

@@ -1,5 +1,5 @@
 -- Refusals 1 to 7 of a book's bytes, in the order of document 01, "What is sent back".
-use mathlib.Core.Bool.{Bool, true, false, not, _&&_}
+use mathlib.Core.Bool.{Bool, not, _&&_}
 use mathlib.Core.List.{List}
 use mathlib.Core.Option.{Option, none, some}
 use Prim.Native.Nat.{ℕ}

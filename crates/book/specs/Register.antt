@@ -1,7 +1,7 @@
 -- Document 01, "The book", section 3: the register of delivery points.
 use mathlib.Core.Bool.{Bool, true, false, not, _&&_, _||_}
 use mathlib.Core.List.{List}
-use Prim.Native.Nat.{ℕ, zero, suc, pred, _+_, _*_, _/_, _%_, _^_}
+use Prim.Native.Nat.{ℕ, zero, suc, _/_, _%_, _^_}
 use lib.Dec.{eqb, leb, ltb}
 use Rattle.integers.specs.First.{anyBelow}
 use Rattle.wire.specs.Numbers.{numberAt}

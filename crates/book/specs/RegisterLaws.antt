@@ -1,20 +1,17 @@
 -- What the register's code finds at a place is what the definitions say of the row there.
-use mathlib.Core.Path.{_≡_, refl, sym, ap, ap₂, _∙_}
-use mathlib.Core.Bool.{Bool, true, false, not, _&&_}
+use mathlib.Core.Path.{_≡_, refl, sym}
+use mathlib.Core.Bool.{Bool, true, false}
 use mathlib.Core.List.{List}
-use Prim.Native.Nat.{ℕ, zero, suc, _+_, _-_, _*_, _/_, _^_, _≤_, _<_}
+use Prim.Native.Nat.{ℕ, zero, suc, _-_, _/_, _^_, _≤_}
 use native.Mathlib.Nat.{div-lt-iff-lt-mul, one-le-pow}
 use native.Mathlib.Omega.{arith}
 use lib.Dec.{eqb, leb, ltb}
 use borrow.Author.Tests.{ltb-true, ltb-false, eq-eqb, ne-eqb, le-leb, lt-leb}
-use Rattle.wire.specs.Numbers.{numberAt}
-use Rattle.wire.specs.NumbersLaws.{in-part}
-use Rattle.book.specs.Header.{pointWidth, rowAt}
 use Rattle.book.specs.Register.{situationOf, takersOf, isKnown, supplyOf, methodOf, registerRow, deliveryIn, notAbove}
-use Rattle.book.specs.declared.Situation.the-variants.{Transfer, PassThrough, OptOut, NetInjector}
-use Rattle.book.specs.declared.Supply.the-variants.{OffTake, Injection}
-use Rattle.book.specs.declared.Method.the-variants.{LastQuarter, HighXOfY, Adjusted}
-use Rattle.book.specs.declared.register.Takers.the-variants.{Aggregated, Individual, Neither, Refused}
+use Rattle.book.specs.declared.Situation.the-variants.{NetInjector}
+use Rattle.book.specs.declared.Supply.the-variants.{Injection}
+use Rattle.book.specs.declared.Method.the-variants.{Adjusted}
+use Rattle.book.specs.declared.register.Takers.the-variants.{Refused}
 
 -- the last case of each byte
 pub supply-else : (n : ℕ) → (n ≡ 0 → ⊥) → Injection ≡ supplyOf n

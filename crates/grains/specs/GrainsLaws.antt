@@ -1,9 +1,9 @@
 -- A mean of X readings, and of X days' 12, is a whole number of grains: 1 to 10 and 12 to 120 by twelves divide 30,240.
-use mathlib.Core.Path.{_≡_, refl, sym, ap, _∙_}
-use Prim.Native.Nat.{ℕ, zero, suc, _+_, _*_, _/_, _≤_, _<_}
+use mathlib.Core.Path.{_≡_, sym, ap, _∙_}
+use Prim.Native.Nat.{ℕ, zero, suc, _*_, _≤_}
 use native.Mathlib.Nat.{mul-assoc, mul-comm, zero-mul, mul-le-mul-right}
 use native.Mathlib.Omega.{arith}
-use lib.Dec.{T, eqb, eqb→eq}
+use lib.Dec.{eqb, eqb→eq}
 use lib.IntN.{ℤ, pos, _*ℤ_}
 use Rattle.integers.specs.Tests.{all-below}
 use Rattle.integers.specs.Z.{Over, over-mul}

@@ -1,5 +1,5 @@
 -- The running sum of a series, and its floor taken once: what each position adds to the floor sums up to the floor of the whole.
-use mathlib.Core.Path.{_≡_, refl, sym, _∙_, ap₂}
+use mathlib.Core.Path.{_≡_, refl, sym, ap₂}
 use Prim.Native.Nat.{ℕ, zero, suc, pred, _+_, _-_, _/_, _≤_}
 use native.Mathlib.Nat.{zero-div, div-zero, le-div-iff-mul-le, div-mul-le-self}
 use native.Mathlib.Omega.{arith}

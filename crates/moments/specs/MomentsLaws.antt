@@ -8,7 +8,7 @@ use borrow.Author.Tests.{eqb-true, leb-true, eq-eqb, ne-eqb}
 use lib.Dec.{eqb, leb}
 use lib.ListN.{length, take, drop, drop-of-length-le}
 use Rattle.text.specs.Ascii.{bytes}
-use Rattle.text.specs.Decimal.{digits, above, fixed, fixedAt}
+use Rattle.text.specs.Decimal.{above, fixed, fixedAt}
 use Rattle.text.specs.DecimalLaws.{digits-fixed, value-fixed}
 use Rattle.text.specs.Tag.{begins}
 use Rattle.text.specs.TagLaws.{begins-append, begins-split}

@@ -9,7 +9,7 @@ use native.Mathlib.Omega.{arith}
 use lib.Dec.{eqb}
 use lib.IntN.{ℤ, pos, negsuc, negℤ, _-ℤ_}
 use Rattle.integers.specs.Ranges.{range}
-use Rattle.integers.specs.Z.{up, dn, Over, over-sub, is-sub, mul, neg, dif}
+use Rattle.integers.specs.Z.{up, Over, over-sub, is-sub, mul, neg, dif}
 use Rattle.wire.specs.declared.Reading.{Reading}
 use Rattle.wire.specs.declared.Reading.the-variants.{Watts}
 use Rattle.wire.specs.Readings.{wattsAt, readingOf, readingAt, missingIf, Raised}

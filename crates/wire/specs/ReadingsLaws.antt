@@ -1,17 +1,16 @@
 -- What 4 bytes say as a reading, and what the raised reading tells of it: its watts plus 2^31, and 0 only where it is missing.
-use mathlib.Core.Path.{_≡_, refl, _∙_, ap}
+use mathlib.Core.Path.{_≡_, refl}
 use mathlib.Core.Bool.{Bool, true, false}
-use Prim.Native.Nat.{ℕ, suc, _+_, _-_, _%_, _^_, _<_, _≤_}
+use Prim.Native.Nat.{ℕ, suc, _+_, _-_, _%_, _^_, _<_}
 use native.Mathlib.Omega.{arith}
 use lib.Dec.{eqb, ltb}
-use lib.IntN.{ℤ, pos, negsuc, _+ℤ_, _-ℤ_}
+use lib.IntN.{ℤ, pos, negsuc, _-ℤ_}
 use mir.Syntax.{w32, w64}
 use mir.Val.{toZ}
 use mir.ValLaws.{toZ-pos}
 use borrow.Author.Tests.{eqb-true, eqb-false, ne-eqb, ltb-true, ltb-false}
-use Rattle.integers.specs.Z.{up, dn, sum, dif, eqZ, Over, Within, low, high}
+use Rattle.integers.specs.Z.{sum, dif, eqZ, Over, Within, low, high}
 use Rattle.wire.specs.Readings.{readingOf, missingIf, raised}
-use Rattle.wire.specs.declared.Reading.{Reading}
 use Rattle.wire.specs.declared.Reading.the-variants.{Watts, Missing}
 
 -- the raised reading of z is z + 2^31

@@ -1,7 +1,7 @@
 -- The bits of a reading fall into three: the lower half, 2^31 itself, which says that it is missing, and the negative ones above it.
 use mathlib.Core.Path.{sym}
 use Prim.Native.Nat.{_<_}
-use lib.IntN.{pos, _-ℤ_}
+use lib.IntN.{pos}
 use mir.Syntax.{w64}
 use mir.Val.{toZ}
 use mir.ValLaws.{toZ-ofZ}

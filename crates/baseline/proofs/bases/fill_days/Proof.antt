@@ -1,4 +1,4 @@
-use mathlib.Core.Path.{_≡_, refl, sym, subst}
+use mathlib.Core.Path.{refl, sym, subst}
 use Prim.Native.Nat.{ℕ, _+_, _≤_}
 use Rattle.baseline.specs.Shown.{windowIn}
 use Rattle.baseline.specs.Bases.{Raises, Added}

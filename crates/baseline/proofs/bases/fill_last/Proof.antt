@@ -1,5 +1,5 @@
 -- The one reading of method 0 is there, so it lies in the calendar.
-use mathlib.Core.Path.{_≡_, refl, subst}
+use mathlib.Core.Path.{refl}
 use Prim.Native.Nat.{ℕ, _+_}
 use Rattle.baseline.specs.Shown.{beforeIn}
 use Rattle.baseline.specs.ShownLaws.{stands}

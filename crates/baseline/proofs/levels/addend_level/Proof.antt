@@ -10,7 +10,7 @@ use Rattle.baseline.specs.Rows.{daysIn, dayRows}
 use Rattle.baseline.specs.LevelLaws.{difference}
 -- A's window and the days' windows have one bias, which falls out of the difference.
 use native.Mathlib.Nat.{mul-comm}
-use Rattle.grains.specs.GrainsLaws.{shares-x, shares-12x, mean-over, mean-small}
+use Rattle.grains.specs.GrainsLaws.{shares-12x, mean-over, mean-small}
 use native.Mathlib.Omega.{arith}
 use borrow.Author.Needs.{needs}
 use Rattle.baseline.proofs.levels.addend_level.Statement.{statement}

@@ -1,7 +1,7 @@
 use Prim.Native.Nat.{ℕ, _+_, _-_, _*_, _%_, _≤_}
 use Rattle.baseline.specs.Tally.{inRow, Tallied}
 -- The tally of the days passed grows by one day a turn.
-use mathlib.Core.Path.{_≡_, subst, ap}
+use mathlib.Core.Path.{_≡_, subst}
 use mathlib.Core.List.{flatMap}
 use native.Mathlib.Nat.{zero-mul}
 use lib.ListN.{getD}

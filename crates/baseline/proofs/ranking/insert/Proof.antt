@@ -1,5 +1,5 @@
 -- One pass: each place keeps the larger of what stands there and what is carried.
-use mathlib.Core.Path.{_≡_, subst, _∙_}
+use mathlib.Core.Path.{_≡_, subst}
 use Prim.Native.Nat.{ℕ, _-_, _≤_}
 use lib.ListN.{length-set}
 use Rattle.baseline.specs.RankingLaws.{Inserting, start, turn, finish}

@@ -1,5 +1,5 @@
-use mathlib.Core.Path.{_≡_, refl, sym, _∙_}
-use Prim.Native.Nat.{ℕ, _-_, _≤_}
+use mathlib.Core.Path.{_≡_, refl, _∙_}
+use Prim.Native.Nat.{_-_, _≤_}
 use Rattle.baseline.specs.ShownLaws.{stands}
 -- The days from A - 1 down to the present one have been scanned, and those that are eligible are ranked.
 use lib.ListN.{length}

@@ -5,7 +5,7 @@ use lib.Dec.{eqb, leb}
 -- The situation is known where a file kind takes it or leaves it; nine bytes are zero where their one and their eight are.
 use mathlib.Core.Path.{ap, _∙_}
 use Rattle.wire.specs.NumbersLaws.{zero-halves}
-use Rattle.book.specs.Register.{bytesGood, takersOf, isKnown}
+use Rattle.book.specs.Register.{bytesGood, isKnown}
 use Rattle.book.specs.RegisterLaws.{known-is}
 use native.Mathlib.Omega.{arith}
 use borrow.Author.Needs.{needs}
