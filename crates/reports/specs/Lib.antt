@@ -6,3 +6,8 @@ pub mod FileRows
 pub mod Watts
 pub mod PointsLaws
 pub mod CarryLaws
+pub mod Roles
+pub mod TotalsLaws
+pub mod Registered
+pub mod RegisteredLaws
+pub mod FormLaws
