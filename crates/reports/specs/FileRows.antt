@@ -1,5 +1,5 @@
 -- Document 01, "Delivered volume, corrections, series" and "The file": the file that a book gives a receiver, and its rows.
-use mathlib.Core.Bool.{Bool, _&&_}
+use mathlib.Core.Bool.{Bool, cond, _&&_}
 use mathlib.Core.List.{List, [], _∷_, map}
 use Prim.Native.Nat.{ℕ}
 use lib.Dec.{eqb, ltb}
@@ -17,7 +17,7 @@ use Rattle.message.specs.declared.Kind.{Kind as Form}
 use Rattle.message.specs.declared.Kind.the-variants.{Toe01 as Form01, Toe02 as Form02, Toe03 as Form03}
 use Rattle.message.specs.Contents.{Observation, Series as TimeSeries, Partner, File}
 use Rattle.message.specs.Bytes.{fileBytes}
-use Rattle.message.specs.Rows.{Row, rowsOf}
+use Rattle.message.specs.Rows.{Row, rowsOf, Message}
 use Rattle.reports.specs.Keep.{keep, isSome}
 use Rattle.reports.specs.Ascending.{ascending}
 
@@ -96,3 +96,21 @@ fileText book kind receiver id moment = fileBytes (fileOf book kind receiver id 
 -- "six u64 a row: partner, supply, delivery direction, position, watts, 0"
 unfoldable pub fileRows : Book → Kind → ℕ → List Row
 fileRows book kind receiver = rowsOf (partnersOf book kind receiver)
+
+-- "A file without series reads as year 0 and month 0"; else the book's
+unfoldable pub monthIn : Book → List Row → ℕ × ℕ
+monthIn book rows = cond (isSome rows) (book .calendar .year, book .calendar .month) (0, 0)
+
+-- the file as it reads: "kind, receiver, year, month and six u64 a row", ID and moment
+unfoldable pub messageOf : Book → Kind → ℕ → List ℕ → List ℕ → Message
+messageOf book kind receiver id moment =
+    let q : ℕ × ℕ = monthIn book (fileRows book kind receiver) in
+    record {
+      kind = formOf kind;
+      receiver = receiver;
+      id = id;
+      moment = moment;
+      year = q .0;
+      month = q .1;
+      rows = fileRows book kind receiver;
+    }

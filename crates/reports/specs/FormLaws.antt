@@ -14,7 +14,7 @@ use Rattle.integers.specs.Sums.{sumBy, sumOf}
 use Rattle.calendar.specs.Dates.{monthLength, calendarDays}
 use Rattle.calendar.specs.DatesLaws.{month-length}
 use Rattle.formats.specs.Format.{got}
-use Rattle.formats.specs.Rising.{rises, All, and-both}
+use Rattle.formats.specs.Rising.{rises, All, all-map, and-both}
 use Rattle.grains.specs.Grains.{perWatt}
 use Rattle.moments.specs.Ids.{isTransactionId}
 use Rattle.book.specs.declared.Calendar.{Calendar}
@@ -66,6 +66,12 @@ unfolding All flatMap
 all-flatMap P f [] h = tt
 all-flatMap P f (a ∷ l) h = all-append P (f a) (flatMap f l) (h a (List·Memᴰ·head refl)) (all-flatMap P f l (λ b m. h b (List·Memᴰ·tail m)))
 
+-- pairs that are all the same are all like the first
+all-first : (l : List (ℕ × ℕ)) (q : ℕ × ℕ) → All (λ x. x ≡ q) l → All (λ x. x ≡ firstOf l) l
+unfolding All firstOf
+all-first [] q h = tt
+all-first (x ∷ l) q h = (refl, all-map (λ y e. e ∙ sym (h .0)) l (h .1))
+
 -- ---- the watts of an observation
 
 grains-few : (book : Book) → Sound book → (kind : Kind) (receiver : ℕ) (s : Series) (p : ℕ) (es : List Engagement) → sumOf (grainsOf book kind receiver s p) es ≤ most * length es
@@ -95,6 +101,12 @@ watts-below book sound kind receiver s (suc p) = omega (arith, grains-below book
 month-positions : (c : Calendar) → monthQuarters c ≡ lastPosition (c .year) (c .month)
 unfolding monthQuarters dayStart calendarDays lastPosition
 month-positions c = omega arith
+
+partner-fits : (kind : Kind) (point : Point) → Numbered point → partnerOf kind point < 10 ^ digits (formOf kind)
+unfolding partnerOf formOf digits
+partner-fits Toe01 point h = h .supplier
+partner-fits Toe02 point h = h .fsp
+partner-fits Toe03 point h = h .access
 
 supply-two : (u : Supply) → supplyNumber u < 2
 unfolding supplyNumber
@@ -181,3 +193,129 @@ module _ (book : Book) (sound : Sound book) (registered : Registered book) (kind
           let k = mem-keep isWritten (map (observationAt book kind receiver series) (positions book)) (o .0) (o .1) in
           let w = watts-of series (o .0) (ltb-true 0 (o .0 .watts) (k .1)) (Memᴰ·of-map (observationAt book kind receiver series) (positions book) (k .0)) in
           at d e (watts-point book inside kind receiver series (w .0) (w .1))
+
+  -- ---- a partner
+
+  partner-point : (n : ℕ) → List·Memᴰ n (partnerNumbers book kind receiver) → (point : Point) × List·Memᴰ point (book .points) × (partnerOf kind point ≡ n)
+  unfolding partnerNumbers
+  partner-point n m = go (Memᴰ·of-map (partnerOf kind) (keep (isTaken kind receiver) (book .points)) (ascending-once (map (partnerOf kind) (keep (isTaken kind receiver) (book .points))) .only n m))
+    where
+      go : (point : Point) × List·Memᴰ point (keep (isTaken kind receiver) (book .points)) × (partnerOf kind point ≡ n) → (point : Point) × List·Memᴰ point (book .points) × (partnerOf kind point ≡ n)
+      go (point, k, e) = (point, mem-keep (isTaken kind receiver) (book .points) point k .0, e)
+
+  number-below : (n : ℕ) → List·Memᴰ n (partnerNumbers book kind receiver) → n < 10 ^ digits (formOf kind)
+  number-below n m = go (partner-point n m)
+    where
+      go : (point : Point) × List·Memᴰ point (book .points) × (partnerOf kind point ≡ n) → n < 10 ^ digits (formOf kind)
+      go (point, k, e) = subst (λ x. x < 10 ^ digits (formOf kind)) e (partner-fits kind point (registered .numbered point k))
+
+  series-rise : (n : ℕ) → rises 0 (map place (timeSeriesOf book kind receiver n)) ≡ true
+  unfolding timeSeriesOf timeSeries directions supplyNumber deliveryNumber rises
+  series-rise n = keep-rises (λ (s : TimeSeries). isSome (s .observations)) place 0 (map (timeSeries book kind receiver n) directions) refl
+
+  series-few : (n : ℕ) → length (timeSeriesOf book kind receiver n) ≤ 4
+  unfolding timeSeriesOf directions
+  series-few n = keep-length (λ (s : TimeSeries). isSome (s .observations)) (map (timeSeries book kind receiver n) directions)
+
+-- "in TOE03 an EAN stands once, with one supply direction": its points share theirs
+one-of-all : (l : List TimeSeries) → ((s t : TimeSeries) → List·Memᴰ s l → List·Memᴰ t l → s .supply ≡ t .supply) → All (λ (s : TimeSeries). s .supply ≡ supplyOf l) l
+unfolding supplyOf All
+one-of-all [] h = tt
+one-of-all (t ∷ l) h = (refl, each-all (λ (s : TimeSeries). s .supply ≡ t .supply) l (λ s m. h s t (List·Memᴰ·tail m) (List·Memᴰ·head refl)))
+
+one-access : (book : Book) → Sound book → Registered book → (receiver n : ℕ) (s t : TimeSeries) → List·Memᴰ s (timeSeriesOf book Toe03 receiver n) → List·Memᴰ t (timeSeriesOf book Toe03 receiver n) → s .supply ≡ t .supply
+unfolding partnerOf
+one-access book sound registered receiver n s t m k = go (series-point book sound registered Toe03 receiver n s m) (series-point book sound registered Toe03 receiver n t k)
+  where
+    go : (point : Point) × List·Memᴰ point (book .points) × (point .access ≡ n) × (s .supply ≡ supplyNumber (point .supply)) → (point : Point) × List·Memᴰ point (book .points) × (point .access ≡ n) × (t .supply ≡ supplyNumber (point .supply)) → s .supply ≡ t .supply
+    go (a, i, p, u) (b, j, q, v) = u ∙ ap supplyNumber (registered .shared a b i j (p ∙ sym q)) ∙ sym v
+
+one-supply : (book : Book) → Sound book → Registered book → (kind : Kind) (receiver n : ℕ) → OneSupply (formOf kind) (timeSeriesOf book kind receiver n)
+unfolding formOf
+one-supply book sound registered Toe01 receiver n = tt
+one-supply book sound registered Toe02 receiver n = tt
+one-supply book sound registered Toe03 receiver n = one-of-all (timeSeriesOf book Toe03 receiver n) (one-access book sound registered receiver n)
+
+receiver-fits : (kind : Kind) (point : Point) → Numbered point → receiverOf kind point < 10 ^ 10
+unfolding receiverOf
+receiver-fits Toe01 point h = h .fsp
+receiver-fits Toe02 point h = h .supplier
+receiver-fits Toe03 point h = h .supplier
+
+module _ (book : Book) (sound : Sound book) (registered : Registered book) (kind : Kind) (receiver : ℕ) where
+  partner-valid : (p : Partner) → List·Memᴰ p (partnersOf book kind receiver) → IsPartner (formOf kind) p
+  unfolding partnersOf partnerAt
+  partner-valid p m = let k = mem-keep (λ (p : Partner). isSome (p .series)) (map (partnerAt book kind receiver) (partnerNumbers book kind receiver)) p m in go (Memᴰ·of-map (partnerAt book kind receiver) (partnerNumbers book kind receiver) (k .0)) (k .1)
+    where
+      at : (n : ℕ) → List·Memᴰ n (partnerNumbers book kind receiver) → isSome (timeSeriesOf book kind receiver n) ≡ true → IsPartner (formOf kind) (partnerAt book kind receiver n)
+      at n m e =
+          record {
+            number = number-below book sound registered kind receiver n m;
+            counted = record { some = some-length (timeSeriesOf book kind receiver n) e; fits = omega (arith, series-few book sound registered kind receiver n) };
+            rising = series-rise book sound registered kind receiver n;
+            each = each-all IsSeries (timeSeriesOf book kind receiver n) (series-valid book sound registered kind receiver n);
+            one = one-supply book sound registered kind receiver n;
+          }
+
+      go : (n : ℕ) × List·Memᴰ n (partnerNumbers book kind receiver) × (partnerAt book kind receiver n ≡ p) → isSome (p .series) ≡ true → IsPartner (formOf kind) p
+      go (n, m, e) h = subst (IsPartner (formOf kind)) e (at n m (ap (λ (x : Partner). isSome (x .series)) e ∙ h))
+
+  -- all series are of the book's month
+  series-month : (n : ℕ) (s : TimeSeries) → List·Memᴰ s (timeSeriesOf book kind receiver n) → monthOf s ≡ (book .calendar .year, book .calendar .month)
+  unfolding timeSeries
+  series-month n s m = go (standing book sound registered kind receiver n s m)
+    where
+      go : (d : Supply × Direction) × (timeSeries book kind receiver n d ≡ s) × (isSome (observationsOf book kind receiver (seriesOf n (d .0) (d .1))) ≡ true) → monthOf s ≡ (book .calendar .year, book .calendar .month)
+      go (d, e, h) = ap monthOf (sym e)
+
+  partner-month : (p : Partner) → List·Memᴰ p (partnersOf book kind receiver) → All (λ q. q ≡ (book .calendar .year, book .calendar .month)) (map monthOf (p .series))
+  unfolding partnersOf partnerAt
+  partner-month p m = go (Memᴰ·of-map (partnerAt book kind receiver) (partnerNumbers book kind receiver) (mem-keep (λ (p : Partner). isSome (p .series)) (map (partnerAt book kind receiver) (partnerNumbers book kind receiver)) p m .0))
+    where
+      month : (n : ℕ) (q : ℕ × ℕ) → (s : TimeSeries) × List·Memᴰ s (timeSeriesOf book kind receiver n) × (monthOf s ≡ q) → q ≡ (book .calendar .year, book .calendar .month)
+      month n q (s, k, e) = sym e ∙ series-month n s k
+
+      go : (n : ℕ) × List·Memᴰ n (partnerNumbers book kind receiver) × (partnerAt book kind receiver n ≡ p) → All (λ q. q ≡ (book .calendar .year, book .calendar .month)) (map monthOf (p .series))
+      go (n, k, e) =
+          subst (λ (x : Partner). All (λ q. q ≡ (book .calendar .year, book .calendar .month)) (map monthOf (x .series))) e
+          (each-all _ (map monthOf (timeSeriesOf book kind receiver n)) (λ q j. month n q (Memᴰ·of-map monthOf (timeSeriesOf book kind receiver n) j)))
+
+  pub book-month : All (λ q. q ≡ (book .calendar .year, book .calendar .month)) (periods (partnersOf book kind receiver))
+  unfolding periods
+  book-month = all-flatMap _ (λ (p : Partner). map monthOf (p .series)) (partnersOf book kind receiver) partner-month
+
+  partners-few : length (partnersOf book kind receiver) ≤ 256
+  unfolding partnersOf partnerNumbers
+  partners-few =
+      let taken = keep (isTaken kind receiver) (book .points) in
+      omega (arith, keep-length (λ (p : Partner). isSome (p .series)) (map (partnerAt book kind receiver) (partnerNumbers book kind receiver)), length-map (partnerNumbers book kind receiver) (partnerAt book kind receiver), ascending-length (map (partnerOf kind) taken), length-map taken (partnerOf kind), keep-length (isTaken kind receiver) (book .points), registered .few)
+
+  pub partners-rise : rises 0 (map number (partnersOf book kind receiver)) ≡ true
+  unfolding partnersOf partnerAt partnerNumbers
+  partners-rise =
+      keep-rises (λ (p : Partner). isSome (p .series)) number 0 (map (partnerAt book kind receiver) (partnerNumbers book kind receiver))
+      (rw (map-back number (partnerAt book kind receiver) (λ n. refl) (partnerNumbers book kind receiver)) (ascending-rises (map (partnerOf kind) (keep (isTaken kind receiver) (book .points)))))
+
+  pub partners-valid : All (IsPartner (formOf kind)) (partnersOf book kind receiver)
+  partners-valid = each-all (IsPartner (formOf kind)) (partnersOf book kind receiver) partner-valid
+
+  receiver-below : List·Memᴰ receiver (receivers book kind) → receiver < 10 ^ 10
+  unfolding receivers
+  receiver-below m = go (Memᴰ·of-map (receiverOf kind) (book .points) m)
+    where
+      go : (point : Point) × List·Memᴰ point (book .points) × (receiverOf kind point ≡ receiver) → receiver < 10 ^ 10
+      go (point, k, e) = subst (λ n. n < 10 ^ 10) e (receiver-fits kind point (registered .numbered point k))
+
+  -- the file of a receiver in its role, with an ID and a moment in form
+  pub file-valid : (id moment : List ℕ) → List·Memᴰ receiver (receivers book kind) → isTransactionId id ≡ true → isMoment moment ≡ true → IsFile (fileOf book kind receiver id moment)
+  unfolding fileOf
+  file-valid id moment m e f =
+      record {
+        receiver = receiver-below m;
+        id = e;
+        moment = f;
+        fits = omega (arith, partners-few);
+        rising = partners-rise;
+        each = partners-valid;
+        same = all-first (periods (partnersOf book kind receiver)) (book .calendar .year, book .calendar .month) book-month;
+      }

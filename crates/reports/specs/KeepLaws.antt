@@ -1,13 +1,13 @@
 -- What is kept of a list: its members, its length, its sum and its order are those of the list, less what fails the test.
 use mathlib.Core.Path.{_≡_, refl, sym, ap, _∙_}
 use mathlib.Core.Logic.{⊎-elim}
-use mathlib.Core.Bool.{Bool, true, false, cond, _&&_}
+use mathlib.Core.Bool.{Bool, true, false, cond, _&&_, false≢true}
 use mathlib.Core.List.{List, [], _∷_, map, List·Memᴰ, List·Memᴰ·head, List·Memᴰ·tail, List·Memᴰ·not-nil, List·Memᴰ·cases-cons}
 use Prim.Native.Nat.{ℕ, zero, suc, _+_, _≤_, _<_}
 use native.Mathlib.Omega.{arith}
-use lib.Dec.{leb, ltb}
+use lib.Dec.{leb}
 use lib.ListN.{length}
-use borrow.Author.Tests.{leb-true, le-leb, ltb-true, ltb-false}
+use borrow.Author.Tests.{leb-true, le-leb}
 use Rattle.integers.specs.Sums.{sumBy, sumOf}
 use Rattle.integers.specs.Tests.{both}
 use Rattle.formats.specs.Rising.{rises, All, and-both}
@@ -80,16 +80,17 @@ each-all P [] h = tt
 each-all P (a ∷ l) h = (h a (List·Memᴰ·head refl), each-all P l (λ b m. h b (List·Memᴰ·tail m)))
 
 -- a list with a member, and one without
-pub some-length : {A : Type 0} (l : List A) → isSome l ≡ true → 1 ≤ length l
-unfolding isSome
-some-length l e = ltb-true 0 (length l) e
-
 pub some-member : {A : Type 0} (l : List A) → isSome l ≡ true → (a : A) × List·Memᴰ a l
 unfolding isSome
-some-member [] e = absurd (omega (arith, ltb-true 0 0 e))
+some-member [] e = absurd (false≢true e)
 some-member (a ∷ l) e = (a, List·Memᴰ·head refl)
+
+pub some-length : {A : Type 0} (l : List A) → isSome l ≡ true → 1 ≤ length l
+unfolding isSome
+some-length [] e = absurd (false≢true e)
+some-length (a ∷ l) e = omega arith
 
 pub not-some : {A : Type 0} (l : List A) → isSome l ≡ false → l ≡ []
 unfolding isSome
 not-some [] e = refl
-not-some (a ∷ l) e = absurd (omega (arith, ltb-false 0 (length (a ∷ l)) e))
+not-some (a ∷ l) e = absurd (false≢true (sym e))

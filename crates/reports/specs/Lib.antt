@@ -11,3 +11,4 @@ pub mod TotalsLaws
 pub mod Registered
 pub mod RegisteredLaws
 pub mod FormLaws
+pub mod ReadLaws
