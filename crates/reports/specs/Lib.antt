@@ -12,3 +12,5 @@ pub mod Registered
 pub mod RegisteredLaws
 pub mod FormLaws
 pub mod ReadLaws
+pub mod Calls
+pub mod Demand3
