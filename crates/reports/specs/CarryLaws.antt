@@ -53,7 +53,7 @@ module _ (book : Book) (kind : Kind) (receiver : ℕ) (w : Row → ℕ) (nothing
   series-sum n d =
       let s = seriesOf n (d .0) (d .1) in
       let f : Observation → ℕ = λ o. w (n, ((supplyNumber (d .0), deliveryNumber (d .1)), o)) in
-      keep-sum isWritten f (λ o e. nothing (n, ((supplyNumber (d .0), deliveryNumber (d .1)), o)) (omega (arith, ltb-false 0 (o .watts) e))) (map (observationAt book kind receiver s) (positions book))
+      keep-sum isWritten naturals f (λ o e. nothing (n, ((supplyNumber (d .0), deliveryNumber (d .1)), o)) (omega (arith, ltb-false 0 (o .watts) e))) (map (observationAt book kind receiver s) (positions book))
       ∙ sum-map naturals f (observationAt book kind receiver s) (positions book)
 
   partner-sum : (n : ℕ)
@@ -66,7 +66,7 @@ module _ (book : Book) (kind : Kind) (receiver : ℕ) (w : Row → ℕ) (nothing
       let g : (ℕ × ℕ) × List Observation → ℕ = λ g. sumOf (λ o. w (n, (g .0, o))) (g .1) in
       spread-sum (λ a. w (n, a)) (map seriesRows (timeSeriesOf book kind receiver n))
       ∙ sum-map naturals g seriesRows (timeSeriesOf book kind receiver n)
-      ∙ keep-sum (λ (s : TimeSeries). isSome (s .observations)) f (λ s e. none s (not-some (s .observations) e)) all
+      ∙ keep-sum (λ (s : TimeSeries). isSome (s .observations)) naturals f (λ s e. none s (not-some (s .observations) e)) all
       ∙ sum-map naturals f (timeSeries book kind receiver n) directions
       ∙ sum-all naturals (λ d. f (timeSeries book kind receiver n d)) (λ d. sumOf (λ p. w (rowAt book kind receiver n d p)) (positions book)) directions (λ d. series-sum n d)
     where
@@ -81,7 +81,7 @@ module _ (book : Book) (kind : Kind) (receiver : ℕ) (w : Row → ℕ) (nothing
       let g : ℕ × List ((ℕ × ℕ) × Observation) → ℕ = λ g. sumOf (λ a. w (g .0, a)) (g .1) in
       spread-sum w (map partnerRows (partnersOf book kind receiver))
       ∙ sum-map naturals g partnerRows (partnersOf book kind receiver)
-      ∙ keep-sum (λ (p : Partner). isSome (p .series)) f (λ p e. none p (not-some (p .series) e)) all
+      ∙ keep-sum (λ (p : Partner). isSome (p .series)) naturals f (λ p e. none p (not-some (p .series) e)) all
       ∙ sum-map naturals f (partnerAt book kind receiver) (partnerNumbers book kind receiver)
       ∙ sum-all naturals (λ n. f (partnerAt book kind receiver n)) (λ n. sumOf (λ d. sumOf (λ p. w (rowAt book kind receiver n d p)) (positions book)) directions) (partnerNumbers book kind receiver) (λ n. partner-sum n)
     where

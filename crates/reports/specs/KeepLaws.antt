@@ -8,7 +8,7 @@ use native.Mathlib.Omega.{arith}
 use lib.Dec.{leb}
 use lib.ListN.{length}
 use borrow.Author.Tests.{leb-true, le-leb}
-use Rattle.integers.specs.Sums.{sumBy, sumOf}
+use Rattle.integers.specs.Sums.{Adding, sumBy}
 use Rattle.integers.specs.Tests.{both}
 use Rattle.formats.specs.Rising.{rises, All, and-both}
 use Rattle.reports.specs.Keep.{keep, isSome}
@@ -30,14 +30,14 @@ module _ {A : Type 0} (test : A → Bool) where
       go false h = omega arith
 
   -- what fails the test adds nothing
-  pub keep-sum : (f : A → ℕ) → ((a : A) → test a ≡ false → f a ≡ 0) → (l : List A) → sumOf f (keep test l) ≡ sumOf f l
+  pub keep-sum : {M : Type 0} (S : Adding M) (f : A → M) → ((a : A) → test a ≡ false → f a ≡ S .none) → (l : List A) → sumBy S f (keep test l) ≡ sumBy S f l
   unfolding keep sumBy
-  keep-sum f h [] = refl
-  keep-sum f h (a ∷ l) = go (test a) refl (keep-sum f h l)
+  keep-sum S f h [] = refl
+  keep-sum S f h (a ∷ l) = go (test a) refl (keep-sum S f h l)
     where
-      go : (t : Bool) → test a ≡ t → sumOf f (keep test l) ≡ sumOf f l → sumOf f (cond t (a ∷ keep test l) (keep test l)) ≡ f a + sumOf f l
-      go true e i = ap (λ n. f a + n) i
-      go false e i = omega (arith, h a e, i)
+      go : (t : Bool) → test a ≡ t → sumBy S f (keep test l) ≡ sumBy S f l → sumBy S f (cond t (a ∷ keep test l) (keep test l)) ≡ S .plus (f a) (sumBy S f l)
+      go true e i = ap (S .plus (f a)) i
+      go false e i = i ∙ sym (S .left (sumBy S f l)) ∙ ap (λ n. S .plus n (sumBy S f l)) (sym (h a e))
 
   pub mem-keep : (l : List A) (x : A) → List·Memᴰ x (keep test l) → List·Memᴰ x l × (test x ≡ true)
   unfolding keep

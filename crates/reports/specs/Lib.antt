@@ -14,3 +14,4 @@ pub mod FormLaws
 pub mod ReadLaws
 pub mod Calls
 pub mod Demand3
+pub mod CallsLaws
