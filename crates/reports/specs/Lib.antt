@@ -15,3 +15,4 @@ pub mod ReadLaws
 pub mod Calls
 pub mod Demand3
 pub mod CallsLaws
+pub mod Demand3Laws

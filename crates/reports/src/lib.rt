@@ -1,4 +1,5 @@
-// The sheets and files of a book: the calls' answers; definitions and their laws in specs/.
+// The sheets and files of a book: the calls' answers, and demand 3 of the calls' contracts. Definitions and laws stand in specs/.
+ghost use Rattle.reports.specs.Demand3.{Demand3};
 
 // What a sheet call answers: the sums that it filled, or a number and an item of document 01.
 pub enum SheetAnswer {
@@ -11,3 +12,8 @@ pub enum FileAnswer {
     File(usize, usize),
     Refused(u8, usize),
 }
+
+// Demand 3. It does nothing: what it ensures has to be proved.
+pub fn sheets_and_files_agree()
+    ensures { λ r. ⌜ Demand3 ⌝ }
+{}
