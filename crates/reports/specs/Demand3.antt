@@ -150,3 +150,13 @@ pub record Holds (bytes : List ℕ) : Type 0 where
 
 abbrev pub Demand3 : Type 0
 Demand3 = (bytes : List ℕ) → Accepted bytes → Holds bytes
+
+-- ---- and there are such calls of every accepted book
+
+pub record Calls (bytes : List ℕ) : Type 0 where
+  pub sheets : List (SheetCall bytes)
+  pub files : List (FileCall bytes)
+  pub whole : Whole bytes sheets files
+
+abbrev pub Possible : Type 0
+Possible = (bytes : List ℕ) → Accepted bytes → (id moment : List ℕ) → isTransactionId id ≡ true → isMoment moment ≡ true → Calls bytes

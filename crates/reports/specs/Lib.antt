@@ -16,3 +16,4 @@ pub mod Calls
 pub mod Demand3
 pub mod CallsLaws
 pub mod Demand3Laws
+pub mod PossibleLaws
