@@ -1,0 +1,138 @@
+-- What an accepted call says of what was passed, and what a call in role and form with long enough buffers answers.
+use mathlib.Core.Path.{_≡_, refl, sym, ap, _∙_}
+use mathlib.Core.Bool.{Bool, true, false, cond, _&&_}
+use mathlib.Core.List.{List, [], _∷_, _++_, List·Memᴰ}
+use mathlib.Core.Option.{Option, none, some}
+use Prim.Native.Nat.{ℕ, zero, suc, _*_, _≤_}
+use native.Mathlib.Omega.{arith}
+use lib.Dec.{leb}
+use lib.IntN.{ℤ}
+use lib.ListN.{length, take, drop}
+use lib.Seq.{take-at}
+use borrow.Author.Tests.{leb-true, le-leb}
+use Rattle.integers.specs.Counts.{times, mem-times, times-mem}
+use Rattle.integers.specs.Tests.{both}
+use Rattle.moments.specs.Ids.{isTransactionId}
+use Rattle.book.specs.Book.{Book, bookOf}
+use Rattle.book.specs.Refusals.{Refusal, refused, unless}
+use Rattle.volumes.specs.Quarters.{monthQuarters}
+use Rattle.volumes.specs.Settlement.{rowWidth, rowCount, orElse, bookRefusal}
+use Rattle.volumes.specs.Sheets.{parties, sheet}
+use Rattle.volumes.specs.Series.{Kind, Toe01, Toe02, Toe03}
+use Rattle.message.specs.Valid.{isMoment}
+use Rattle.reports.specs.FileRows.{fileText}
+use Rattle.reports.specs.Roles.{receivers}
+use Rattle.reports.specs.Calls.{stands, over, afterwards, sheetRefusal, sheetSays, sheetAnswer, kindOf, textOf, shortRefusal, askedRefusal, fileRefusal, fileSays, fileAnswer}
+use Rattle.reports.specs.declared.SheetAnswer.{SheetAnswer}
+use Rattle.reports.specs.declared.SheetAnswer.the-variants.{Sheet, Refused as SheetRefused}
+use Rattle.reports.specs.declared.FileAnswer.{FileAnswer}
+use Rattle.reports.specs.declared.FileAnswer.the-variants.{File, Refused as FileRefused}
+use Rattle.reports.specs.Demand3.{isSheet, isFile, kindNumber, written}
+
+pub stands-mem : (x : ℕ) (l : List ℕ) → stands x l ≡ true → List·Memᴰ x l
+unfolding stands
+stands-mem x l e = times-mem x l (leb-true 1 (times x l) e)
+
+pub mem-stands : (x : ℕ) (l : List ℕ) → List·Memᴰ x l → stands x l ≡ true
+unfolding stands
+mem-stands x l m = le-leb 1 (times x l) (mem-times x l m)
+
+-- the first places of a buffer that was written over
+pub over-first : {A : Type 0} (new old : List A) (n : ℕ) → length new ≡ n → take n (over new old) ≡ new
+unfolding over
+over-first new old n e = take-at new (drop (length new) old) n e
+
+-- a refusal that did not come
+never : (r : Refusal) → some r ≡ none → ⊥
+never r e = let z : _≡_ {A = ℕ} 0 1 = cc in omega arith
+
+not-refused : (test : Bool) (number : ℕ) (later : Option Refusal) → unless test number later ≡ none → (test ≡ true) × (later ≡ none)
+not-refused true number later e = (refl, e)
+not-refused false number later e = absurd (never _ e)
+
+later-none : (first later : Option Refusal) → orElse first later ≡ none → later ≡ none
+unfolding orElse
+later-none none later e = e
+later-none (some r) later e = absurd (never r e)
+
+-- ---- the sheet call
+
+sheet-says-none : (r : Option Refusal) (n : ℕ) → isSheet (sheetSays r n) ≡ true → r ≡ none
+unfolding isSheet sheetSays
+sheet-says-none none n e = refl
+sheet-says-none (some r) n e = let z : _≡_ {A = ℕ} 0 1 = cc in absurd (omega arith)
+
+pub sheet-not-refused : (bytes : List ℕ) (party lent : ℕ) → isSheet (sheetAnswer bytes party lent) ≡ true → sheetRefusal bytes party lent ≡ none
+unfolding sheetAnswer
+sheet-not-refused bytes party lent e = sheet-says-none (sheetRefusal bytes party lent) (monthQuarters (bookOf bytes .calendar)) e
+
+pub sheet-party : (bytes : List ℕ) (party lent : ℕ) → sheetRefusal bytes party lent ≡ none → List·Memᴰ party (parties (bookOf bytes))
+unfolding sheetRefusal
+sheet-party bytes party lent e =
+    let long = unless (leb (monthQuarters (bookOf bytes .calendar)) lent) 10 none in
+    let s = stands party (parties (bookOf bytes)) in
+    stands-mem party (parties (bookOf bytes)) (not-refused s 11 long (later-none (bookRefusal bytes) (unless s 11 long) e) .0)
+
+pub sheet-answered : (bytes : List ℕ) (party lent : ℕ) → bookRefusal bytes ≡ none → List·Memᴰ party (parties (bookOf bytes)) → monthQuarters (bookOf bytes .calendar) ≤ lent → sheetAnswer bytes party lent ≡ Sheet (monthQuarters (bookOf bytes .calendar))
+unfolding sheetAnswer sheetRefusal sheetSays orElse
+sheet-answered bytes party lent e m h = rw (e, mem-stands party (parties (bookOf bytes)) m, le-leb (monthQuarters (bookOf bytes .calendar)) lent h)
+
+-- ---- the file call
+
+pub kind-of : (kind : Kind) → kindOf (kindNumber kind) ≡ some kind
+unfolding kindNumber
+kind-of Toe01 = refl
+kind-of Toe02 = refl
+kind-of Toe03 = refl
+
+file-says-none : (r : Option Refusal) (m n : ℕ) → isFile (fileSays r m n) ≡ true → r ≡ none
+unfolding isFile fileSays
+file-says-none none m n e = refl
+file-says-none (some r) m n e = let z : _≡_ {A = ℕ} 0 1 = cc in absurd (omega arith)
+
+-- what was passed to a call that was not refused
+pub record InForm (book : Book) (kind : Kind) (receiver : ℕ) (id moment : List ℕ) : Type 0 where
+  pub role : List·Memᴰ receiver (receivers book kind)
+  pub named : isTransactionId id ≡ true
+  pub timed : isMoment moment ≡ true
+
+in-form : (book : Book) (kind : Kind) (receiver : ℕ) (id moment : List ℕ) (rowsLent fileLent : ℕ) → askedRefusal book (some kind) receiver id moment rowsLent fileLent ≡ none → InForm book kind receiver id moment
+unfolding askedRefusal
+in-form book kind receiver id moment rowsLent fileLent e =
+    let short = shortRefusal (rowWidth * rowCount book) rowsLent (length (fileText book kind receiver id moment)) fileLent in
+    let s = stands receiver (receivers book kind) in
+    let f = isTransactionId id && isMoment moment in
+    let e₁ = not-refused s 11 (unless f 12 short) e in
+    let e₂ = both (isTransactionId id) (isMoment moment) (not-refused f 12 short (e₁ .1) .0) in
+    record { role = stands-mem receiver (receivers book kind) (e₁ .0); named = e₂ .0; timed = e₂ .1 }
+
+module _ (bytes : List ℕ) (kind : Kind) (receiver : ℕ) (id moment : List ℕ) (rowsLent fileLent : ℕ) where
+  file-not-refused : isFile (fileAnswer bytes (kindNumber kind) receiver id moment rowsLent fileLent) ≡ true → fileRefusal bytes (kindNumber kind) receiver id moment rowsLent fileLent ≡ none
+  unfolding fileAnswer
+  file-not-refused e = file-says-none (fileRefusal bytes (kindNumber kind) receiver id moment rowsLent fileLent) (rowCount (bookOf bytes)) (length (textOf (bookOf bytes) (kindOf (kindNumber kind)) receiver id moment)) e
+
+  pub file-in-form : isFile (fileAnswer bytes (kindNumber kind) receiver id moment rowsLent fileLent) ≡ true → InForm (bookOf bytes) kind receiver id moment
+  unfolding fileRefusal
+  file-in-form e =
+      let asked = askedRefusal (bookOf bytes) (kindOf (kindNumber kind)) receiver id moment rowsLent fileLent in
+      in-form (bookOf bytes) kind receiver id moment rowsLent fileLent
+      (ap (λ k. askedRefusal (bookOf bytes) k receiver id moment rowsLent fileLent) (sym (kind-of kind)) ∙ later-none (bookRefusal bytes) asked (file-not-refused e))
+
+  -- the text that the call was asked for
+  asked-text : textOf (bookOf bytes) (kindOf (kindNumber kind)) receiver id moment ≡ fileText (bookOf bytes) kind receiver id moment
+  unfolding textOf
+  asked-text = ap (λ k. textOf (bookOf bytes) k receiver id moment) (kind-of kind)
+
+  -- what it wrote is the file
+  pub file-written : isFile (fileAnswer bytes (kindNumber kind) receiver id moment rowsLent fileLent) ≡ true → (before : List ℕ)
+      → written (fileAnswer bytes (kindNumber kind) receiver id moment rowsLent fileLent) (afterwards (fileRefusal bytes (kindNumber kind) receiver id moment rowsLent fileLent) (textOf (bookOf bytes) (kindOf (kindNumber kind)) receiver id moment) before) ≡ fileText (bookOf bytes) kind receiver id moment
+  unfolding fileAnswer fileSays written afterwards
+  file-written e before =
+      let text = textOf (bookOf bytes) (kindOf (kindNumber kind)) receiver id moment in
+      rw (file-not-refused e) (over-first text before (length text) refl ∙ asked-text)
+
+  pub file-answered : bookRefusal bytes ≡ none → InForm (bookOf bytes) kind receiver id moment → rowWidth * rowCount (bookOf bytes) ≤ rowsLent → length (fileText (bookOf bytes) kind receiver id moment) ≤ fileLent
+      → fileAnswer bytes (kindNumber kind) receiver id moment rowsLent fileLent ≡ File (rowCount (bookOf bytes)) (length (fileText (bookOf bytes) kind receiver id moment))
+  unfolding fileAnswer fileRefusal askedRefusal shortRefusal fileSays textOf orElse
+  file-answered e f h k =
+      rw (e, kind-of kind, mem-stands receiver (receivers (bookOf bytes) kind) (f .role), f .named, f .timed, le-leb (rowWidth * rowCount (bookOf bytes)) rowsLent h, le-leb (length (fileText (bookOf bytes) kind receiver id moment)) fileLent k)

@@ -1,0 +1,116 @@
+-- Document 01, "Delivered volume, corrections, series" and "The file": the file that a book gives a receiver, and its rows.
+use mathlib.Core.Bool.{Bool, cond, _&&_}
+use mathlib.Core.List.{List, [], _∷_, map}
+use Prim.Native.Nat.{ℕ}
+use lib.Dec.{eqb, ltb}
+use Rattle.integers.specs.Ranges.{range}
+use Rattle.book.specs.declared.Supply.{Supply}
+use Rattle.book.specs.declared.Supply.the-variants.{OffTake, Injection}
+use Rattle.book.specs.declared.Direction.{Direction}
+use Rattle.book.specs.declared.Direction.the-variants.{Up, Down}
+use Rattle.book.specs.declared.Point.{Point}
+use Rattle.book.specs.Book.{Book}
+use Rattle.volumes.specs.Quarters.{monthQuarters}
+use Rattle.volumes.specs.Series.{Kind, Toe01, Toe02, Toe03, takes, receiverOf, partnerOf, Series, seriesWatts}
+use Rattle.volumes.specs.SeriesLaws.{seriesOf}
+use Rattle.message.specs.declared.Kind.{Kind as Form}
+use Rattle.message.specs.declared.Kind.the-variants.{Toe01 as Form01, Toe02 as Form02, Toe03 as Form03}
+use Rattle.message.specs.Contents.{Observation, Series as TimeSeries, Partner, File}
+use Rattle.message.specs.Bytes.{fileBytes}
+use Rattle.message.specs.Rows.{Row, rowsOf, Message}
+use Rattle.reports.specs.Keep.{keep, isSome}
+use Rattle.reports.specs.Ascending.{ascending}
+
+-- a kind as the file's form names it
+unfoldable pub formOf : Kind → Form
+formOf Toe01 = Form01
+formOf Toe02 = Form02
+formOf Toe03 = Form03
+
+-- "supply direction (0 off-take, 1 injection)", "direction (0 up, 1 down)": as numbers of a row
+unfoldable pub supplyNumber : Supply → ℕ
+supplyNumber OffTake = 0
+supplyNumber Injection = 1
+
+unfoldable pub deliveryNumber : Direction → ℕ
+deliveryNumber Up = 0
+deliveryNumber Down = 1
+
+-- "the taken ones that have the receiver"
+unfoldable pub isTaken : Kind → ℕ → Point → Bool
+isTaken kind receiver point = takes kind (point .situation) && eqb (receiverOf kind point) receiver
+
+-- "partners rise": those of these points, each once
+unfoldable pub partnerNumbers : Book → Kind → ℕ → List ℕ
+partnerNumbers book kind receiver = ascending (map (partnerOf kind) (keep (isTaken kind receiver) (book .points)))
+
+-- "off-take before injection, up before down"
+unfoldable pub directions : List (Supply × Direction)
+directions = (OffTake, Up) ∷ (OffTake, Down) ∷ (Injection, Up) ∷ (Injection, Down) ∷ []
+
+-- "positions rise": from 1 to the month's last
+unfoldable pub positions : Book → List ℕ
+positions book = range 1 (monthQuarters (book .calendar))
+
+-- "The watts at a position", of a series
+unfoldable pub observationAt : Book → Kind → ℕ → Series → ℕ → Observation
+observationAt book kind receiver s p = record { position = p; watts = seriesWatts book kind receiver s p }
+
+-- "Zero watts aren't written"
+unfoldable pub isWritten : Observation → Bool
+isWritten o = ltb 0 (o .watts)
+
+unfoldable pub observationsOf : Book → Kind → ℕ → Series → List Observation
+observationsOf book kind receiver s = keep isWritten (map (observationAt book kind receiver s) (positions book))
+
+-- "A series is one partner, supply and delivery direction", "the same period, a whole month": the book's
+unfoldable pub timeSeries : Book → Kind → ℕ → ℕ → Supply × Direction → TimeSeries
+timeSeries book kind receiver partner d =
+    record {
+      supply = supplyNumber (d .0);
+      delivery = deliveryNumber (d .1);
+      year = book .calendar .year;
+      month = book .calendar .month;
+      observations = observationsOf book kind receiver (seriesOf partner (d .0) (d .1));
+    }
+
+-- "nor empty series"
+unfoldable pub timeSeriesOf : Book → Kind → ℕ → ℕ → List TimeSeries
+timeSeriesOf book kind receiver partner = keep (λ s. isSome (s .observations)) (map (timeSeries book kind receiver partner) directions)
+
+unfoldable pub partnerAt : Book → Kind → ℕ → ℕ → Partner
+partnerAt book kind receiver partner = record { number = partner; series = timeSeriesOf book kind receiver partner }
+
+-- "nor a partner without a series"
+unfoldable pub partnersOf : Book → Kind → ℕ → List Partner
+partnersOf book kind receiver = keep (λ p. isSome (p .series)) (map (partnerAt book kind receiver) (partnerNumbers book kind receiver))
+
+-- the file of a kind for a receiver, with an ID and a moment
+unfoldable pub fileOf : Book → Kind → ℕ → List ℕ → List ℕ → File
+fileOf book kind receiver id moment = record { kind = formOf kind; receiver = receiver; id = id; moment = moment; partners = partnersOf book kind receiver }
+
+-- "Elements as in case F": its bytes
+unfoldable pub fileText : Book → Kind → ℕ → List ℕ → List ℕ → List ℕ
+fileText book kind receiver id moment = fileBytes (fileOf book kind receiver id moment)
+
+-- "six u64 a row: partner, supply, delivery direction, position, watts, 0"
+unfoldable pub fileRows : Book → Kind → ℕ → List Row
+fileRows book kind receiver = rowsOf (partnersOf book kind receiver)
+
+-- "A file without series reads as year 0 and month 0"; else the book's
+unfoldable pub monthIn : Book → List Row → ℕ × ℕ
+monthIn book rows = cond (isSome rows) (book .calendar .year, book .calendar .month) (0, 0)
+
+-- the file as it reads: "kind, receiver, year, month and six u64 a row", ID and moment
+unfoldable pub messageOf : Book → Kind → ℕ → List ℕ → List ℕ → Message
+messageOf book kind receiver id moment =
+    let q : ℕ × ℕ = monthIn book (fileRows book kind receiver) in
+    record {
+      kind = formOf kind;
+      receiver = receiver;
+      id = id;
+      moment = moment;
+      year = q .0;
+      month = q .1;
+      rows = fileRows book kind receiver;
+    }

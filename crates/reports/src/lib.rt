@@ -1,0 +1,24 @@
+// The sheets and files of a book: the calls' answers, and demand 3 of the calls' contracts. Definitions and laws stand in specs/.
+ghost use Rattle.reports.specs.Demand3.{Demand3, Possible};
+
+// What a sheet call answers: the sums that it filled, or a number and an item of document 01.
+pub enum SheetAnswer {
+    Sheet(usize),
+    Refused(u8, usize),
+}
+
+// What a file call answers: the settlement rows and the bytes that it filled, or a number and an item.
+pub enum FileAnswer {
+    File(usize, usize),
+    Refused(u8, usize),
+}
+
+// Demand 3. It does nothing: what it ensures has to be proved.
+pub fn sheets_and_files_agree()
+    ensures { λ r. ⌜ Demand3 ⌝ }
+{}
+
+// Of every accepted book there are calls as demand 3 wants them.
+pub fn such_calls_exist()
+    ensures { λ r. ⌜ Possible ⌝ }
+{}
