@@ -16,3 +16,5 @@ pub mod SixesLaws
 pub mod MessageForm
 pub mod FileLaws
 pub mod Reading
+pub mod ReaderItems
+pub mod ReaderSeries
