@@ -18,3 +18,5 @@ pub mod FileLaws
 pub mod Reading
 pub mod ReaderItems
 pub mod ReaderSeries
+pub mod ReaderPartner
+pub mod ReaderPartners

@@ -207,7 +207,7 @@ pub record VolumeRead (s : List ℕ) (m r : Mark) (delivery year month rows : �
   pub observations : List Observation
   pub parsed : Parsed (volumeBody .parse) s m r (delivery, (rows, ((year, month), observations)))
 
-counted-parsed : (s : List ℕ) (m r : Mark) (n : ℕ) → Parsed (plainNumber .parse) s m r n → Parsed (counted .parse) s m (keep (ltb 0 n) r) n
+pub counted-parsed : (s : List ℕ) (m r : Mark) (n : ℕ) → Parsed (plainNumber .parse) s m r n → Parsed (counted .parse) s m (keep (ltb 0 n) r) n
 counted-parsed s m r n h = go (ltb 0 n) refl
   where
     go : (t : Bool) → ltb 0 n ≡ t → Parsed (counted .parse) s m (keep t r) n
