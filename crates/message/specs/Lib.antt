@@ -16,3 +16,7 @@ pub mod SixesLaws
 pub mod MessageForm
 pub mod FileLaws
 pub mod Reading
+pub mod ReaderItems
+pub mod ReaderSeries
+pub mod ReaderPartner
+pub mod ReaderPartners

@@ -4,7 +4,7 @@ use mathlib.Core.Bool.{Bool, true, false, _&&_}
 use mathlib.Core.List.{List, _++_, append-assoc}
 use Prim.Native.Nat.{ℕ, _+_, _-_, _*_, _≤_, _<_}
 use lib.Dec.{leb, ltb}
-use lib.ListN.{take, drop, length-drop}
+use lib.ListN.{length, take, drop, length-drop}
 use lib.Seq.{take-all}
 use native.Mathlib.Numerals.{add-one}
 use native.Mathlib.Omega.{arith}
@@ -28,7 +28,7 @@ use Rattle.message.specs.Contents.{Observation, Series, position}
 use Rattle.message.specs.Bytes.{opening, ending, closing, element, supplies, deliveries}
 use Rattle.message.specs.Valid.{lastPosition}
 use Rattle.message.specs.ObservationForm.{isPeriod, monthBody, behindMonth, period, observation, observations, plainNumber, quantity, observationBody, observable, observed}
-use Rattle.message.specs.SeriesForm.{position-fits, counted, volumeBody, ofVolume, ownBody, sharedBody}
+use Rattle.message.specs.SeriesForm.{position-fits, counted, Volume, volumeBody, ofVolume, volumeOf, volume-back, ownBody, sharedBody}
 
 -- a mark where a test holds
 abbrev pub keep : Bool → Mark → Mark
@@ -59,6 +59,13 @@ parsed-no f s v = record { run = record { run = refl }; within = tt }
 -- where nothing is read the value doesn't matter
 pub any-value : {A : Type 0} {f : List ℕ → Res A} {s : List ℕ} {m : Mark} {v w : A} → Parsed f s m No v → Parsed f s m No w
 any-value h = record { run = record { run = h .run .run }; within = tt }
+
+-- what is kept of the contents that were read
+pub kept-of : {A B C : Type 0} (F : Format A) (f : A → B) (view : B → C) (s : List ℕ) (m r : Mark) (a : A) (v : C)
+    → (F .Ok a → view (f a) ≡ v) → Parsed (F .parse) s m r a → Parsed (mapParse view (mapParse f (F .parse))) s m r v
+kept-of F f view s m No a v h p = any-value (record { run = run-map view (run-map f (p .run)); within = p .within })
+kept-of F f view s m (At q) a v h p =
+    subst (λ x. Parsed (mapParse view (mapParse f (F .parse))) s m (At q) x) (h (parsed-ok F s m q a p)) (record { run = run-map view (run-map f (p .run)); within = p .within })
 
 -- ---- Quantity
 
@@ -195,13 +202,12 @@ module _ (s : List ℕ) {m a b c d : Mark} {year month : ℕ} where
 
 -- ---- a time series
 
--- a time series of a delivery direction and a month was read; its observations aren't held
-pub record VolumeRead (s : List ℕ) (m r : Mark) (delivery year month : ℕ) : Type 0 where
-  pub count : ℕ
+-- a time series of a delivery direction, a month and so many observations was read; they aren't held
+pub record VolumeRead (s : List ℕ) (m r : Mark) (delivery year month rows : ℕ) : Type 0 where
   pub observations : List Observation
-  pub parsed : Parsed (volumeBody .parse) s m r (delivery, (count, ((year, month), observations)))
+  pub parsed : Parsed (volumeBody .parse) s m r (delivery, (rows, ((year, month), observations)))
 
-counted-parsed : (s : List ℕ) (m r : Mark) (n : ℕ) → Parsed (plainNumber .parse) s m r n → Parsed (counted .parse) s m (keep (ltb 0 n) r) n
+pub counted-parsed : (s : List ℕ) (m r : Mark) (n : ℕ) → Parsed (plainNumber .parse) s m r n → Parsed (counted .parse) s m (keep (ltb 0 n) r) n
 counted-parsed s m r n h = go (ltb 0 n) refl
   where
     go : (t : Bool) → ltb 0 n ≡ t → Parsed (counted .parse) s m (keep t r) n
@@ -212,12 +218,11 @@ module _ (s : List ℕ) {m a b c d e f g h : Mark} {x n year month : ℕ} where
   pub volume-read : Parsed (strip (opening "DeliveryDirection")) s m a tt → Parsed (wordsParse deliveries) s a b x
       → Parsed (strip (closing "DeliveryDirection" ++ element "UnitType" (bytes "KWT") ++ opening "ObservationCounter")) s b c tt → Parsed (plainNumber .parse) s c d n
       → Parsed (strip (ending "ObservationCounter" ++ opening "TimeSeriesPeriod")) s (keep (ltb 0 n) d) e tt → Parsed (period .parse) s e f (year, month)
-      → Passed (observationsOf year month n) s f g → Parsed (strip (closing "TimeSeriesPeriod")) s g h tt → VolumeRead s m h x year month
+      → Passed (observationsOf year month n) s f g → Parsed (strip (closing "TimeSeriesPeriod")) s g h tt → VolumeRead s m h x year month n
   unfolding volumeBody
   volume-read i j k l o p q r =
       let one = counted-parsed s c d n l in
       record {
-        count = n;
         observations = q .ran .value;
         parsed = record {
           run = run-pre (opening "DeliveryDirection") (i .run)
@@ -228,39 +233,62 @@ module _ (s : List ℕ) {m a b c d e f g h : Mark} {x n year month : ℕ} where
 
 -- ---- a series
 
--- a series of these directions and this month was read; its observations aren't held
-pub record SeriesRead (f : List ℕ → Res Series) (s : List ℕ) (m r : Mark) (supply delivery year month : ℕ) : Type 0 where
-  pub observations : List Observation
-  pub parsed : Parsed f s m r (record { supply = supply; delivery = delivery; year = year; month = month; observations = observations })
+-- what is kept of a series: its directions, its month and how many rows it has
+abbrev pub Outline : Type 0
+Outline = (ℕ × ℕ) × ((ℕ × ℕ) × ℕ)
+
+abbrev pub outline : Series → Outline
+outline s = ((s .supply, s .delivery), ((s .year, s .month), length (s .observations)))
+
+-- the counter is the number of observations
+outline-volume : (x delivery rows year month : ℕ) (l : List Observation) → volumeBody .Ok (delivery, (rows, ((year, month), l)))
+    → outline (ofVolume x (delivery, (rows, ((year, month), l)))) ≡ ((x, delivery), ((year, month), rows))
+unfolding ofVolume volumeOf
+outline-volume x delivery rows year month l ok =
+    let e = ap (λ (v : Volume). v .1 .0) (volume-back x (delivery, (rows, ((year, month), l))) ok) in
+    λ i. ((x, delivery), ((year, month), e i))
 
 -- how it is read with its supply direction
 abbrev pub ownParse : List ℕ → Res Series
 ownParse = mapParse (λ p. ofVolume (p .0) (p .1)) (ownBody .parse)
 
-module _ (s : List ℕ) {m a b c d e : Mark} {x delivery year month : ℕ} where
-  pub own-read : Parsed (strip (opening "ToETimeSeries" ++ opening "SupplyDirection")) s m a tt → Parsed (wordsParse supplies) s a b x → Parsed (strip (closing "SupplyDirection")) s b c tt
-      → VolumeRead s c d delivery year month → Parsed (strip (closing "ToETimeSeries")) s d e tt → SeriesRead ownParse s m e x delivery year month
-  unfolding ownBody ofVolume
-  own-read i j k v r =
+own-ok : (x : ℕ) (v : Volume) → ownBody .Ok (x, v) → volumeBody .Ok v
+unfolding ownBody
+own-ok x v ok = ok .1
+
+module _ (s : List ℕ) {m a b c d e : Mark} {x delivery year month rows : ℕ} where
+  own-body : Parsed (strip (opening "ToETimeSeries" ++ opening "SupplyDirection")) s m a tt → Parsed (wordsParse supplies) s a b x → Parsed (strip (closing "SupplyDirection")) s b c tt
+      → (v : VolumeRead s c d delivery year month rows) → Parsed (strip (closing "ToETimeSeries")) s d e tt
+      → Parsed (ownBody .parse) s m e (x, (delivery, (rows, ((year, month), v .observations))))
+  unfolding ownBody
+  own-body i j k v r =
       record {
-        observations = v .observations;
-        parsed = record {
-          run = run-map (λ p. ofVolume (p .0) (p .1))
-              (run-pre (opening "ToETimeSeries" ++ opening "SupplyDirection") (i .run) (run-seq _ (run-post _ (j .run) (k .run)) (run-post _ (v .parsed .run) (r .run))));
-          within = r .within;
-        };
+        run = run-pre (opening "ToETimeSeries" ++ opening "SupplyDirection") (i .run) (run-seq _ (run-post _ (j .run) (k .run)) (run-post _ (v .parsed .run) (r .run)));
+        within = r .within;
       }
+
+  pub own-read : Parsed (strip (opening "ToETimeSeries" ++ opening "SupplyDirection")) s m a tt → Parsed (wordsParse supplies) s a b x → Parsed (strip (closing "SupplyDirection")) s b c tt
+      → VolumeRead s c d delivery year month rows → Parsed (strip (closing "ToETimeSeries")) s d e tt → Parsed (mapParse outline ownParse) s m e ((x, delivery), ((year, month), rows))
+  own-read i j k v r =
+      kept-of ownBody (λ p. ofVolume (p .0) (p .1)) outline s m e (x, (delivery, (rows, ((year, month), v .observations)))) ((x, delivery), ((year, month), rows))
+      (λ ok. outline-volume x delivery rows year month (v .observations) (own-ok x (delivery, (rows, ((year, month), v .observations))) ok)) (own-body i j k v r)
 
 -- how it is read with that of its access point
 abbrev pub sharedParse : ℕ → List ℕ → Res Series
 sharedParse x = mapParse (ofVolume x) (sharedBody .parse)
 
-module _ (s : List ℕ) {m a b c : Mark} (x : ℕ) {delivery year month : ℕ} where
-  pub shared-read : Parsed (strip (opening "ToETimeSeries")) s m a tt → VolumeRead s a b delivery year month → Parsed (strip (closing "ToETimeSeries")) s b c tt
-      → SeriesRead (sharedParse x) s m c x delivery year month
-  unfolding sharedBody ofVolume
+shared-ok : (v : Volume) → sharedBody .Ok v → volumeBody .Ok v
+unfolding sharedBody
+shared-ok v ok = ok
+
+module _ (s : List ℕ) {m a b c : Mark} (x : ℕ) {delivery year month rows : ℕ} where
+  shared-body : Parsed (strip (opening "ToETimeSeries")) s m a tt → (v : VolumeRead s a b delivery year month rows) → Parsed (strip (closing "ToETimeSeries")) s b c tt
+      → Parsed (sharedBody .parse) s m c (delivery, (rows, ((year, month), v .observations)))
+  unfolding sharedBody
+  shared-body i v r = record { run = run-pre (opening "ToETimeSeries") (i .run) (run-post _ (v .parsed .run) (r .run)); within = r .within }
+
+  pub shared-read : Parsed (strip (opening "ToETimeSeries")) s m a tt → VolumeRead s a b delivery year month rows → Parsed (strip (closing "ToETimeSeries")) s b c tt
+      → Parsed (mapParse outline (sharedParse x)) s m c ((x, delivery), ((year, month), rows))
   shared-read i v r =
-      record {
-        observations = v .observations;
-        parsed = record { run = run-map (ofVolume x) (run-pre (opening "ToETimeSeries") (i .run) (run-post _ (v .parsed .run) (r .run))); within = r .within };
-      }
+      kept-of sharedBody (ofVolume x) outline s m c (delivery, (rows, ((year, month), v .observations))) ((x, delivery), ((year, month), rows))
+      (λ ok. outline-volume x delivery rows year month (v .observations) (shared-ok (delivery, (rows, ((year, month), v .observations))) ok)) (shared-body i v r)

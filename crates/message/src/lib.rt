@@ -1,13 +1,15 @@
 // The file of document 01.
+pub mod reader;
+
 use formats::Mark;
 use formats::Val;
 ghost use mathlib.Core.Path.{_≡_};
 ghost use Rattle.formats.specs.Place.{Within, Parsed};
 ghost use Rattle.message.specs.ObservationForm.{quantity, observed, isPeriod, behindMonth, period};
-ghost use Rattle.formats.specs.Combine.{strip};
+ghost use Rattle.formats.specs.Combine.{strip, mapParse};
 ghost use Rattle.moments.specs.Moments.{momentBytes};
 ghost use Rattle.message.specs.Valid.{lastPosition, IsPeriod};
-ghost use Rattle.message.specs.Reading.{observing, inOrder, keep, Passed, observationsOf, VolumeRead, SeriesRead, ownParse, sharedParse};
+ghost use Rattle.message.specs.Reading.{observing, inOrder, keep, Passed, observationsOf, VolumeRead, outline, ownParse, sharedParse};
 
 // TOE01, TOE02 and TOE03.
 pub enum Kind {
@@ -202,13 +204,14 @@ struct TimeSeries {
     delivery: u64,
     year: u64,
     month: u64,
+    rows: u64,
     next: Mark,
 }
 
 // A time series from its delivery direction on.
 fn volume(s: &[u8], m: Mark) -> TimeSeries
     requires { ⌜ Within (now s) m ⌝ }
-    ensures { λ r. ⌜ VolumeRead (now (s .entry)) m (r .next) (r .delivery) (r .year) (r .month) ⌝ }
+    ensures { λ r. ⌜ VolumeRead (now (s .entry)) m (r .next) (r .delivery) (r .year) (r .month) (r .rows) ⌝ }
 {
     let a = formats::tag(s, m, b"<DeliveryDirection>");
     let x = formats::word(s, a, b"DeliveryUp", b"DeliveryDown");
@@ -231,6 +234,7 @@ fn volume(s: &[u8], m: Mark) -> TimeSeries
         delivery: x.value,
         year: q.year,
         month: q.month,
+        rows: n.value,
         next: h,
     }
 }
@@ -241,13 +245,14 @@ struct Series {
     delivery: u64,
     year: u64,
     month: u64,
+    rows: u64,
     next: Mark,
 }
 
 // A time series with its supply direction.
 fn own_series(s: &[u8], m: Mark) -> Series
     requires { ⌜ Within (now s) m ⌝ }
-    ensures { λ r. ⌜ SeriesRead ownParse (now (s .entry)) m (r .next) (r .supply) (r .delivery) (r .year) (r .month) ⌝ }
+    ensures { λ r. ⌜ Parsed (mapParse outline ownParse) (now (s .entry)) m (r .next) ((r .supply, r .delivery), ((r .year, r .month), r .rows)) ⌝ }
 {
     let a = formats::tag(s, m, b"<ToETimeSeries><SupplyDirection>");
     let x = formats::word(s, a, b"Off-take", b"Injection");
@@ -261,6 +266,7 @@ fn own_series(s: &[u8], m: Mark) -> Series
         delivery: v.delivery,
         year: v.year,
         month: v.month,
+        rows: v.rows,
         next: e,
     }
 }
@@ -268,7 +274,7 @@ fn own_series(s: &[u8], m: Mark) -> Series
 // A time series with the supply direction of its access point.
 fn shared_series(s: &[u8], m: Mark, supply: u64) -> Series
     requires { ⌜ Within (now s) m ⌝ }
-    ensures { λ r. ⌜ SeriesRead (sharedParse supply) (now (s .entry)) m (r .next) supply (r .delivery) (r .year) (r .month) × (r .supply ≡ supply) ⌝ }
+    ensures { λ r. ⌜ Parsed (mapParse outline (sharedParse supply)) (now (s .entry)) m (r .next) ((r .supply, r .delivery), ((r .year, r .month), r .rows)) ⌝ }
 {
     let a = formats::tag(s, m, b"<ToETimeSeries>");
     let v = volume(s, a);
@@ -279,6 +285,7 @@ fn shared_series(s: &[u8], m: Mark, supply: u64) -> Series
         delivery: v.delivery,
         year: v.year,
         month: v.month,
+        rows: v.rows,
         next: c,
     }
 }

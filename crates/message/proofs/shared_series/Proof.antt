@@ -1,5 +1,4 @@
 -- The parts one after the other.
-use mathlib.Core.Path.{refl}
 use borrow.Author.Needs.{needs}
 use Rattle.text.specs.Ascii.{bytes}
 use Rattle.message.specs.Bytes.{opening, ending, closing}
@@ -26,7 +25,7 @@ returns : tie.Need-returns
 unfolding opening ending closing bytes
 returns c =
     let a = c .before .before .before .before .before .before .args in
-    (shared-read (a .s .now) (a .supply) (c .before .before .before .tag .ensures) (c .before .before .volume .ensures) (c .tag2 .ensures), refl)
+    shared-read (a .s .now) (a .supply) (c .before .before .before .tag .ensures) (c .before .before .volume .ensures) (c .tag2 .ensures)
 
 pub shared-series-spec : {M : Type 1} → statement M
 shared-series-spec =
