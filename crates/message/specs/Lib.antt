@@ -16,3 +16,7 @@ pub mod SixesLaws
 pub mod MessageForm
 pub mod FileLaws
 pub mod Reading
+pub mod WriterOrder
+pub mod WriterRows
+pub mod WriterRowsLaws
+pub mod WriterSteps

@@ -1,4 +1,6 @@
 // The file of document 01.
+mod judging;
+
 use formats::Mark;
 use formats::Val;
 ghost use mathlib.Core.Path.{_≡_};
