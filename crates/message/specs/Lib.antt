@@ -20,3 +20,7 @@ pub mod ReaderItems
 pub mod ReaderSeries
 pub mod ReaderPartner
 pub mod ReaderPartners
+pub mod WriterOrder
+pub mod WriterRows
+pub mod WriterRowsLaws
+pub mod WriterSteps

@@ -1,4 +1,5 @@
 // The file of document 01.
+mod judging;
 pub mod reader;
 
 use formats::Mark;
