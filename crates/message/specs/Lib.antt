@@ -20,3 +20,4 @@ pub mod ReaderItems
 pub mod ReaderSeries
 pub mod ReaderPartner
 pub mod ReaderPartners
+pub mod ReaderFile
