@@ -13,10 +13,10 @@ use Rattle.formats.specs.FormatLaws.{got-bad}
 use Rattle.formats.specs.Combine.{strip, mapParse}
 use Rattle.formats.specs.Words.{wordsParse}
 use Rattle.formats.specs.Exactly.{exactlyParse, fixedDigits}
-use Rattle.formats.specs.Name.{nameByte, nameParse}
+use Rattle.formats.specs.Name.{nameByte, span, nameParse}
 use Rattle.formats.specs.Rising.{All}
 use Rattle.formats.specs.Run.{run-map, run-seq, run-pre, run-post}
-use Rattle.formats.specs.Place.{Within, Parsed}
+use Rattle.formats.specs.Place.{Parsed, left}
 use Rattle.formats.specs.PlaceLaws.{parsed, not-there}
 use Rattle.formats.specs.declared.Mark.{Mark}
 use Rattle.formats.specs.declared.Mark.the-variants.{At, No}
@@ -127,6 +127,36 @@ module _ (s : List ℕ) {m a b c d e f g h i j l o : Mark} {k : Kind} {id moment
         run = run-seq _ (p₀ .run) (run-pre (opening "TransactionID") (p₁ .run) (run-seq _ (run-post _ (p₂ .run) (p₃ .run)) (run-seq _ (run-post _ (p₄ .run) (p₅ .run))
             (run-seq _ (run-post _ (p₆ .run) (p₇ .run)) (run-seq _ (run-post _ (p₈ .run) (p₉ .run)) (run-post _ (q₀ .run) (q₁ .run)))))));
         within = q₁ .within;
+      }
+
+-- a file was read from the first byte to the mark o: of its kind and receiver, its ID at the mark b, its moment at d, its partners of the month and rows t
+pub record Filed (s : List ℕ) (o : Mark) (k : Kind) (receiver : ℕ) (t : (ℕ × ℕ) × ℕ) (b d : Mark) : Type 0 where
+  pub count : ℕ
+  pub partners : List Partner
+  pub parsed : Parsed (fileBody .parse) s (At 0) o (k, (span nameByte (left s b), (take 29 (left s d), (receiver, (count, partners)))))
+  pub is : (q : ℕ) → o ≡ At q → folded adding ((0, 0), 0) partners ≡ t
+
+-- what stands behind a place that is missing is missing
+before-tag : (t s : List ℕ) (l : Mark) (q : ℕ) → Parsed (strip t) s l (At q) tt → (p : ℕ) × (l ≡ At p)
+before-tag t s No q p = absurd (got-bad (sym (p .run .run)))
+before-tag t s (At n) q p = (n, refl)
+
+module _ (s : List ℕ) {a b c d e f g h i j l o : Mark} {k : Kind} {receiver n : ℕ} {t : (ℕ × ℕ) × ℕ} where
+  pub filed : Parsed (kindForm .parse) s (At 0) a k → Parsed (strip (opening "TransactionID")) s a b tt → Parsed (nameParse nameByte 1 36 60) s b c (span nameByte (left s b))
+      → Parsed (strip (ending "TransactionID" ++ opening "MessageCreateDateTime")) s c d tt → Parsed (exactlyParse 29 isMoment) s d e (take 29 (left s d))
+      → Parsed (strip (closing "MessageCreateDateTime" ++ opening "ReceiverID")) s e f tt → Parsed (fixedDigits 10 .parse) s f g receiver
+      → Parsed (strip (closing "ReceiverID" ++ opening (counter k))) s g h tt → Parsed (plainNumber .parse) s h i n → Parsed (strip (ending (counter k))) s i j tt
+      → Parsed (mapParse (folded adding ((0, 0), 0)) (partnersForm k n .parse)) s j l t → Parsed (strip (closing (root k))) s l o tt
+      → Filed s o k receiver t b d
+  filed p₀ p₁ p₂ p₃ p₄ p₅ p₆ p₇ p₈ p₉ q₀ q₁ =
+      let u = unview (folded adding ((0, 0), 0)) [] (partnersForm k n .parse) s j l t q₀ in
+      record {
+        count = n;
+        partners = u .value;
+        parsed = file-parsed s p₀ p₁ p₂ p₃ p₄ p₅ p₆ p₇ p₈ p₉ (u .parsed) q₁;
+        is = λ q e.
+            let z = before-tag (closing (root k)) s l q (subst (λ (w : Mark). Parsed (strip (closing (root k))) s l w tt) e q₁) in
+            u .is (z .0) (z .1);
       }
 
 -- ---- month and rows of the partners

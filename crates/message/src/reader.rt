@@ -19,6 +19,7 @@ ghost use Rattle.message.specs.PartnerForm.{partnerForm};
 ghost use Rattle.message.specs.FileForm.{kindOf, kindForm, partnersForm};
 ghost use Rattle.message.specs.ReaderPartner.{directionCounter, companyForm, accessForm, headParse, partnerKept};
 ghost use Rattle.message.specs.ReaderPartners.{partnerItem, adding};
+ghost use Rattle.message.specs.ReaderFile.{Filed};
 ghost use Rattle.message.specs.ReaderSeries.{seriesForm, joins, item, counting, listForm, Room};
 
 // A series of a kind; in TOE03 `supply` is its access point's.
@@ -453,5 +454,52 @@ fn root_end(s: &[u8], m: Mark, kind: Kind) -> Mark
         Kind::Toe01 => formats::tag(s, m, b"</AggregatedToEVolumesForFSP>"),
         Kind::Toe02 => formats::tag(s, m, b"</AggregatedToEVolumesForSupplier>"),
         Kind::Toe03 => formats::tag(s, m, b"</IndividualToEVolumesForSupplier>"),
+    }
+}
+
+// The parts of a file that were read, where its ID starts and ends and its moment starts, and the place behind it.
+struct FileRead {
+    kind: Kind,
+    receiver: u64,
+    year: u64,
+    month: u64,
+    rows: u64,
+    id: Mark,
+    id_end: Mark,
+    moment: Mark,
+    next: Mark,
+}
+
+// A file from its first byte on.
+fn file_read(s: &[u8]) -> FileRead
+    ensures { λ r. ⌜ Filed (now (s .entry)) (r .next) (r .kind) (r .receiver) ((r .year, r .month), r .rows) (r .id) (r .moment) ⌝ }
+{
+    let r = file_root(s, Mark::At(0));
+    let a = r.next;
+    let kind = r.kind;
+    let id = formats::tag(s, a, b"<TransactionID>");
+    let id_end = formats::name(s, id, 1, 36, 60);
+    let moment = formats::tag(s, id_end, b"/TransactionID><MessageCreateDateTime>");
+    let b = file_moment(s, moment);
+    let c = formats::tag(s, b, b"</MessageCreateDateTime><ReceiverID>");
+    let v = formats::fixed(s, c, 10);
+    let d = v.next;
+    let e = receiver_end(s, d, kind);
+    let n = formats::number(s, e, 60, 18446744073709551615);
+    let f = n.next;
+    let g = counter_end(s, f, kind);
+    let t = partners(s, g, kind, n.value);
+    let h = t.next;
+    let next = root_end(s, h, kind);
+    FileRead {
+        kind,
+        receiver: v.value,
+        year: t.year,
+        month: t.month,
+        rows: t.rows,
+        id,
+        id_end,
+        moment,
+        next,
     }
 }
