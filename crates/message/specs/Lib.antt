@@ -24,3 +24,4 @@ pub mod WriterOrder
 pub mod WriterRows
 pub mod WriterRowsLaws
 pub mod WriterSteps
+pub mod ReaderFile

@@ -4,17 +4,22 @@ use crate::Series;
 use formats::Mark;
 use formats::Val;
 ghost use mathlib.Core.Path.{_≡_};
-ghost use Prim.Native.Nat.{_+_, _*_, _≤_};
+ghost use mathlib.Core.List.{_++_};
+ghost use Prim.Native.Nat.{suc, _+_, _*_, _≤_};
 ghost use Rattle.formats.specs.Combine.{mapParse, strip};
-ghost use Rattle.formats.specs.Place.{Within, Parsed};
+ghost use lib.ListN.{take};
+ghost use Rattle.formats.specs.Exactly.{exactlyParse};
+ghost use Rattle.formats.specs.Place.{Within, Parsed, left};
+ghost use Rattle.message.specs.Valid.{isMoment};
 ghost use Rattle.message.specs.SeriesListForm.{follows};
 ghost use Rattle.message.specs.Reading.{outline};
 ghost use Rattle.message.specs.ReaderItems.{folded};
-ghost use Rattle.message.specs.Bytes.{closing, group};
+ghost use Rattle.message.specs.Bytes.{opening, ending, closing, root, counter, group};
 ghost use Rattle.message.specs.PartnerForm.{partnerForm};
-ghost use Rattle.message.specs.FileForm.{partnersForm};
+ghost use Rattle.message.specs.FileForm.{kindOf, kindForm, partnersForm};
 ghost use Rattle.message.specs.ReaderPartner.{directionCounter, companyForm, accessForm, headParse, partnerKept};
 ghost use Rattle.message.specs.ReaderPartners.{partnerItem, adding};
+ghost use Rattle.message.specs.ReaderFile.{Filed};
 ghost use Rattle.message.specs.ReaderSeries.{seriesForm, joins, item, counting, listForm, Room};
 
 // A series of a kind; in TOE03 `supply` is its access point's.
@@ -359,5 +364,142 @@ fn partners(s: &[u8], m: Mark, kind: Kind, n: u64) -> Tally
         month,
         rows,
         next: Mark::At(at),
+    }
+}
+
+// A kind that was read, and the place behind it.
+struct Root {
+    kind: Kind,
+    next: Mark,
+}
+
+// The kind of the second or the third root.
+fn later_kind(n: u64) -> Kind
+    ensures { λ r. ⌜ r ≡ kindOf (suc n) ⌝ }
+{
+    if n == 0 { Kind::Toe02 } else { Kind::Toe03 }
+}
+
+// The root that opens a file, by its kind.
+fn file_root(s: &[u8], m: Mark) -> Root
+    requires { ⌜ Within (now s) m ⌝ }
+    ensures { λ r. ⌜ Parsed (kindForm .parse) (now (s .entry)) m (r .next) (r .kind) ⌝ }
+{
+    let a = formats::tag(s, m, b"<AggregatedToEVolumesForFSP>");
+    if let Mark::At(_) = a {
+        return Root {
+            kind: Kind::Toe01,
+            next: a,
+        };
+    }
+    let w = formats::word(
+        s,
+        m,
+        b"<AggregatedToEVolumesForSupplier>",
+        b"<IndividualToEVolumesForSupplier>",
+    );
+    let next = w.next;
+    let kind = later_kind(w.value);
+    Root { kind, next }
+}
+
+// The moment of a file.
+fn file_moment(s: &[u8], m: Mark) -> Mark
+    requires { ⌜ Within (now s) m ⌝ }
+    ensures { λ r. ⌜ Parsed (exactlyParse 29 isMoment) (now (s .entry)) m r (take 29 (left (now (s .entry)) m)) ⌝ }
+{
+    let Mark::At(p) = m else {
+        return Mark::No;
+    };
+    if s.len() - p < 29 {
+        return Mark::No;
+    }
+    let j = moments::read_moment(&s[p..p + 29]);
+    let moments::Judged::Real(_) = j else {
+        return Mark::No;
+    };
+    Mark::At(p + 29)
+}
+
+// What stands between the receiver and the counter of partners.
+fn receiver_end(s: &[u8], m: Mark, kind: Kind) -> Mark
+    requires { ⌜ Within (now s) m ⌝ }
+    ensures { λ r. ⌜ Parsed (strip (closing "ReceiverID" ++ opening (counter kind))) (now (s .entry)) m r tt ⌝ }
+{
+    match kind {
+        Kind::Toe01 => formats::tag(s, m, b"</ReceiverID><SupplierCounter>"),
+        Kind::Toe02 => formats::tag(s, m, b"</ReceiverID><FSPCounter>"),
+        Kind::Toe03 => formats::tag(s, m, b"</ReceiverID><SDPSupplyCounter>"),
+    }
+}
+
+// The tag that ends the counter of partners, without the byte that ends the number.
+fn counter_end(s: &[u8], m: Mark, kind: Kind) -> Mark
+    requires { ⌜ Within (now s) m ⌝ }
+    ensures { λ r. ⌜ Parsed (strip (ending (counter kind))) (now (s .entry)) m r tt ⌝ }
+{
+    match kind {
+        Kind::Toe01 => formats::tag(s, m, b"/SupplierCounter>"),
+        Kind::Toe02 => formats::tag(s, m, b"/FSPCounter>"),
+        Kind::Toe03 => formats::tag(s, m, b"/SDPSupplyCounter>"),
+    }
+}
+
+// The tag that ends a file.
+fn root_end(s: &[u8], m: Mark, kind: Kind) -> Mark
+    requires { ⌜ Within (now s) m ⌝ }
+    ensures { λ r. ⌜ Parsed (strip (closing (root kind))) (now (s .entry)) m r tt ⌝ }
+{
+    match kind {
+        Kind::Toe01 => formats::tag(s, m, b"</AggregatedToEVolumesForFSP>"),
+        Kind::Toe02 => formats::tag(s, m, b"</AggregatedToEVolumesForSupplier>"),
+        Kind::Toe03 => formats::tag(s, m, b"</IndividualToEVolumesForSupplier>"),
+    }
+}
+
+// The parts of a file that were read, where its ID starts and ends and its moment starts, and the place behind it.
+struct FileRead {
+    kind: Kind,
+    receiver: u64,
+    year: u64,
+    month: u64,
+    rows: u64,
+    id: Mark,
+    id_end: Mark,
+    moment: Mark,
+    next: Mark,
+}
+
+// A file from its first byte on.
+fn file_read(s: &[u8]) -> FileRead
+    ensures { λ r. ⌜ Filed (now (s .entry)) (r .next) (r .kind) (r .receiver) ((r .year, r .month), r .rows) (r .id) (r .moment) ⌝ }
+{
+    let r = file_root(s, Mark::At(0));
+    let a = r.next;
+    let kind = r.kind;
+    let id = formats::tag(s, a, b"<TransactionID>");
+    let id_end = formats::name(s, id, 1, 36, 60);
+    let moment = formats::tag(s, id_end, b"/TransactionID><MessageCreateDateTime>");
+    let b = file_moment(s, moment);
+    let c = formats::tag(s, b, b"</MessageCreateDateTime><ReceiverID>");
+    let v = formats::fixed(s, c, 10);
+    let d = v.next;
+    let e = receiver_end(s, d, kind);
+    let n = formats::number(s, e, 60, 18446744073709551615);
+    let f = n.next;
+    let g = counter_end(s, f, kind);
+    let t = partners(s, g, kind, n.value);
+    let h = t.next;
+    let next = root_end(s, h, kind);
+    FileRead {
+        kind,
+        receiver: v.value,
+        year: t.year,
+        month: t.month,
+        rows: t.rows,
+        id,
+        id_end,
+        moment,
+        next,
     }
 }
