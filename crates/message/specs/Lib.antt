@@ -20,3 +20,5 @@ pub mod WriterOrder
 pub mod WriterRows
 pub mod WriterRowsLaws
 pub mod WriterSteps
+pub mod WriterLaid
+pub mod WriterParts
