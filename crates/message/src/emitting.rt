@@ -8,6 +8,7 @@ ghost use Rattle.message.specs.Bytes.{quantityBytes, observationBytes, p
 ghost use Rattle.message.specs.Valid.{IsPeriod};
 ghost use Rattle.message.specs.ObservationForm.{observed};
 ghost use Rattle.message.specs.WriterLaid.{Laid};
+ghost use Rattle.message.specs.WriterParts.{deliveryBytes, headBytes};
 
 // Watts as kilowatts with three decimals.
 fn emit_quantity(out: &mut [u8], m: Mark, watts: u64, live: bool) -> Mark
@@ -63,4 +64,51 @@ fn emit_period(out: &mut [u8], m: Mark, year: u64, month: u64, live: bool) -> Ma
         b"</PeriodEnd><PeriodResolution>PT15M</PeriodResolution>",
         live,
     )
+}
+
+// A delivery direction.
+fn emit_delivery(out: &mut [u8], m: Mark, delivery: u64, live: bool) -> Mark
+    requires { ⌜ delivery < 2 ⌝ }
+    ensures { λ r. ⌜ Laid live (now (out .entry)) m (deliveryBytes delivery) (now (out .exit)) r ⌝ }
+{
+    if delivery == 0 {
+        lay(
+            out,
+            m,
+            b"<DeliveryDirection>DeliveryUp</DeliveryDirection>",
+            live,
+        )
+    } else {
+        lay(
+            out,
+            m,
+            b"<DeliveryDirection>DeliveryDown</DeliveryDirection>",
+            live,
+        )
+    }
+}
+
+// A time series from its delivery direction up to its observations, of which there are n.
+fn emit_head(
+    out: &mut [u8],
+    m: Mark,
+    delivery: u64,
+    n: u64,
+    year: u64,
+    month: u64,
+    live: bool,
+) -> Mark
+    requires { ⌜ (delivery < 2) × IsPeriod year month ⌝ }
+    ensures { λ r. ⌜ Laid live (now (out .entry)) m (headBytes delivery n year month) (now (out .exit)) r ⌝ }
+{
+    let a = emit_delivery(out, m, delivery, live);
+    let b = lay(
+        out,
+        a,
+        b"<UnitType>KWT</UnitType><ObservationCounter>",
+        live,
+    );
+    let c = lay_plain(out, b, n, live);
+    let d = lay(out, c, b"</ObservationCounter><TimeSeriesPeriod>", live);
+    emit_period(out, d, year, month, live)
 }
