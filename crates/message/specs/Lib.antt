@@ -20,8 +20,10 @@ pub mod ReaderItems
 pub mod ReaderSeries
 pub mod ReaderPartner
 pub mod ReaderPartners
+pub mod ReaderFile
 pub mod WriterOrder
 pub mod WriterRows
 pub mod WriterRowsLaws
 pub mod WriterSteps
-pub mod ReaderFile
+pub mod WriterLaid
+pub mod WriterParts

@@ -1,5 +1,7 @@
 // The file of document 01.
+mod emitting;
 mod judging;
+mod laying;
 pub mod reader;
 
 use formats::Mark;

@@ -1,0 +1,122 @@
+-- Bytes laid behind each other into a list, or only measured: what has no room ends at no place.
+use mathlib.Core.Path.{_≡_, refl, sym, ap, _∙_}
+use mathlib.Core.Bool.{Bool, true, false, cond}
+use mathlib.Core.List.{List, [], _∷_, _++_}
+use Prim.Native.Nat.{ℕ, _+_, _≤_}
+use lib.Dec.{leb}
+use lib.ListN.{length, length-append}
+use native.Mathlib.Omega.{arith}
+use native.Mathlib.Nat.{add-assoc}
+use borrow.Author.Tests.{leb-true, leb-false, le-leb, lt-leb}
+use Rattle.text.specs.Written.{written, Wrote}
+use Rattle.text.specs.WrittenLaws.{written-both, wrote-length}
+use Rattle.formats.specs.declared.Mark.{Mark}
+use Rattle.formats.specs.declared.Mark.the-variants.{At, No}
+
+-- the place n further on, in a list of that length
+unfoldable pub ahead : ℕ → Mark → ℕ → Mark
+ahead len (At p) n = cond (leb (p + n) len) (At (p + n)) No
+ahead len No n = No
+
+-- what laying bytes at a mark leaves: the place behind them, and the list as it was, or with them in it where they have room
+pub record Laid (live : Bool) (before : List ℕ) (m : Mark) (bs after : List ℕ) (next : Mark) : Type 0 where
+  pub keeps : length after ≡ length before
+  pub behind : next ≡ ahead (length before) m (length bs)
+  pub dry : live ≡ false → after ≡ before
+  pub wrote : live ≡ true → (p q : ℕ) → m ≡ At p → next ≡ At q → after ≡ written before p bs
+
+-- ---- places
+
+pub ahead-fits : (len p n : ℕ) → p + n ≤ len → ahead len (At p) n ≡ At (p + n)
+unfolding ahead
+ahead-fits len p n h = rw (le-leb (p + n) len h)
+
+pub ahead-over : (len p n : ℕ) → (p + n ≤ len → ⊥) → ahead len (At p) n ≡ No
+unfolding ahead
+ahead-over len p n h = go (leb (p + n) len) refl
+  where
+    go : (b : Bool) → leb (p + n) len ≡ b → cond b (At (p + n)) No ≡ No
+    go true e = absurd (h (leb-true (p + n) len e))
+    go false e = refl
+
+-- a place that was reached
+pub record Reached (len p n q : ℕ) : Type 0 where
+  pub is : q ≡ p + n
+  pub room : p + n ≤ len
+
+no-place : (q : ℕ) → No ≡ At q → ⊥
+no-place q e = let z : _≡_ {A = ℕ} 0 1 = cc in omega arith
+
+same-place : (p q : ℕ) → At p ≡ At q → p ≡ q
+same-place p q e = cc
+
+pub reached : (len p n q : ℕ) → ahead len (At p) n ≡ At q → Reached len p n q
+unfolding ahead
+reached len p n q e = go (leb (p + n) len) refl e
+  where
+    go : (b : Bool) → leb (p + n) len ≡ b → cond b (At (p + n)) No ≡ At q → Reached len p n q
+    go true t f = record { is = sym (same-place (p + n) q f); room = leb-true (p + n) len t }
+    go false t f = absurd (no-place q f)
+
+pub ahead-twice : (len : ℕ) (m : Mark) (a b : ℕ) → ahead len (ahead len m a) b ≡ ahead len m (a + b)
+unfolding ahead
+ahead-twice len No a b = refl
+ahead-twice len (At p) a b = go (leb (p + a) len) refl
+  where
+    go : (t : Bool) → leb (p + a) len ≡ t → ahead len (cond t (At (p + a)) No) b ≡ cond (leb (p + (a + b)) len) (At (p + (a + b))) No
+    go true e = ap (λ (n : ℕ). cond (leb n len) (At n) No) (add-assoc p a b)
+    go false e = let h = leb-false (p + a) len e in rw (lt-leb (p + (a + b)) len (omega arith))
+
+-- ---- one behind the other
+
+both-wrote : (d a b out out′ : List ℕ) (p q : ℕ) (n : Mark) → n ≡ ahead (length d) (At p) (length a) → length out ≡ length d
+    → ((r : ℕ) → n ≡ At r → out ≡ written d p a) → ((r : ℕ) → n ≡ At r → out′ ≡ written out r b) → ahead (length d) n (length b) ≡ At q
+    → out′ ≡ written d p (a ++ b)
+unfolding ahead
+both-wrote d a b out out′ p q No e k v w f = absurd (no-place q f)
+both-wrote d a b out out′ p q (At r) e k v w f =
+    let x = reached (length d) p (length a) r (sym e) in
+    let y = reached (length d) r (length b) q f in
+    w r refl ∙ ap (λ (l : List ℕ). written l r b) (v r refl) ∙ ap (λ (j : ℕ). written (written d p a) j b) (x .is) ∙ written-both d p a b (omega (arith, x .is, y .room))
+
+pub laid-then : {live : Bool} {d : List ℕ} {m : Mark} {a b out out′ : List ℕ} {n n′ : Mark} → Laid live d m a out n → Laid live out n b out′ n′ → Laid live d m (a ++ b) out′ n′
+laid-then {live} {d} {m} {a} {b} {out} {out′} {n} {n′} v w =
+    let next = w .behind ∙ ap (λ (k : ℕ). ahead k n (length b)) (v .keeps) in
+    record {
+      keeps = w .keeps ∙ v .keeps;
+      behind = next ∙ ap (λ (k : Mark). ahead (length d) k (length b)) (v .behind) ∙ ahead-twice (length d) m (length a) (length b) ∙ ap (ahead (length d) m) (sym (length-append a b));
+      dry = λ e. w .dry e ∙ v .dry e;
+      wrote = λ e p q f g.
+          both-wrote d a b out out′ p q n (v .behind ∙ ap (λ (k : Mark). ahead (length d) k (length a)) f) (v .keeps) (λ r h. v .wrote e p r f h) (λ r h. w .wrote e r q h g) (sym next ∙ g);
+    }
+
+pub laid-is : {live : Bool} {d : List ℕ} {m : Mark} {a out : List ℕ} {n : Mark} (b : List ℕ) → a ≡ b → Laid live d m a out n → Laid live d m b out n
+laid-is {live} {d} {m} {a} {out} {n} b e v = rw e at v
+
+-- ---- a write, or none
+
+true-false : (b : Bool) → b ≡ true → b ≡ false → ⊥
+true-false b e f = let z : _≡_ {A = ℕ} 0 1 = cc in omega arith
+
+pub laid-dry : (live : Bool) (d : List ℕ) (m : Mark) (bs : List ℕ) (n : Mark) → live ≡ false → n ≡ ahead (length d) m (length bs) → Laid live d m bs d n
+laid-dry live d m bs n e f = record { keeps = refl; behind = f; dry = λ g. refl; wrote = λ g. absurd (true-false live g e) }
+
+pub laid-full : (live : Bool) (d : List ℕ) (m : Mark) (bs : List ℕ) → ahead (length d) m (length bs) ≡ No → Laid live d m bs d No
+laid-full live d m bs e = record { keeps = refl; behind = sym e; dry = λ f. refl; wrote = λ f p q g h. absurd (no-place q h) }
+
+pub laid-nowhere : (live : Bool) (d : List ℕ) (m : Mark) (bs : List ℕ) → m ≡ No → Laid live d m bs d No
+unfolding ahead
+laid-nowhere live d m bs e = laid-full live d m bs (ap (λ (k : Mark). ahead (length d) k (length bs)) e)
+
+pub laid-live : (live : Bool) (d : List ℕ) (m : Mark) (p : ℕ) (bs out : List ℕ) (q : ℕ) → live ≡ true → m ≡ At p → Wrote d p bs out q → Laid live d m bs out (At q)
+laid-live live d m p bs out q e f w =
+    record {
+      keeps = wrote-length w;
+      behind = ap At (w .behind) ∙ sym (ahead-fits (length d) p (length bs) (w .room)) ∙ ap (λ (k : Mark). ahead (length d) k (length bs)) (sym f);
+      dry = λ g. absurd (true-false live e g);
+      wrote = λ g r s h i. w .list ∙ ap (λ (j : ℕ). written d j bs) (same-place p r (sym f ∙ h));
+    }
+
+-- there is room up to a place that was reached
+pub room-for : (len p n q : ℕ) (m next : Mark) → m ≡ At p → next ≡ ahead len m n → next ≡ At q → p + n ≤ len
+room-for len p n q m next e f g = reached len p n q (ap (λ (k : Mark). ahead len k n) (sym e) ∙ sym f ∙ g) .room
