@@ -8,7 +8,7 @@ use lib.ListN.{length, take, drop, length-append, length-map, length-drop}
 use lib.Seq.{drop-drop}
 use native.Mathlib.Omega.{arith}
 use borrow.Author.Tests.{le-leb, lt-leb}
-use Rattle.formats.specs.Format.{Res, got, bad, bind, pick}
+use Rattle.formats.specs.Format.{Res, got, bad, pick}
 use Rattle.formats.specs.FormatLaws.{got-bad}
 use Rattle.formats.specs.Combine.{strip, mapParse}
 use Rattle.formats.specs.Words.{wordsParse}

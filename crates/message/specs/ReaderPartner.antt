@@ -1,14 +1,13 @@
 -- How the judge reads a partner: its head, its series, its end.
-use mathlib.Core.Path.{_≡_, refl, sym, ap, _∙_, subst}
+use mathlib.Core.Path.{_≡_, refl, sym, ap}
 use mathlib.Core.Bool.{Bool, true, false}
-use mathlib.Core.List.{List, [], _∷_, _++_}
-use Prim.Native.Nat.{ℕ, _+_, _≤_, _<_}
+use mathlib.Core.List.{List, [], _++_}
+use Prim.Native.Nat.{ℕ, _≤_}
 use lib.Dec.{ltb}
-use lib.ListN.{length, drop}
+use lib.ListN.{drop}
 use native.Mathlib.Omega.{arith}
-use Rattle.text.specs.Ascii.{bytes}
-use Rattle.formats.specs.Format.{Res, got, bad, Format, bind}
-use Rattle.formats.specs.FormatLaws.{got-bad, sound-of}
+use Rattle.formats.specs.Format.{Res, got, bad, Format}
+use Rattle.formats.specs.FormatLaws.{got-bad}
 use Rattle.formats.specs.Combine.{strip, strip-sound, strip-complete, pre, post, seq, preParse, postParse, seqParse, mapParse}
 use Rattle.formats.specs.Exactly.{fixedDigits}
 use Rattle.formats.specs.Words.{words, wordsParse}
@@ -25,7 +24,7 @@ use Rattle.message.specs.SeriesListForm.{seriesList}
 use Rattle.message.specs.ObservationForm.{plainNumber}
 use Rattle.message.specs.PartnerForm.{ownPartner, ownPartnerBody, sharedPartner, sharedPartnerBody, partnerForm}
 use Rattle.message.specs.Reading.{keep, parsed-ok, parsed-no, counted-parsed}
-use Rattle.message.specs.ReaderItems.{run-same, viewed, view-only, folded, read-long}
+use Rattle.message.specs.ReaderItems.{run-same, viewed, folded, read-long}
 use Rattle.message.specs.ReaderSeries.{seriesForm, counting, listForm, Room}
 
 -- ---- a place further on

@@ -8,8 +8,8 @@ use lib.ListN.{length, drop}
 use native.Mathlib.Numerals.{add-one}
 use native.Mathlib.Omega.{arith}
 use Rattle.formats.specs.Format.{Res, got, bad, Format, bind}
-use Rattle.formats.specs.FormatLaws.{got-bad, sound-of}
-use Rattle.formats.specs.Combine.{mapParse, onlyParse}
+use Rattle.formats.specs.FormatLaws.{sound-of}
+use Rattle.formats.specs.Combine.{mapParse}
 use Rattle.formats.specs.Items.{itemsParse}
 use Rattle.formats.specs.Rising.{fromLow, rise}
 use Rattle.formats.specs.Run.{run-only, run-fail}

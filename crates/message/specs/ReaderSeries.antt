@@ -1,10 +1,10 @@
 -- How the judge reads a partner's series.
 use mathlib.Core.Path.{_≡_, refl, sym, ap, _∙_, subst}
 use mathlib.Core.Bool.{Bool, true, false, _&&_}
-use mathlib.Core.List.{List, [], _∷_, _++_, flatMap}
+use mathlib.Core.List.{List, _++_, flatMap}
 use Prim.Native.Nat.{ℕ, suc, _+_, _-_, _*_, _≤_, _<_}
 use lib.Dec.{leb}
-use lib.ListN.{length, drop, length-append}
+use lib.ListN.{length, drop}
 use native.Mathlib.Numerals.{add-one}
 use native.Mathlib.Omega.{arith}
 use Rattle.text.specs.Ascii.{bytes}
@@ -15,8 +15,8 @@ use Rattle.formats.specs.FormatLaws.{got-bad, sound-of}
 use Rattle.formats.specs.Combine.{mapParse, onlyParse}
 use Rattle.formats.specs.Items.{itemsParse}
 use Rattle.formats.specs.Rising.{fromLow, rise}
-use Rattle.formats.specs.Run.{Run, run-only, run-fail, run-none}
-use Rattle.formats.specs.Place.{Within, Parsed, placed}
+use Rattle.formats.specs.Run.{run-only, run-fail, run-none}
+use Rattle.formats.specs.Place.{Parsed}
 use Rattle.formats.specs.PlaceLaws.{parsed, not-there}
 use Rattle.formats.specs.declared.Mark.{Mark}
 use Rattle.formats.specs.declared.Mark.the-variants.{At, No}
@@ -24,8 +24,8 @@ use Rattle.message.specs.declared.Kind.{Kind}
 use Rattle.message.specs.declared.Kind.the-variants.{Toe01, Toe02, Toe03}
 use Rattle.message.specs.Contents.{Observation, Series, place}
 use Rattle.message.specs.Bytes.{opening, closing, element, deliveries, inSeries, supplyBytes, observationBytes, periodBytes, volumeBytes, seriesBytes}
-use Rattle.message.specs.Valid.{monthOf, IsSeries, IsVolume}
-use Rattle.message.specs.SeriesForm.{ownSeries, Supplied, sharedSeries}
+use Rattle.message.specs.Valid.{monthOf}
+use Rattle.message.specs.SeriesForm.{ownSeries, sharedSeries}
 use Rattle.message.specs.SeriesListForm.{follows, following, seriesList}
 use Rattle.message.specs.PartnerForm.{own-01, own-02}
 use Rattle.message.specs.Reading.{keep, Outline, outline}

@@ -12,7 +12,7 @@ use Rattle.message.specs.declared.Kind.{Kind}
 use Rattle.message.specs.declared.Kind.the-variants.{Toe01, Toe02, Toe03}
 use Rattle.message.specs.Contents.{Observation, Series, Partner, position, place, number}
 use Rattle.message.specs.Bytes.{digits, supplyOf}
-use Rattle.message.specs.Valid.{most, lastPosition, IsObservation, IsPeriod, Counted, IsSeries, OneSupply, IsPartner, isMoment, monthOf, periods, firstOf, IsFile}
+use Rattle.message.specs.Valid.{most, lastPosition, IsObservation, IsPeriod, IsSeries, OneSupply, IsPartner, isMoment, monthOf, periods, firstOf}
 use Rattle.message.specs.SeriesForm.{position-small}
 use Rattle.message.specs.ObservationForm.{isPeriod, to-period, from-period}
 use Rattle.message.specs.Keys.{numberKeys, pairKeys}

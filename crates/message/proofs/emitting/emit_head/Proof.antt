@@ -3,7 +3,6 @@ use Rattle.text.specs.Ascii.{bytes}
 use Rattle.message.specs.Bytes.{opening, ending, closing}
 use Rattle.message.specs.WriterLaid.{laid-then}
 use Rattle.message.specs.WriterParts.{headBytes}
-use native.Mathlib.Omega.{arith}
 use borrow.Author.Needs.{needs}
 use Rattle.message.proofs.emitting.emit_head.Statement.{statement}
 use Rattle.message.proofs.emitting.emit_head.Tie as tie

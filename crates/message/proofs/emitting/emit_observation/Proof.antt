@@ -4,7 +4,6 @@ use Rattle.message.specs.Bytes.{opening, ending, closing, observationByt
 use Rattle.message.specs.ObservationForm.{observed}
 use Rattle.message.specs.WriterLaid.{laid-then, laid-is}
 use Rattle.message.specs.WriterParts.{observation-parts}
-use native.Mathlib.Omega.{arith}
 use borrow.Author.Needs.{needs}
 use Rattle.message.proofs.emitting.emit_observation.Statement.{statement}
 use Rattle.message.proofs.emitting.emit_observation.Tie as tie

@@ -5,7 +5,6 @@ use Rattle.moments.specs.Moments.{momentBytes, periodStart, periodEnd}
 use Rattle.message.specs.Bytes.{opening, ending, closing, periodBytes}
 use Rattle.message.specs.WriterLaid.{laid-then, laid-is}
 use Rattle.message.specs.WriterParts.{period-parts}
-use native.Mathlib.Omega.{arith}
 use borrow.Author.Needs.{needs}
 use Rattle.message.proofs.emitting.emit_period.Statement.{statement}
 use Rattle.message.proofs.emitting.emit_period.Tie as tie

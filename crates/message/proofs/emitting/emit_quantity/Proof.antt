@@ -2,7 +2,6 @@
 use Rattle.text.specs.Ascii.{bytes}
 use Rattle.message.specs.Bytes.{quantityBytes}
 use Rattle.message.specs.WriterLaid.{laid-then}
-use native.Mathlib.Omega.{arith}
 use borrow.Author.Needs.{needs}
 use Rattle.message.proofs.emitting.emit_quantity.Statement.{statement}
 use Rattle.message.proofs.emitting.emit_quantity.Tie as tie

@@ -2,7 +2,6 @@
 use Prim.Native.Nat.{_+_}
 use Rattle.message.specs.WriterRows.{laterPair, rowAt}
 use Rattle.message.specs.WriterSteps.{pair-same, pair-other}
-use native.Mathlib.Omega.{arith}
 use borrow.Author.Needs.{needs}
 use Rattle.message.proofs.judging.later_pair.Statement.{statement}
 use Rattle.message.proofs.judging.later_pair.Tie as tie

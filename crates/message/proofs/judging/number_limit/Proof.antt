@@ -1,6 +1,5 @@
 -- The number of digits, kind by kind.
 use Rattle.message.specs.Bytes.{digits}
-use native.Mathlib.Omega.{arith}
 use borrow.Author.Needs.{needs}
 use Rattle.message.proofs.judging.number_limit.Statement.{statement}
 use Rattle.message.proofs.judging.number_limit.Tie as tie

@@ -1,6 +1,5 @@
 -- The rule, kind by kind.
 use Rattle.message.specs.WriterRows.{oneSupply}
-use native.Mathlib.Omega.{arith}
 use borrow.Author.Needs.{needs}
 use Rattle.message.proofs.judging.one_supply.Statement.{statement}
 use Rattle.message.proofs.judging.one_supply.Tie as tie

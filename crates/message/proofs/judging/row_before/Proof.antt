@@ -1,9 +1,7 @@
 -- By partners, or, of one partner, by what follows.
-use mathlib.Core.Path.{_∙_}
 use borrow.Author.Tests.{eq-eqb, ne-eqb}
 use lib.ListN.{getD}
 use Prim.Native.Nat.{_+_}
-use native.Mathlib.Omega.{arith}
 use borrow.Author.Needs.{needs}
 use Rattle.message.proofs.judging.row_before.Statement.{statement}
 use Rattle.message.proofs.judging.row_before.Tie as tie

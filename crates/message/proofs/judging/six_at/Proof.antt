@@ -1,6 +1,5 @@
 -- The tests of a row are those of the definition, one by one.
 use Rattle.message.specs.WriterRows.{sixAt, isNumber, isPair, isObservation}
-use native.Mathlib.Omega.{arith}
 use borrow.Author.Needs.{needs}
 use Rattle.message.proofs.judging.six_at.Statement.{statement}
 use Rattle.message.proofs.judging.six_at.Tie as tie

@@ -1,7 +1,6 @@
 -- The place is reached where the sum is at most the length.
-use mathlib.Core.Path.{sym, ap, _∙_}
+use mathlib.Core.Path.{sym}
 use native.Mathlib.Omega.{arith}
-use Rattle.formats.specs.declared.Mark.{Mark}
 use Rattle.message.specs.WriterLaid.{ahead, ahead-fits, ahead-over}
 use native.Mathlib.Omega.{arith}
 use borrow.Author.Needs.{needs}

@@ -3,7 +3,6 @@ use mathlib.Core.Path.{sym, _∙_}
 use lib.ListN.{length}
 use borrow.Author.Tests.{not-true, not-false}
 use Rattle.message.specs.WriterLaid.{laid-dry, laid-full, laid-nowhere, laid-live, room-for}
-use native.Mathlib.Omega.{arith}
 use borrow.Author.Needs.{needs}
 use Rattle.message.proofs.laying.lay.Statement.{statement}
 use Rattle.message.proofs.laying.lay.Tie as tie

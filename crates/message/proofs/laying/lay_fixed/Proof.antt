@@ -6,7 +6,6 @@ use borrow.Author.Tests.{not-true, not-false}
 use Rattle.text.specs.Decimal.{fixed}
 use Rattle.text.specs.DecimalLaws.{length-fixed}
 use Rattle.message.specs.WriterLaid.{ahead, laid-dry, laid-full, laid-nowhere, laid-live, room-for}
-use native.Mathlib.Omega.{arith}
 use borrow.Author.Needs.{needs}
 use Rattle.message.proofs.laying.lay_fixed.Statement.{statement}
 use Rattle.message.proofs.laying.lay_fixed.Tie as tie

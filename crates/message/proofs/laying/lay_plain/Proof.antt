@@ -4,7 +4,6 @@ use Prim.Native.Nat.{ℕ}
 use Rattle.text.specs.Decimal.{fixed, plain}
 use Rattle.text.specs.DecimalLaws.{plain-fixed}
 use Rattle.message.specs.WriterLaid.{laid-is}
-use native.Mathlib.Omega.{arith}
 use borrow.Author.Needs.{needs}
 use Rattle.message.proofs.laying.lay_plain.Statement.{statement}
 use Rattle.message.proofs.laying.lay_plain.Tie as tie
