@@ -1,12 +1,11 @@
 -- What an accepted call says of what was passed, and what a call in role and form with long enough buffers answers.
 use mathlib.Core.Path.{_≡_, refl, sym, ap, _∙_}
-use mathlib.Core.Bool.{Bool, true, false, cond, _&&_}
-use mathlib.Core.List.{List, [], _∷_, _++_, List·Memᴰ}
+use mathlib.Core.Bool.{Bool, true, false, _&&_}
+use mathlib.Core.List.{List, List·Memᴰ}
 use mathlib.Core.Option.{Option, none, some}
-use Prim.Native.Nat.{ℕ, zero, suc, _*_, _≤_}
+use Prim.Native.Nat.{ℕ, _*_, _≤_}
 use native.Mathlib.Omega.{arith}
 use lib.Dec.{leb}
-use lib.IntN.{ℤ}
 use lib.ListN.{length, take, drop}
 use lib.Seq.{take-at}
 use borrow.Author.Tests.{leb-true, le-leb}
@@ -14,19 +13,17 @@ use Rattle.integers.specs.Counts.{times, mem-times, times-mem}
 use Rattle.integers.specs.Tests.{both}
 use Rattle.moments.specs.Ids.{isTransactionId}
 use Rattle.book.specs.Book.{Book, bookOf}
-use Rattle.book.specs.Refusals.{Refusal, refused, unless}
+use Rattle.book.specs.Refusals.{Refusal, unless}
 use Rattle.volumes.specs.Quarters.{monthQuarters}
 use Rattle.volumes.specs.Settlement.{rowWidth, rowCount, orElse, bookRefusal}
-use Rattle.volumes.specs.Sheets.{parties, sheet}
+use Rattle.volumes.specs.Sheets.{parties}
 use Rattle.volumes.specs.Series.{Kind, Toe01, Toe02, Toe03}
 use Rattle.message.specs.Valid.{isMoment}
 use Rattle.reports.specs.FileRows.{fileText}
 use Rattle.reports.specs.Roles.{receivers}
 use Rattle.reports.specs.Calls.{stands, over, afterwards, sheetRefusal, sheetSays, sheetAnswer, kindOf, textOf, shortRefusal, askedRefusal, fileRefusal, fileSays, fileAnswer}
-use Rattle.reports.specs.declared.SheetAnswer.{SheetAnswer}
-use Rattle.reports.specs.declared.SheetAnswer.the-variants.{Sheet, Refused as SheetRefused}
-use Rattle.reports.specs.declared.FileAnswer.{FileAnswer}
-use Rattle.reports.specs.declared.FileAnswer.the-variants.{File, Refused as FileRefused}
+use Rattle.reports.specs.declared.SheetAnswer.the-variants.{Sheet}
+use Rattle.reports.specs.declared.FileAnswer.the-variants.{File}
 use Rattle.reports.specs.Demand3.{isSheet, isFile, kindNumber, written}
 
 pub stands-mem : (x : ℕ) (l : List ℕ) → stands x l ≡ true → List·Memᴰ x l

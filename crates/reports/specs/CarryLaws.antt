@@ -1,11 +1,11 @@
 -- A file's rows carry the watts of the series that document 01 defines: what isn't written is zero.
 use mathlib.Core.Path.{_≡_, refl, sym, ap, _∙_}
 use mathlib.Core.Bool.{Bool, true, false, cond, _&&_}
-use mathlib.Core.List.{List, [], _∷_, map}
+use mathlib.Core.List.{List, [], map}
 use Prim.Native.Nat.{ℕ, zero, suc, _+_, _≤_, _<_}
 use native.Mathlib.Omega.{arith}
-use lib.Dec.{eqb, ltb}
-use borrow.Author.Tests.{ltb-false, ne-eqb, eq-eqb, eqb-true, eqb-false}
+use lib.Dec.{eqb}
+use borrow.Author.Tests.{ltb-false, ne-eqb, eqb-true, eqb-false}
 use Rattle.integers.specs.Counts.{times, times-mem}
 use Rattle.integers.specs.Ranges.{range}
 use Rattle.integers.specs.Running.{upTo, upTo-cong}
@@ -17,12 +17,12 @@ use Rattle.book.specs.declared.Direction.{Direction}
 use Rattle.book.specs.declared.Direction.the-variants.{Up, Down}
 use Rattle.book.specs.Book.{Book}
 use Rattle.volumes.specs.Quarters.{monthQuarters}
-use Rattle.volumes.specs.Series.{Kind, Toe01, Toe02, Series, grainsAt, seriesWatts}
+use Rattle.volumes.specs.Series.{Kind, Toe01, Toe02, grainsAt, seriesWatts}
 use Rattle.volumes.specs.SeriesLaws.{seriesOf, series-prefix, pair-watts}
 use Rattle.message.specs.Contents.{Observation, Series as TimeSeries, Partner}
 use Rattle.message.specs.Group.{spread}
 use Rattle.message.specs.Rows.{Row, seriesRows, partnerRows, rowsOf}
-use Rattle.reports.specs.Keep.{keep, isSome}
+use Rattle.reports.specs.Keep.{isSome}
 use Rattle.reports.specs.KeepLaws.{keep-sum, not-some}
 use Rattle.reports.specs.AscendingLaws.{ascending-once}
 use Rattle.reports.specs.FileRows.{supplyNumber, deliveryNumber, partnerNumbers, directions, positions, observationAt, isWritten, observationsOf, timeSeries, timeSeriesOf, partnerAt, partnersOf, fileRows}

@@ -14,7 +14,7 @@ use Rattle.grains.specs.Grains.{wholeWatts}
 use Rattle.moments.specs.Ids.{isTransactionId}
 use Rattle.book.specs.declared.Supply.{Supply}
 use Rattle.book.specs.declared.Direction.{Direction}
-use Rattle.book.specs.Book.{Book, bookOf}
+use Rattle.book.specs.Book.{bookOf}
 use Rattle.volumes.specs.Quarters.{monthQuarters}
 use Rattle.volumes.specs.Settlement.{rowWidth, rowCount, Accepted}
 use Rattle.volumes.specs.Sheets.{parties, sheet, requestedVolume}

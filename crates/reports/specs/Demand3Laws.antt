@@ -1,25 +1,24 @@
 -- Demand 3 holds: each accepted call wrote what document 01 defines, and of the definitions the sheets balance, pairs and sums agree, and floors are taken once.
-use mathlib.Core.Path.{_≡_, refl, sym, ap, _∙_}
-use mathlib.Core.Bool.{Bool, true, false, cond, _&&_}
-use mathlib.Core.List.{List, [], map, List·Memᴰ, Memᴰ·of-map, Memᴰ·cast}
+use mathlib.Core.Path.{_≡_, sym, ap, _∙_}
+use mathlib.Core.Bool.{true, cond}
+use mathlib.Core.List.{List, [], List·Memᴰ, Memᴰ·of-map, Memᴰ·cast}
 use mathlib.Core.Option.{none}
-use Prim.Native.Nat.{ℕ, _+_, _≤_, _<_}
+use Prim.Native.Nat.{ℕ, _+_, _<_}
 use native.Mathlib.Omega.{arith}
 use lib.Dec.{eqb}
-use lib.IntN.{ℤ, pos}
+use lib.IntN.{pos}
 use lib.ListN.{length, take, drop, getD, List·getD-append}
 use borrow.Author.Tests.{eqb-true}
 use Rattle.integers.specs.Once.{Once}
-use Rattle.integers.specs.Ranges.{range}
 use Rattle.integers.specs.Running.{upTo}
 use Rattle.integers.specs.Sums.{naturals, integers, sumOf, sumZ, sum-cong, sum-map}
 use Rattle.integers.specs.Tests.{both}
 use Rattle.formats.specs.Format.{got}
-use Rattle.book.specs.Book.{Book, bookOf}
+use Rattle.book.specs.Book.{bookOf}
 use Rattle.volumes.specs.Quarters.{monthQuarters}
-use Rattle.volumes.specs.Settlement.{bookRefusal, Accepted}
+use Rattle.volumes.specs.Settlement.{bookRefusal}
 use Rattle.volumes.specs.SettlementLaws.{accepted, passing}
-use Rattle.volumes.specs.Sheets.{parties, sheetAt, sheet, requestedVolume}
+use Rattle.volumes.specs.Sheets.{parties, sheetAt, sheet}
 use Rattle.volumes.specs.SheetsLaws.{balance, sheet-length}
 use Rattle.volumes.specs.Series.{Kind, Toe01, Toe02}
 use Rattle.volumes.specs.Sound.{Sound}
@@ -38,9 +37,9 @@ use Rattle.reports.specs.TotalsLaws.{directed-totals, totals}
 use Rattle.reports.specs.Registered.{Registered}
 use Rattle.reports.specs.RegisteredLaws.{registered}
 use Rattle.reports.specs.ReadLaws.{file-read}
-use Rattle.reports.specs.Calls.{over, afterwards, sheetRefusal, sheetAnswer, kindOf, textOf, fileRefusal, fileAnswer, FileCalled}
+use Rattle.reports.specs.Calls.{over, afterwards, sheetRefusal, kindOf, textOf, fileRefusal, fileAnswer}
 use Rattle.reports.specs.CallsLaws.{over-first, sheet-not-refused, sheet-party, sheet-answered, InForm, file-in-form, file-written, file-answered}
-use Rattle.reports.specs.Demand3.{SheetCall, FileCall, isSheet, isFile, kindNumber, filled, wrote, sumAt, written, rowsRead, carried, filledFor, wroteFor, Whole, Agreed, Answered, Holds, Demand3}
+use Rattle.reports.specs.Demand3.{SheetCall, FileCall, isSheet, isFile, kindNumber, filled, wrote, sumAt, written, rowsRead, carried, filledFor, wroteFor, Whole, Agreed, Answered, Demand3}
 
 -- ---- a sheet that was filled
 

@@ -2,20 +2,17 @@
 use mathlib.Core.Path.{_≡_, refl, sym, ap, subst, _∙_}
 use mathlib.Core.Bool.{Bool, true, false, cond, _&&_}
 use mathlib.Core.List.{List, [], _∷_, _++_, map, flatMap, List·Memᴰ, List·Memᴰ·head, List·Memᴰ·tail, Memᴰ·of-map}
-use Prim.Native.Nat.{ℕ, zero, suc, pred, _+_, _-_, _*_, _/_, _^_, _≤_, _<_}
+use Prim.Native.Nat.{ℕ, zero, suc, _*_, _^_, _≤_, _<_}
 use native.Mathlib.Nat.{mul-suc, mul-le-mul-left}
 use native.Mathlib.Omega.{arith}
-use lib.Dec.{leb, ltb}
 use lib.ListN.{length, length-map}
 use borrow.Author.Tests.{ltb-true, le-leb}
 use Rattle.integers.specs.Ranges.{range, length-range}
 use Rattle.integers.specs.Running.{upTo, floorAt}
 use Rattle.integers.specs.Sums.{sumBy, sumOf}
-use Rattle.calendar.specs.Dates.{monthLength, calendarDays}
+use Rattle.calendar.specs.Dates.{calendarDays}
 use Rattle.calendar.specs.DatesLaws.{month-length}
-use Rattle.formats.specs.Format.{got}
 use Rattle.formats.specs.Rising.{rises, All, all-map, and-both}
-use Rattle.grains.specs.Grains.{perWatt}
 use Rattle.moments.specs.Ids.{isTransactionId}
 use Rattle.book.specs.declared.Calendar.{Calendar}
 use Rattle.book.specs.declared.Supply.{Supply}
@@ -24,19 +21,18 @@ use Rattle.book.specs.declared.Direction.{Direction}
 use Rattle.book.specs.declared.Direction.the-variants.{Up, Down}
 use Rattle.book.specs.declared.Point.{Point}
 use Rattle.book.specs.declared.Engagement.{Engagement}
-use Rattle.book.specs.Calendars.{dayStart, Ranged}
+use Rattle.book.specs.Calendars.{dayStart}
 use Rattle.book.specs.Book.{Book}
 use Rattle.volumes.specs.Quarters.{monthQuarters}
 use Rattle.volumes.specs.Sheets.{covers, quarterAt}
-use Rattle.volumes.specs.Settlement.{delivered}
 use Rattle.volumes.specs.Series.{Kind, Toe01, Toe02, Toe03, receiverOf, partnerOf, Series, isEngagement, grainsOf, grainsAt, seriesWatts}
 use Rattle.volumes.specs.SeriesLaws.{seriesOf}
 use Rattle.volumes.specs.Sound.{Sound}
 use Rattle.volumes.specs.SoundLaws.{mem-range}
 use Rattle.volumes.specs.WidthsLaws.{most, delivered-most}
-use Rattle.message.specs.Contents.{Observation, Series as TimeSeries, Partner, File, place, position, number}
+use Rattle.message.specs.Contents.{Observation, Series as TimeSeries, Partner, place, position, number}
 use Rattle.message.specs.Bytes.{digits, supplyOf}
-use Rattle.message.specs.Valid.{lastPosition, IsObservation, Counted, IsPeriod, IsVolume, IsSeries, OneSupply, IsPartner, isMoment, monthOf, periods, firstOf, IsFile}
+use Rattle.message.specs.Valid.{lastPosition, IsObservation, IsVolume, IsSeries, OneSupply, IsPartner, isMoment, monthOf, periods, firstOf, IsFile}
 use Rattle.reports.specs.Keep.{keep, isSome}
 use Rattle.reports.specs.KeepLaws.{keep-length, mem-keep, keep-rises, each-all, some-length, some-member}
 use Rattle.reports.specs.AscendingLaws.{ascending-rises, ascending-once, ascending-length}

@@ -1,18 +1,16 @@
 -- Of every accepted book there are calls as demand 3 wants them: one for each party and receiver, with buffers of just the length.
-use mathlib.Core.Path.{_≡_, refl, sym, ap, ap₂, _∙_}
-use mathlib.Core.Bool.{Bool, true, false, cond, _&&_}
+use mathlib.Core.Path.{_≡_, refl, ap, ap₂, _∙_}
+use mathlib.Core.Bool.{Bool, true, false, cond}
 use mathlib.Core.List.{List, [], _∷_, _++_, map, map-append, List·Memᴰ, List·Memᴰ·head, List·Memᴰ·tail}
-use mathlib.Core.Option.{none}
-use Prim.Native.Nat.{ℕ, _+_, _*_, _≤_}
+use Prim.Native.Nat.{ℕ, _+_, _*_}
 use native.Mathlib.Omega.{arith}
 use lib.Dec.{eqb}
 use lib.IntN.{ℤ, pos}
 use lib.ListN.{length, replicate, length-replicate}
 use borrow.Author.Tests.{eq-eqb}
 use Rattle.integers.specs.Counts.{times, times-append}
-use Rattle.integers.specs.Once.{Once}
 use Rattle.moments.specs.Ids.{isTransactionId}
-use Rattle.book.specs.Book.{Book, bookOf}
+use Rattle.book.specs.Book.{bookOf}
 use Rattle.volumes.specs.Quarters.{monthQuarters}
 use Rattle.volumes.specs.Settlement.{rowWidth, rows, rowCount, Accepted}
 use Rattle.volumes.specs.Sheets.{parties, sheet}
@@ -24,9 +22,7 @@ use Rattle.reports.specs.AscendingLaws.{ascending-once}
 use Rattle.reports.specs.FileRows.{fileText}
 use Rattle.reports.specs.Roles.{receivers}
 use Rattle.reports.specs.Calls.{afterwards, sheetRefusal, sheetAnswer, kindOf, textOf, fileRefusal, fileAnswer}
-use Rattle.reports.specs.declared.SheetAnswer.{SheetAnswer}
-use Rattle.reports.specs.declared.FileAnswer.{FileAnswer}
-use Rattle.reports.specs.Demand3.{SheetCall, FileCall, isSheet, isFile, kindNumber, filled, wrote, filledFor, wroteFor, Whole, Answered, Calls, Possible}
+use Rattle.reports.specs.Demand3.{SheetCall, FileCall, isSheet, isFile, kindNumber, filled, wrote, filledFor, wroteFor, Answered, Calls, Possible}
 use Rattle.reports.specs.Demand3Laws.{demand-3}
 
 -- ---- numbers of calls

@@ -1,16 +1,14 @@
 -- A book that passes refusals 1 to 7 has such a register: each test that its rows passed says so.
 use mathlib.Core.Path.{_≡_, refl, sym, ap, _∙_}
-use mathlib.Core.Logic.{⊎-elim}
 use mathlib.Core.Bool.{Bool, true, false, not, _&&_, _||_, false≢true}
 use mathlib.Core.List.{List, List·Memᴰ, Memᴰ·of-map}
 use mathlib.Core.Option.{none}
-use Prim.Native.Nat.{ℕ, _^_, _≤_, _<_}
+use Prim.Native.Nat.{ℕ, _^_, _<_}
 use native.Mathlib.Omega.{arith}
 use lib.Dec.{eqb, leb, ltb}
-use lib.ListN.{length}
-use borrow.Author.Tests.{eqb-true, eq-eqb, ltb-true, ltb-false, not-false, not-true}
+use borrow.Author.Tests.{eqb-true, eq-eqb, ltb-true, ltb-false, not-false}
 use Rattle.integers.specs.Tests.{both}
-use Rattle.integers.specs.First.{first, anyBelow, any-of}
+use Rattle.integers.specs.First.{anyBelow, any-of}
 use Rattle.integers.specs.Ranges.{range}
 use Rattle.book.specs.Calendars.{daysOf}
 use Rattle.book.specs.Header.{calendarOf, pointCount, registerSection}
@@ -19,7 +17,7 @@ use Rattle.book.specs.Register.{pointAt, registerRow, deliveryIn, accessIn, sup
 use Rattle.book.specs.Judged.{refusalOf}
 use Rattle.book.specs.Book.{bookOf}
 use Rattle.book.specs.declared.Point.{Point}
-use Rattle.volumes.specs.SoundLaws.{Passed, passes, first-none, mem-range}
+use Rattle.volumes.specs.SoundLaws.{passes, first-none, mem-range}
 use Rattle.volumes.specs.BookLaws.{points-length}
 use Rattle.reports.specs.Registered.{Numbered, Registered}
 

@@ -2,7 +2,7 @@
 use mathlib.Core.Path.{_≡_, refl, sym, ap, _∙_}
 use mathlib.Core.Bool.{Bool, true, false, cond, _&&_}
 use mathlib.Core.List.{List, map, List·Memᴰ, Memᴰ·map, Memᴰ·of-map, Memᴰ·cast}
-use Prim.Native.Nat.{ℕ, zero, suc, _≤_}
+use Prim.Native.Nat.{ℕ, zero, suc}
 use native.Mathlib.Omega.{arith}
 use lib.Dec.{eqb}
 use Rattle.integers.specs.Counts.{times, eqb-sym, times-mem}
@@ -22,7 +22,7 @@ use Rattle.reports.specs.FileRows.{supplyNumber, deliveryNumber, isTaken
 use Rattle.reports.specs.Roles.{receivers}
 use Rattle.reports.specs.Watts.{wattsOf, directedIn, totalIn}
 use Rattle.reports.specs.PointsLaws.{Inside, no-watts}
-use Rattle.reports.specs.CarryLaws.{rowAt, rows-sum}
+use Rattle.reports.specs.CarryLaws.{rows-sum}
 
 -- a list that holds each number of a part once, and one that holds each of the whole: their sums are the same where the rest adds nothing
 part-sum : (f : ℕ → ℕ) (l part m whole : List ℕ) → Once l part → Once m whole → ((x : ℕ) → List·Memᴰ x part → List·Memᴰ x whole) → ((x : ℕ) → times x l ≡ 0 → f x ≡ 0) → sumOf f l ≡ sumOf f m
