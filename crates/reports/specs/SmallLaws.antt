@@ -44,7 +44,7 @@ use Rattle.reports.specs.Small.{header, calendar, pairs, register, readi
 
 small-length : length small ≡ 11309
 unfolding small header calendar pairs register readings engagements
-small-length = simp (length-append, length-replicate)
+small-length = simp length-append
 
 header-good : headerGood small ≡ true
 unfolding headerGood headerFields small header
