@@ -19,3 +19,4 @@ pub mod Demand3Laws
 pub mod PossibleLaws
 pub mod Small
 pub mod SmallLaws
+pub mod ScanLaws
