@@ -87,6 +87,22 @@ unfolding isFile fileSays
 file-says-none none m n e = refl
 file-says-none (some r) m n e = let z : _≡_ {A = ℕ} 0 1 = cc in absurd (omega arith)
 
+-- a file is of one of the three kinds
+kind-asked : (bytes : List ℕ) (n receiver : ℕ) (id moment : List ℕ) (rowsLent fileLent : ℕ) → isFile (fileAnswer bytes n receiver id moment rowsLent fileLent) ≡ true → kindOf n ≡ none → ⊥
+unfolding fileAnswer fileRefusal askedRefusal
+kind-asked bytes n receiver id moment rowsLent fileLent e k =
+    let asked : Option Kind → Option Refusal = λ o. askedRefusal (bookOf bytes) o receiver id moment rowsLent fileLent in
+    let passed = file-says-none (orElse (bookRefusal bytes) (asked (kindOf n))) (rowCount (bookOf bytes)) (length (textOf (bookOf bytes) (kindOf n) receiver id moment)) e in
+    never (record { number = 12; item = 0 }) (sym (ap asked k) ∙ later-none (bookRefusal bytes) (asked (kindOf n)) passed)
+
+pub kind-is : (bytes : List ℕ) (n receiver : ℕ) (id moment : List ℕ) (rowsLent fileLent : ℕ) → isFile (fileAnswer bytes n receiver id moment rowsLent fileLent) ≡ true → (kind : Kind) × (n ≡ kindNumber kind)
+unfolding kindNumber
+kind-is bytes zero receiver id moment rowsLent fileLent e = absurd (kind-asked bytes zero receiver id moment rowsLent fileLent e refl)
+kind-is bytes (suc zero) receiver id moment rowsLent fileLent e = (Toe01, refl)
+kind-is bytes (suc (suc zero)) receiver id moment rowsLent fileLent e = (Toe02, refl)
+kind-is bytes (suc (suc (suc zero))) receiver id moment rowsLent fileLent e = (Toe03, refl)
+kind-is bytes (suc (suc (suc (suc n)))) receiver id moment rowsLent fileLent e = absurd (kind-asked bytes (suc (suc (suc (suc n)))) receiver id moment rowsLent fileLent e refl)
+
 -- what was passed to a call that was not refused
 pub record InForm (book : Book) (kind : Kind) (receiver : ℕ) (id moment : List ℕ) : Type 0 where
   pub role : List·Memᴰ receiver (receivers book kind)

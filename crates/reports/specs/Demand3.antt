@@ -113,7 +113,8 @@ pub record Agreed (bytes : List ℕ) (sheets : List (SheetCall bytes)) (files : 
   -- "in each quarter-hour of the month the corrections .. sum to the requested volume, up less down"
   pub balanced : (q : ℕ) → q < monthQuarters (bookOf bytes .calendar)
       → sumZ (sumAt q) sheets ≡ requestedVolume (bookOf bytes) (q + 1)
-  -- each file is read as one of its kind and receiver, of the book's month
+  -- each file is of one of the three kinds, and is read as one of its kind and receiver, of the book's month (0 and 0 without series)
+  pub kinds : (c : FileCall bytes) → List·Memᴰ c files → isFile (c .answer) ≡ true → (kind : Kind) × (wrote kind c ≡ true)
   pub read : (c : FileCall bytes) → List·Memᴰ c files → (kind : Kind) → wrote kind c ≡ true
       → readMessage (written (c .answer) (c .after)) ≡ got (messageOf (bookOf bytes) kind (c .receiver) (c .id) (c .moment)) []
   -- "At each position of the month a provider's TOE01 file and a supplier's TOE02 file carry the same watts for that pair, in each supply and

@@ -8,12 +8,13 @@ use native.Mathlib.Omega.{arith}
 use lib.Dec.{eqb}
 use lib.IntN.{pos}
 use lib.ListN.{length, take, drop, getD, List·getD-append}
-use borrow.Author.Tests.{eqb-true}
+use borrow.Author.Tests.{eqb-true, eq-eqb}
 use Rattle.integers.specs.Once.{Once}
 use Rattle.integers.specs.Running.{upTo}
 use Rattle.integers.specs.Sums.{naturals, integers, sumOf, sumZ, sum-cong, sum-map}
 use Rattle.integers.specs.Tests.{both}
 use Rattle.formats.specs.Format.{got}
+use Rattle.formats.specs.Rising.{and-both}
 use Rattle.book.specs.Book.{bookOf}
 use Rattle.volumes.specs.Quarters.{monthQuarters}
 use Rattle.volumes.specs.Settlement.{bookRefusal}
@@ -38,7 +39,7 @@ use Rattle.reports.specs.Registered.{Registered}
 use Rattle.reports.specs.RegisteredLaws.{registered}
 use Rattle.reports.specs.ReadLaws.{file-read}
 use Rattle.reports.specs.Calls.{over, afterwards, sheetRefusal, kindOf, textOf, fileRefusal, fileAnswer}
-use Rattle.reports.specs.CallsLaws.{over-first, sheet-not-refused, sheet-party, sheet-answered, InForm, file-in-form, file-written, file-answered}
+use Rattle.reports.specs.CallsLaws.{over-first, sheet-not-refused, sheet-party, sheet-answered, kind-is, InForm, file-in-form, file-written, file-answered}
 use Rattle.reports.specs.Demand3.{SheetCall, FileCall, isSheet, isFile, kindNumber, filled, wrote, sumAt, written, rowsRead, carried, filledFor, wroteFor, Whole, Agreed, Answered, Demand3}
 
 -- ---- a sheet that was filled
@@ -74,6 +75,12 @@ module _ (bytes : List ℕ) (c : SheetCall bytes) (e : filled c ≡ true) where
 wrote-kind : (bytes : List ℕ) (kind : Kind) (c : FileCall bytes) → wrote kind c ≡ true → (c .kind ≡ kindNumber kind) × (isFile (c .answer) ≡ true)
 unfolding wrote
 wrote-kind bytes kind c e = let b = both (eqb (c .kind) (kindNumber kind)) (isFile (c .answer)) e in (eqb-true (c .kind) (kindNumber kind) (b .0), b .1)
+
+file-kind : (bytes : List ℕ) (c : FileCall bytes) → isFile (c .answer) ≡ true → (kind : Kind) × (wrote kind c ≡ true)
+unfolding wrote
+file-kind bytes c e =
+    let k = kind-is bytes (c .kind) (c .receiver) (c .id) (c .moment) (length (c .rowsBefore)) (length (c .before)) (sym (ap isFile (c .called .answer)) ∙ e) in
+    (k .0, and-both (eq-eqb (c .kind) (kindNumber (k .0)) (k .1)) e)
 
 module _ (bytes : List ℕ) (kind : Kind) (c : FileCall bytes) (e : wrote kind c ≡ true) where
   wrote-answer : c .answer ≡ fileAnswer bytes (kindNumber kind) (c .receiver) (c .id) (c .moment) (length (c .rowsBefore)) (length (c .before))
@@ -152,6 +159,7 @@ module _ (bytes : List ℕ) (ok : bookRefusal bytes ≡ none) where
         record {
           defined = λ c m e. filled-sheet bytes c e;
           balanced = λ q h. sheets-sum sheets q h ∙ balance (bookOf bytes) (filledFor sheets) (record { once = whole .every-party; only = only-parties sheets }) points-inside (q + 1);
+          kinds = λ c m e. file-kind bytes c e;
           read = λ c m kind e. wrote-read kind c e;
           paired = λ c d m k e f u v p low most.
               ap (λ l. wattsIn l (d .receiver) (supplyNumber u) (deliveryNumber v) p) (carried-is Toe01 c e)

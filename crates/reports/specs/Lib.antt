@@ -17,3 +17,6 @@ pub mod Demand3
 pub mod CallsLaws
 pub mod Demand3Laws
 pub mod PossibleLaws
+pub mod Small
+pub mod SmallLaws
+pub mod ScanLaws

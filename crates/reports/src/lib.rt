@@ -1,5 +1,6 @@
 // The sheets and files of a book: the calls' answers, and demand 3 of the calls' contracts. Definitions and laws stand in specs/.
 ghost use Rattle.reports.specs.Demand3.{Demand3, Possible};
+ghost use Rattle.reports.specs.Small.{Shown};
 
 // What a sheet call answers: the sums that it filled, or a number and an item of document 01.
 pub enum SheetAnswer {
@@ -21,4 +22,9 @@ pub fn sheets_and_files_agree()
 // Of every accepted book there are calls as demand 3 wants them.
 pub fn such_calls_exist()
     ensures { λ r. ⌜ Possible ⌝ }
+{}
+
+// There is an accepted book whose file has watts.
+pub fn small_book_has_watts()
+    ensures { λ r. ⌜ Shown ⌝ }
 {}

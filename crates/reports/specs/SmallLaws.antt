@@ -1,0 +1,234 @@
+-- The small book is accepted, and its TOE01 file carries 1,000 W at the first position: 1,000 W by the last quarter-hour less 0 W read.
+use mathlib.Core.Path.{_≡_, refl, ap, _∙_}
+use mathlib.Core.Bool.{Bool, true, false, not, and-false}
+use mathlib.Core.List.{List, map}
+use mathlib.Core.Option.{none}
+use Prim.Native.Nat.{ℕ, zero, suc, _+_, _*_, _≤_, _<_}
+use native.Mathlib.Omega.{arith}
+use lib.Dec.{leb}
+use lib.ListN.{length, take, drop, replicate, length-replicate, length-append}
+use lib.Seq.{take-at, drop-at}
+use mir.Syntax.{w32}
+use mir.Val.{toZ}
+use borrow.Author.Tests.{le-ltb}
+use Rattle.integers.specs.First.{first, anyBelow}
+use Rattle.integers.specs.Ranges.{range}
+use Rattle.integers.specs.Running.{upTo, floorAt}
+use Rattle.integers.specs.Sums.{sumBy}
+use Rattle.wire.specs.Numbers.{little}
+use Rattle.wire.specs.Readings.{readingOf}
+use Rattle.calendar.specs.Dates.{leap, monthLength, calendarDays, hasClockChange, marchSunday, octoberSunday, dayNumber}
+use Rattle.calendar.specs.DatesLaws.{has-clock-change, last-sunday-is}
+use Rattle.book.specs.declared.Supply.the-variants.{OffTake}
+use Rattle.book.specs.declared.Direction.the-variants.{Up}
+use Rattle.book.specs.Calendars.{daysOf, quarters, dayStart, quartersOf}
+use Rattle.book.specs.Header.{calendarOf, pointCount, engagementCount, headerGood, headerFields, layoutGood, calendarSection, pairSection, registerSection, readingSection, engagementSection}
+use Rattle.book.specs.Tables.{categoryAt, xAt, yAt, calendarGood, pairsGood}
+use Rattle.book.specs.Register.{pointAt, badPoint, numbersGood, bytesGood}
+use Rattle.book.specs.Metering.{meterAt, readingGood, badReading, firstBadReading}
+use Rattle.book.specs.Engagements.{engagementAt, badEngagement, placeGood, termsGood}
+use Rattle.book.specs.Judged.{clockChangeIn, rowsRefusal, sectionsRefusal, refusalOf}
+use Rattle.book.specs.Book.{Book, bookOf}
+use Rattle.volumes.specs.Quarters.{quarterHours, start, position, monthQuarters}
+use Rattle.volumes.specs.Baseline.{pointOf, watts, known, complete, readingBefore, ownReading, lastReading, baselineBy, baseline}
+use Rattle.volumes.specs.Settlement.{neededBy, needed, tooFew, refusalNumber, rowRefusal, refusalFrom, settlementRefusal, limited, deliveredBy, delivered, rowWidth, rowCount, orElse, bookRefusal, Accepted}
+use Rattle.volumes.specs.SettlementLaws.{settling-long}
+use Rattle.volumes.specs.Sheets.{covers, quarterAt}
+use Rattle.volumes.specs.Series.{Toe01, takes, receiverOf, partnerOf, sameSupply, sameDirection, isPoint, isEngagement, grainsOf, grainsAt, seriesWatts}
+use Rattle.volumes.specs.SeriesLaws.{seriesOf}
+use Rattle.volumes.specs.SoundLaws.{sound}
+use Rattle.reports.specs.FileRows.{supplyNumber, deliveryNumber, fileRows}
+use Rattle.reports.specs.Watts.{wattsIn}
+use Rattle.reports.specs.CarryLaws.{carries}
+use Rattle.reports.specs.Small.{header, calendar, pairs, register, readings, engagements, small, Shown}
+
+small-length : length small ≡ 11309
+unfolding small header calendar pairs register readings engagements
+small-length = simp length-append
+
+header-good : headerGood small ≡ true
+unfolding headerGood headerFields small header
+header-good = rw small-length refl
+
+layout-good : layoutGood small ≡ true
+unfolding layoutGood small header calendarDays monthLength leap dayStart
+layout-good = rw small-length refl
+
+-- ---- the sections
+
+readings-length : length readings ≡ 11136
+unfolding readings
+readings-length = ap (λ n. suc (suc (suc (suc n)))) (length-replicate {A = ℕ} 11132 0)
+
+calendar-is : calendarSection small ≡ calendar
+unfolding small header calendar
+calendar-is = refl
+
+pairs-is : pairSection small ≡ pairs
+unfolding small header calendar pairs
+pairs-is = refl
+
+register-is : registerSection small ≡ register
+unfolding small header calendar pairs register
+register-is = refl
+
+readings-is : readingSection small ≡ readings
+unfolding small header calendar pairs register
+readings-is = take-at readings engagements 11136 readings-length
+
+sixteen : take 16 engagements ≡ engagements
+unfolding engagements
+sixteen = refl
+
+engagements-is : engagementSection small ≡ engagements
+unfolding small header calendar pairs register
+engagements-is = ap (take 16) (drop-at readings engagements 11136 readings-length) ∙ sixteen
+
+-- ---- refusals 1 to 7
+
+-- no clock changes in February and on the day before
+february-march : (y : ℕ) → dayNumber y 2 1 + calendarDays y 2 1 ≤ marchSunday y + 1
+unfolding marchSunday dayNumber upTo calendarDays
+february-march y = omega (arith, last-sunday-is y 3 (omega arith) (omega arith) .first)
+
+february-october : (y : ℕ) → dayNumber y 2 1 + calendarDays y 2 1 ≤ octoberSunday y + 1
+unfolding octoberSunday dayNumber upTo calendarDays
+february-october y = omega (arith, last-sunday-is y 10 (omega arith) (omega arith) .first)
+
+no-change : (y : ℕ) → hasClockChange y 2 1 ≡ false
+no-change y =
+    has-clock-change y 2 1
+    ∙ rw (le-ltb (marchSunday y + 1) (dayNumber y 2 1 + calendarDays y 2 1) (february-march y), le-ltb (octoberSunday y + 1) (dayNumber y 2 1 + calendarDays y 2 1) (february-october y), and-false (leb (dayNumber y 2 1) (marchSunday y + 1)), and-false (leb (dayNumber y 2 1) (octoberSunday y + 1)))
+
+-- a search that names nothing
+none-first : (test : ℕ → Bool) (a n : ℕ) → ((i : ℕ) → i < a + n → test i ≡ false) → first test a n ≡ none
+unfolding first
+none-first test a zero h = refl
+none-first test a (suc n) h = rw (h a (omega arith)) (none-first test (suc a) n (λ i k. h i (omega arith)))
+
+-- readings of 0 W
+zeros-at : (j m : ℕ) → 4 * j + 4 ≤ m → little (take 4 (drop (4 * j) (replicate m 0))) ≡ 0
+zeros-at j zero h = absurd (omega arith)
+zeros-at j (suc zero) h = absurd (omega arith)
+zeros-at j (suc (suc zero)) h = absurd (omega arith)
+zeros-at j (suc (suc (suc zero))) h = absurd (omega arith)
+zeros-at zero (suc (suc (suc (suc m)))) h = refl
+zeros-at (suc j) (suc (suc (suc (suc m)))) h =
+    let e : 4 * suc j ≡ suc (suc (suc (suc (4 * j)))) = omega arith in
+    ap (λ n. little (take 4 (drop n (replicate (suc (suc (suc (suc m)))) 0)))) e ∙ zeros-at j m (omega arith)
+
+reading-good : (i : ℕ) → i < 2784 → badReading readings i ≡ false
+unfolding readings readingGood readingOf
+reading-good zero h = refl
+reading-good (suc j) h =
+    let e : 4 * suc j ≡ suc (suc (suc (suc (4 * j)))) = omega arith in
+    let z : little (take 4 (drop (4 * suc j) readings)) ≡ 0 = ap (λ n. little (take 4 (drop n readings))) e ∙ zeros-at j 11132 (omega arith) in
+    ap (λ n. not (readingGood (readingOf (toZ w32 n)))) z
+
+-- a book passes whose header, layout and sections do
+passes : (b calendar pairs register readings engagements : List ℕ) → headerGood b ≡ true → layoutGood b ≡ true → clockChangeIn (calendarOf b) ≡ false
+    → calendarSection b ≡ calendar → pairSection b ≡ pairs → registerSection b ≡ register → readingSection b ≡ readings → engagementSection b ≡ engagements
+    → calendarGood calendar ≡ true → pairsGood pairs ≡ true
+    → first (badPoint (daysOf (calendarOf b)) register) 0 (pointCount b) ≡ none
+    → first (badReading readings) 0 (quartersOf (calendarOf b) * pointCount b) ≡ none
+    → first (badEngagement (calendarOf b) (pointCount b) engagements) 0 (engagementCount b) ≡ none
+    → refusalOf b ≡ none
+unfolding refusalOf sectionsRefusal rowsRefusal firstBadReading
+passes b calendar pairs register readings engagements h l n c p r m e cg pg rg mg eg = rw (h, l, n, c, p, r, m, e, cg, pg, rg, mg, eg)
+
+clock-good : clockChangeIn (calendarOf small) ≡ false
+unfolding small header
+clock-good = no-change 2021
+
+calendar-good : calendarGood calendar ≡ true
+unfolding calendarGood anyBelow calendar
+calendar-good = refl
+
+pairs-good : pairsGood pairs ≡ true
+unfolding pairsGood pairs
+pairs-good = refl
+
+register-good : first (badPoint (daysOf (calendarOf small)) register) 0 (pointCount small) ≡ none
+unfolding small header first badPoint numbersGood bytesGood anyBelow register calendarDays monthLength leap
+register-good = refl
+
+readings-good : first (badReading readings) 0 (quartersOf (calendarOf small) * pointCount small) ≡ none
+unfolding small header dayStart calendarDays monthLength leap
+readings-good = none-first (badReading readings) 0 2784 reading-good
+
+engagements-good : first (badEngagement (calendarOf small) (pointCount small) engagements) 0 (engagementCount small) ≡ none
+unfolding small header first badEngagement placeGood termsGood engagements quarters calendarDays monthLength leap
+engagements-good = refl
+
+small-passes : refusalOf small ≡ none
+small-passes =
+    passes small calendar pairs register readings engagements header-good layout-good clock-good calendar-is pairs-is register-is readings-is engagements-is calendar-good pairs-good register-good readings-good engagements-good
+
+-- ---- the book that it says
+
+smallBook : Book
+smallBook =
+    record {
+      calendar = record { year = 2021; month = 2; lead = 1 };
+      category = categoryAt calendar;
+      x = xAt pairs;
+      y = yAt pairs;
+      points = map (pointAt register) (range 0 1);
+      reading = meterAt (record { year = 2021; month = 2; lead = 1 }) readings;
+      engagements = map (engagementAt engagements) (range 0 1);
+    }
+
+calendar-of : calendarOf small ≡ record { year = 2021; month = 2; lead = 1 }
+unfolding small header
+calendar-of = refl
+
+counts-of : (pointCount small ≡ 1) × (engagementCount small ≡ 1)
+unfolding small header
+counts-of = (refl, refl)
+
+book-is : bookOf small ≡ smallBook
+unfolding bookOf smallBook
+book-is =
+    let c = calendar-of in
+    let n = counts-of .0 in
+    let k = counts-of .1 in
+    λ i.
+    record {
+      calendar = c i;
+      category = categoryAt (calendar-is i);
+      x = xAt (pairs-is i);
+      y = yAt (pairs-is i);
+      points = map (pointAt (register-is i)) (range 0 (n i));
+      reading = meterAt (c i) (readings-is i);
+      engagements = map (engagementAt (engagements-is i)) (range 0 (k i));
+    }
+
+-- ---- refusals 8 and 9, and the watts
+
+small-settles : settlementRefusal smallBook ≡ none
+unfolding smallBook calendar pairs register readings engagements settlementRefusal refusalFrom rowRefusal refusalNumber needed neededBy tooFew complete known ownReading lastReading readingBefore pointOf start quarterHours dayStart calendarDays monthLength leap range readingOf
+small-settles = refl
+
+small-watts : seriesWatts smallBook Toe01 7 (seriesOf 3 OffTake Up) 1 ≡ 1000
+unfolding smallBook calendar pairs register readings engagements seriesWatts floorAt upTo grainsAt grainsOf isEngagement isPoint takes receiverOf partnerOf sameSupply sameDirection sumBy covers quarterAt position delivered deliveredBy limited baseline baselineBy watts ownReading lastReading readingBefore pointOf start quarterHours dayStart calendarDays monthLength leap range readingOf
+small-watts = refl
+
+small-refusal : bookRefusal small ≡ none
+unfolding bookRefusal orElse
+small-refusal = rw small-passes (ap settlementRefusal book-is ∙ small-settles)
+
+month-long : 1 ≤ monthQuarters (bookOf small .calendar)
+unfolding bookOf monthQuarters small header dayStart calendarDays monthLength leap
+month-long = omega arith
+
+off-take-up : wattsIn (fileRows (bookOf small) Toe01 7) 3 0 0 1 ≡ seriesWatts (bookOf small) Toe01 7 (seriesOf 3 OffTake Up) 1
+unfolding supplyNumber deliveryNumber
+off-take-up = carries (bookOf small) (λ e m. sound small small-passes .engagements e m .point) Toe01 7 3 OffTake Up 1 (omega arith) month-long
+
+pub shown : Shown
+unfolding Accepted
+shown =
+    record {
+      accepted = settling-long small (rowWidth * rowCount (bookOf small)) (omega arith) ∙ small-refusal;
+      carries = off-take-up ∙ ap (λ b. seriesWatts b Toe01 7 (seriesOf 3 OffTake Up) 1) book-is ∙ small-watts;
+    }
