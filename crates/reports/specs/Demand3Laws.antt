@@ -116,7 +116,7 @@ module _ (bytes : List ℕ) (ok : bookRefusal bytes ≡ none) where
       let f = wrote-form bytes kind c e in
       ap readMessage (wrote-text bytes kind c e) ∙ file-read (bookOf bytes) book-sound book-registered kind (c .receiver) (c .id) (c .moment) (f .role) (f .named) (f .timed)
 
-  carried-is : (kind : Kind) (c : FileCall bytes) → wrote kind c ≡ true → carried c ≡ fileRows (bookOf bytes) kind (c .receiver)
+  pub carried-is : (kind : Kind) (c : FileCall bytes) → wrote kind c ≡ true → carried c ≡ fileRows (bookOf bytes) kind (c .receiver)
   unfolding carried rowsRead messageOf
   carried-is kind c e = ap rowsRead (wrote-read kind c e)
 

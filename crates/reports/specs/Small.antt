@@ -1,5 +1,6 @@
 -- A small book that is accepted, and whose file has watts: February 2021, one lead day, one point by method 0, one engagement of one quarter-hour.
 use mathlib.Core.Path.{_≡_}
+use mathlib.Core.Bool.{true}
 use mathlib.Core.List.{List, [], _∷_, _++_}
 use Prim.Native.Nat.{ℕ}
 use lib.ListN.{replicate}
@@ -8,6 +9,7 @@ use Rattle.volumes.specs.Settlement.{Accepted}
 use Rattle.volumes.specs.Series.{Toe01}
 use Rattle.reports.specs.FileRows.{fileRows}
 use Rattle.reports.specs.Watts.{wattsIn}
+use Rattle.reports.specs.Demand3.{FileCall, wrote, carried}
 
 -- version 1, 2021, February, L 1, P 1, E 1; sections at 56, 85, 93, 157 and 11,293
 unfoldable pub header : List ℕ
@@ -51,7 +53,8 @@ engagements = 0 ∷ 0 ∷ 1 ∷ 0 ∷ 1 ∷ 0 ∷ 95 ∷ 0 ∷ 232 ∷ 3 ∷ 0 �
 unfoldable pub small : List ℕ
 small = header ++ (calendar ++ (pairs ++ (register ++ (readings ++ engagements))))
 
--- it is accepted, and the provider's file carries 1,000 W for the supplier: off-take, up, at the first position
+-- it is accepted, and the provider's file, as defined and as a call wrote it, carries 1,000 W for the supplier: off-take, up, at the first position
 pub record Shown : Type 0 where
   pub accepted : Accepted small
   pub carries : wattsIn (fileRows (bookOf small) Toe01 7) 3 0 0 1 ≡ 1000
+  pub written : (c : FileCall small) → wrote Toe01 c ≡ true → c .receiver ≡ 7 → wattsIn (carried c) 3 0 0 1 ≡ 1000

@@ -40,6 +40,7 @@ use Rattle.volumes.specs.SoundLaws.{sound}
 use Rattle.reports.specs.FileRows.{supplyNumber, deliveryNumber, fileRows}
 use Rattle.reports.specs.Watts.{wattsIn}
 use Rattle.reports.specs.CarryLaws.{carries}
+use Rattle.reports.specs.Demand3Laws.{carried-is}
 use Rattle.reports.specs.Small.{header, calendar, pairs, register, readings, engagements, small, Shown}
 
 small-length : length small ≡ 11309
@@ -225,10 +226,14 @@ off-take-up : wattsIn (fileRows (bookOf small) Toe01 7) 3 0 0 1 ≡ seriesWatts 
 unfolding supplyNumber deliveryNumber
 off-take-up = carries (bookOf small) (λ e m. sound small small-passes .engagements e m .point) Toe01 7 3 OffTake Up 1 (omega arith) month-long
 
+file-carries : wattsIn (fileRows (bookOf small) Toe01 7) 3 0 0 1 ≡ 1000
+file-carries = off-take-up ∙ ap (λ b. seriesWatts b Toe01 7 (seriesOf 3 OffTake Up) 1) book-is ∙ small-watts
+
 pub shown : Shown
 unfolding Accepted
 shown =
     record {
       accepted = settling-long small (rowWidth * rowCount (bookOf small)) (omega arith) ∙ small-refusal;
-      carries = off-take-up ∙ ap (λ b. seriesWatts b Toe01 7 (seriesOf 3 OffTake Up) 1) book-is ∙ small-watts;
+      carries = file-carries;
+      written = λ c e q. ap (λ l. wattsIn l 3 0 0 1) (carried-is small small-refusal Toe01 c e ∙ ap (fileRows (bookOf small) Toe01) q) ∙ file-carries;
     }
