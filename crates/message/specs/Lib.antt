@@ -15,15 +15,3 @@ pub mod RowsLaws
 pub mod SixesLaws
 pub mod MessageForm
 pub mod FileLaws
-pub mod Reading
-pub mod ReaderItems
-pub mod ReaderSeries
-pub mod ReaderPartner
-pub mod ReaderPartners
-pub mod ReaderFile
-pub mod WriterOrder
-pub mod WriterRows
-pub mod WriterRowsLaws
-pub mod WriterSteps
-pub mod WriterLaid
-pub mod WriterParts

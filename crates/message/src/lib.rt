@@ -1,18 +1,8 @@
-// The file of document 01.
-mod emitting;
-mod judging;
-mod laying;
-pub mod reader;
-
-use formats::Mark;
-use formats::Val;
+// The file of document 01: its kinds, and what its reader and its writer share. Its form and its laws stand in specs/.
 ghost use mathlib.Core.Path.{_≡_};
-ghost use Rattle.formats.specs.Place.{Within, Parsed};
-ghost use Rattle.message.specs.ObservationForm.{quantity, observed, isPeriod, behindMonth, period};
-ghost use Rattle.formats.specs.Combine.{strip, mapParse};
 ghost use Rattle.moments.specs.Moments.{momentBytes};
-ghost use Rattle.message.specs.Valid.{lastPosition, IsPeriod};
-ghost use Rattle.message.specs.Reading.{observing, inOrder, keep, Passed, observationsOf, VolumeRead, outline, ownParse, sharedParse};
+ghost use Rattle.message.specs.Valid.{lastPosition};
+ghost use Rattle.message.specs.ObservationForm.{isPeriod};
 
 // TOE01, TOE02 and TOE03.
 pub enum Kind {
@@ -21,114 +11,15 @@ pub enum Kind {
     Toe03,
 }
 
-// Kilowatts with three decimals, as watts.
-fn quantity(s: &[u8], m: Mark) -> Val
-    ensures { λ r. ⌜ Parsed (quantity .parse) (now (s .entry)) m (r .next) (r .value) ⌝ }
-{
-    let k = formats::number(s, m, 46, 999999999);
-    let a = k.next;
-    let Mark::At(_) = a else {
-        return Val {
-            value: 0,
-            next: Mark::No,
-        };
-    };
-    let f = formats::fixed(s, a, 3);
-    let b = f.next;
-    let Mark::At(_) = b else {
-        return Val {
-            value: 0,
-            next: Mark::No,
-        };
-    };
-    Val {
-        value: k.value * 1000 + f.value,
-        next: b,
-    }
-}
-
-// A mark where a test holds.
-fn kept(m: Mark, good: bool) -> Mark
-    ensures { λ r. ⌜ r ≡ keep good m ⌝ }
-{
-    if good { m } else { Mark::No }
-}
-
-// Whether an observation may stand behind those before it.
-fn in_order(position: u64, watts: u64, low: u64, last: u64) -> bool
-    ensures { λ r. ⌜ r ≡ inOrder low last (position, watts) ⌝ }
-{
-    if last < position {
-        return false;
-    }
-    if watts == 0 {
-        return false;
-    }
-    low <= position
-}
-
-// An observation that was read, and the place behind it.
-struct Seen {
-    position: u64,
-    watts: u64,
-    next: Mark,
-}
-
-// An observation from position `low` to `last`.
-fn observation(s: &[u8], m: Mark, low: u64, last: u64) -> Seen
-    requires { ⌜ Within (now s) m ⌝ }
-    ensures { λ r. ⌜ Parsed (observing last low) (now (s .entry)) m (r .next) (observed (r .position, r .watts)) ⌝ }
-{
-    let a = formats::tag(s, m, b"<Observation><Position>");
-    let p = formats::number(s, a, 60, 18446744073709551615);
-    let b = p.next;
-    let c = formats::tag(s, b, b"/Position><Quantity>");
-    let w = quantity(s, c);
-    let d = w.next;
-    let e = formats::tag(s, d, b"</Quantity></Observation>");
-    let good = in_order(p.value, w.value, low, last);
-    let next = kept(e, good);
-    Seen {
-        position: p.value,
-        watts: w.value,
-        next,
-    }
-}
-
 // The last position of a month.
-fn last_position(year: u64, month: u64) -> u64
+pub fn last_position(year: u64, month: u64) -> u64
     ensures { λ r. ⌜ r ≡ lastPosition year month ⌝ }
 {
     96 * calendar::dates::month_length(year, month)
 }
 
-// n observations of a month.
-fn observations(s: &[u8], m: Mark, n: u64, year: u64, month: u64) -> Mark
-    requires { ⌜ Within (now s) m ⌝ }
-    ensures { λ r. ⌜ Passed (observationsOf year month n) (now (s .entry)) m r ⌝ }
-{
-    let Mark::At(start) = m else {
-        return Mark::No;
-    };
-    let last = last_position(year, month);
-    let mut at = start;
-    let mut low: u64 = 1;
-    let mut i: u64 = 0;
-    while i < n {
-        let o = observation(s, Mark::At(at), low, last);
-        let next = o.next;
-        let Mark::At(q) = next else {
-            return Mark::No;
-        };
-        at = q;
-        low = o.position + 1;
-        i += 1;
-    }
-    Mark::At(at)
-}
-
 // A moment's bytes.
-fn moment_text(m: moments::Moment) -> [u8; 29]
+pub fn moment_text(m: moments::Moment) -> [u8; 29]
     ensures { λ r. ⌜ r ≡ momentBytes m ⌝ }
 {
     let mut t = [0u8; 29];
@@ -137,7 +28,7 @@ fn moment_text(m: moments::Moment) -> [u8; 29]
 }
 
 // Whether a period may be of a month.
-fn is_period(year: u64, month: u64) -> bool
+pub fn is_period(year: u64, month: u64) -> bool
     ensures { λ r. ⌜ r ≡ isPeriod (year, month) ⌝ }
 {
     if year < 2018 {
@@ -150,145 +41,4 @@ fn is_period(year: u64, month: u64) -> bool
         return false;
     }
     month <= 12
-}
-
-// What stands behind the year and month of a period.
-fn behind_month(s: &[u8], m: Mark, year: u64, month: u64) -> Mark
-    requires { ⌜ Within (now s) m × IsPeriod year month ⌝ }
-    ensures { λ r. ⌜ Parsed (strip (behindMonth (year, month))) (now (s .entry)) m r tt ⌝ }
-{
-    let start = moment_text(moments::period_start(year, month));
-    let end = moment_text(moments::period_end(year, month));
-    let a = formats::tag(s, m, &start[7..29]);
-    let b = formats::tag(s, a, b"</PeriodStart><PeriodEnd>");
-    let c = formats::tag(s, b, &end);
-    formats::tag(
-        s,
-        c,
-        b"</PeriodEnd><PeriodResolution>PT15M</PeriodResolution>",
-    )
-}
-
-// The month of a period, and the place behind it.
-struct Month {
-    year: u64,
-    month: u64,
-    next: Mark,
-}
-
-// A period of a whole month.
-fn period(s: &[u8], m: Mark) -> Month
-    requires { ⌜ Within (now s) m ⌝ }
-    ensures { λ r. ⌜ Parsed (period .parse) (now (s .entry)) m (r .next) (r .year, r .month) ⌝ }
-{
-    let a = formats::tag(s, m, b"<PeriodStart>");
-    let y = formats::fixed(s, a, 4);
-    let b = y.next;
-    let c = formats::tag(s, b, b"-");
-    let n = formats::fixed(s, c, 2);
-    let d = n.next;
-    if !is_period(y.value, n.value) {
-        return Month {
-            year: y.value,
-            month: n.value,
-            next: Mark::No,
-        };
-    }
-    let e = behind_month(s, d, y.value, n.value);
-    Month {
-        year: y.value,
-        month: n.value,
-        next: e,
-    }
-}
-
-// A time series that was read, and the place behind it.
-struct TimeSeries {
-    delivery: u64,
-    year: u64,
-    month: u64,
-    rows: u64,
-    next: Mark,
-}
-
-// A time series from its delivery direction on.
-fn volume(s: &[u8], m: Mark) -> TimeSeries
-    requires { ⌜ Within (now s) m ⌝ }
-    ensures { λ r. ⌜ VolumeRead (now (s .entry)) m (r .next) (r .delivery) (r .year) (r .month) (r .rows) ⌝ }
-{
-    let a = formats::tag(s, m, b"<DeliveryDirection>");
-    let x = formats::word(s, a, b"DeliveryUp", b"DeliveryDown");
-    let b = x.next;
-    let c = formats::tag(
-        s,
-        b,
-        b"</DeliveryDirection><UnitType>KWT</UnitType><ObservationCounter>",
-    );
-    let n = formats::number(s, c, 60, 18446744073709551615);
-    let u = n.next;
-    let some = 0 < n.value;
-    let d = kept(u, some);
-    let e = formats::tag(s, d, b"/ObservationCounter><TimeSeriesPeriod>");
-    let q = period(s, e);
-    let f = q.next;
-    let g = observations(s, f, n.value, q.year, q.month);
-    let h = formats::tag(s, g, b"</TimeSeriesPeriod>");
-    TimeSeries {
-        delivery: x.value,
-        year: q.year,
-        month: q.month,
-        rows: n.value,
-        next: h,
-    }
-}
-
-// A series that was read, and the place behind it.
-struct Series {
-    supply: u64,
-    delivery: u64,
-    year: u64,
-    month: u64,
-    rows: u64,
-    next: Mark,
-}
-
-// A time series with its supply direction.
-fn own_series(s: &[u8], m: Mark) -> Series
-    requires { ⌜ Within (now s) m ⌝ }
-    ensures { λ r. ⌜ Parsed (mapParse outline ownParse) (now (s .entry)) m (r .next) ((r .supply, r .delivery), ((r .year, r .month), r .rows)) ⌝ }
-{
-    let a = formats::tag(s, m, b"<ToETimeSeries><SupplyDirection>");
-    let x = formats::word(s, a, b"Off-take", b"Injection");
-    let b = x.next;
-    let c = formats::tag(s, b, b"</SupplyDirection>");
-    let v = volume(s, c);
-    let d = v.next;
-    let e = formats::tag(s, d, b"</ToETimeSeries>");
-    Series {
-        supply: x.value,
-        delivery: v.delivery,
-        year: v.year,
-        month: v.month,
-        rows: v.rows,
-        next: e,
-    }
-}
-
-// A time series with the supply direction of its access point.
-fn shared_series(s: &[u8], m: Mark, supply: u64) -> Series
-    requires { ⌜ Within (now s) m ⌝ }
-    ensures { λ r. ⌜ Parsed (mapParse outline (sharedParse supply)) (now (s .entry)) m (r .next) ((r .supply, r .delivery), ((r .year, r .month), r .rows)) ⌝ }
-{
-    let a = formats::tag(s, m, b"<ToETimeSeries>");
-    let v = volume(s, a);
-    let b = v.next;
-    let c = formats::tag(s, b, b"</ToETimeSeries>");
-    Series {
-        supply,
-        delivery: v.delivery,
-        year: v.year,
-        month: v.month,
-        rows: v.rows,
-        next: c,
-    }
 }

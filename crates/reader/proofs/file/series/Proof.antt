@@ -1,0 +1,49 @@
+-- Each kind reads its own.
+use Rattle.reader.specs.ReaderSeries.{seriesForm}
+use borrow.Author.Needs.{needs}
+use Rattle.reader.proofs.file.series.Statement.{statement}
+use Rattle.reader.proofs.file.series.Tie as tie
+
+enum-told : tie.Need-enum-told
+enum-told c = search needs
+
+own-series-requires : tie.Need-own-series-requires
+own-series-requires c κs = search needs
+
+enum-told-2 : tie.Need-enum-told-2
+enum-told-2 c = search needs
+
+own-series-requires-2 : tie.Need-own-series-requires-2
+own-series-requires-2 c κs = search needs
+
+enum-told-3 : tie.Need-enum-told-3
+enum-told-3 c = search needs
+
+shared-series-requires : tie.Need-shared-series-requires
+shared-series-requires c κs = search needs
+
+returns : tie.Need-returns
+unfolding seriesForm
+returns c = rw (c .before .enum-told .given .1) (c .own-series .ensures)
+
+returns-2 : tie.Need-returns-2
+unfolding seriesForm
+returns-2 c = rw (c .before .enum-told2 .given .1) (c .own-series2 .ensures)
+
+returns-3 : tie.Need-returns-3
+unfolding seriesForm
+returns-3 c = rw (c .before .enum-told3 .given .1) (c .shared-series .ensures)
+
+pub series-spec : {M : Type 1} → statement M
+series-spec =
+    tie.close
+    (tie.spec
+    enum-told
+    own-series-requires
+    enum-told-2
+    own-series-requires-2
+    enum-told-3
+    shared-series-requires
+    returns
+    returns-2
+    returns-3)

@@ -1,0 +1,166 @@
+-- The loop stands at `at` behind i series and `count` rows: those that are left give what all n give.
+use mathlib.Core.Path.{_≡_, _∙_}
+use Prim.Native.Nat.{ℕ, _-_, _≤_}
+use native.Mathlib.Nat.{sub-zero}
+use lib.ListN.{length, drop}
+use Rattle.formats.specs.Combine.{mapParse}
+use Rattle.reader.specs.Reading.{Outline, parsed-no}
+use Rattle.reader.specs.ReaderItems.{folded}
+use Rattle.reader.specs.ReaderSeries.{counting, listForm, listKept, list-bad, list-step, list-end, list-none, list-done, item-directions, item-long}
+use borrow.Author.Needs.{needs}
+use native.Mathlib.Omega.{arith}
+use Rattle.reader.proofs.file.series_list.Statement.{statement}
+use Rattle.reader.proofs.file.series_list.Tie as tie
+
+abbrev Inv-loop : tie.InvT-loop
+Inv-loop s kind supply n year month rows start at₀ low₀ seen-year₀ seen-month₀ count₀ i₀ at low seen-year seen-month count i =
+    (at ≤ length s) × (i ≤ n) × (count ≤ at)
+    × (listKept kind supply n 0 ((year, month), rows) (drop start s) ≡ listKept kind supply (n - i) low ((seen-year, seen-month), count) (drop at s))
+
+abbrev μ-loop : tie.MeasureT-loop
+μ-loop s kind supply n year month rows start at₀ low₀ seen-year₀ seen-month₀ count₀ i₀ at low seen-year seen-month count i =
+    n - i
+
+enum-known-m : tie.Need-enum-known-m Inv-loop μ-loop
+enum-known-m c = search needs
+
+enum-told : tie.Need-enum-told Inv-loop μ-loop
+enum-told c = search needs
+
+returns : tie.Need-returns Inv-loop μ-loop
+returns c =
+    let a = c .before .before .before .args in
+    let t : (ℕ × ℕ) × ℕ = ((a .year, a .month), a .rows) in
+    rw (c .enum-told .given .1) (parsed-no (mapParse (folded counting t) (listForm (a .kind) (a .supply) (a .n) (a .year, a .month) .parse)) (a .s .now) t, tt)
+
+loop-holds : tie.Need-loop-holds Inv-loop μ-loop
+loop-holds c =
+    let h = rw (c .before .m .given .1) at (c .before .before .before .before .pre) in
+    (h .0, search needs, h .2, rw sub-zero)
+
+next-series-requires : tie.Need-next-series-requires Inv-loop μ-loop
+next-series-requires c κs = (c .before .loop .inv .0, c .before .before .before .before .before .before .pre .1)
+
+enum-known-next : tie.Need-enum-known-next Inv-loop μ-loop
+enum-known-next c = search needs
+
+enum-told-2 : tie.Need-enum-told-2 Inv-loop μ-loop
+enum-told-2 c = search needs
+
+returns-2 : tie.Need-returns-2 Inv-loop μ-loop
+returns-2 c =
+    let l = c .before .before .before .before .loop in
+    let a = c .before .before .before .before .before .before .before .before .before .args in
+    let m = c .before .before .before .before .before .before .m .given in
+    let e = rw (c .enum-told2 .given .1) at (c .before .before .next-series .ensures) in
+    let t : (ℕ × ℕ) × ℕ = ((a .year, a .month), a .rows) in
+    rw (m .1) (
+      list-none (a .kind) (a .supply) (a .n) t (a .s .now) (m .0 .0) t
+          (l .inv .3 ∙ list-bad (a .kind) (a .supply) (a .n) (l .i) (l .low) ((l .seen-year, l .seen-month), l .count) (drop (l .at) (a .s .now)) (search needs) (e .run .run)),
+      tt,
+    )
+
+mul-low : tie.Need-mul-low Inv-loop μ-loop
+mul-low c =
+    let l = c .before .before .before .before .before .before .loop in
+    let a = c .before .before .before .before .before .before .before .before .before .before .before .args in
+    let o = c .before .before .before .before .next-series in
+    let x = o .result in
+    let q = c .before .before .next .given in
+    let e = rw (q .1) at (o .ensures) in
+    let outline : Outline = ((x .supply, x .delivery), ((x .year, x .month), x .rows)) in
+    let d = item-directions (a .kind) (a .supply) (l .low) (l .seen-year, l .seen-month) (a .s .now) (l .at) (q .0 .0) outline (c .before .before .before .before .before .before .before .before .before .before .before .pre .1) e in
+    omega (arith, d .0, d .1)
+
+add-low : tie.Need-add-low Inv-loop μ-loop
+add-low c =
+    let l = c .before .before .before .before .before .before .before .loop in
+    let a = c .before .before .before .before .before .before .before .before .before .before .before .before .args in
+    let o = c .before .before .before .before .before .next-series in
+    let x = o .result in
+    let q = c .before .before .before .next .given in
+    let e = rw (q .1) at (o .ensures) in
+    let outline : Outline = ((x .supply, x .delivery), ((x .year, x .month), x .rows)) in
+    let d = item-directions (a .kind) (a .supply) (l .low) (l .seen-year, l .seen-month) (a .s .now) (l .at) (q .0 .0) outline (c .before .before .before .before .before .before .before .before .before .before .before .before .pre .1) e in
+    omega (arith, d .0, d .1)
+
+add-low-2 : tie.Need-add-low-2 Inv-loop μ-loop
+add-low-2 c =
+    let l = c .before .before .before .before .before .before .before .loop in
+    let a = c .before .before .before .before .before .before .before .before .before .before .before .before .args in
+    let o = c .before .before .before .before .before .next-series in
+    let x = o .result in
+    let q = c .before .before .before .next .given in
+    let e = rw (q .1) at (o .ensures) in
+    let outline : Outline = ((x .supply, x .delivery), ((x .year, x .month), x .rows)) in
+    let d = item-directions (a .kind) (a .supply) (l .low) (l .seen-year, l .seen-month) (a .s .now) (l .at) (q .0 .0) outline (c .before .before .before .before .before .before .before .before .before .before .before .before .pre .1) e in
+    omega (arith, d .0, d .1)
+
+add-count : tie.Need-add-count Inv-loop μ-loop
+add-count c =
+    let l = c .before .before .before .before .before .before .before .before .loop in
+    let a = c .before .before .before .before .before .before .before .before .before .before .before .before .before .args in
+    let o = c .before .before .before .before .before .before .next-series in
+    let x = o .result in
+    let q = c .before .before .before .before .next .given in
+    let e = rw (q .1) at (o .ensures) in
+    let outline : Outline = ((x .supply, x .delivery), ((x .year, x .month), x .rows)) in
+    let h = item-long (a .kind) (a .supply) (l .low) (l .seen-year, l .seen-month) (a .s .now) (l .at) (q .0 .0) outline (l .inv .0) e in
+    let w : q .0 .0 ≤ length (a .s .now) = e .within in
+    omega (arith, h, l .inv .2, w)
+
+add-i : tie.Need-add-i Inv-loop μ-loop
+add-i c = search needs
+
+loop-less : tie.Need-loop-less Inv-loop μ-loop
+loop-less c = search needs
+
+loop-again : tie.Need-loop-again Inv-loop μ-loop
+loop-again c =
+    let l = c .before .before .before .before .before .before .before .before .loop in
+    let a = c .before .before .before .before .before .before .before .before .before .before .before .before .before .args in
+    let o = c .before .before .before .before .before .before .next-series in
+    let x = o .result in
+    let q = c .before .before .before .before .next .given in
+    let e = rw (q .1) at (o .ensures) in
+    let outline : Outline = ((x .supply, x .delivery), ((x .year, x .month), x .rows)) in
+    let h = item-long (a .kind) (a .supply) (l .low) (l .seen-year, l .seen-month) (a .s .now) (l .at) (q .0 .0) outline (l .inv .0) e in (
+      e .within,
+      search needs,
+      omega (arith, h, l .inv .2),
+      l .inv .3 ∙ list-step (a .kind) (a .supply) (a .n) (l .i) (l .low) ((l .seen-year, l .seen-month), l .count) (drop (l .at) (a .s .now)) outline (drop (q .0 .0) (a .s .now)) (search needs) (e .run .run),
+    )
+
+returns-3 : tie.Need-returns-3 Inv-loop μ-loop
+returns-3 c =
+    let l = c .before .loop in
+    let a = c .before .before .before .before .before .before .args in
+    let m = c .before .before .before .m .given in
+    rw (m .1) (
+      list-done (a .kind) (a .supply) (a .n) ((a .year, a .month), a .rows) (a .s .now) (m .0 .0) (l .at) ((l .seen-year, l .seen-month), l .count)
+          (l .inv .3 ∙ list-end (a .kind) (a .supply) (a .n) (l .i) (l .low) ((l .seen-year, l .seen-month), l .count) (drop (l .at) (a .s .now)) (c .loop-test .left)) (l .inv .0),
+      l .inv .2,
+    )
+
+pub series-list-spec : {M : Type 1} → statement M
+series-list-spec =
+    tie.close
+    (tie.spec
+    Inv-loop
+    μ-loop
+    enum-known-m
+    enum-told
+    returns
+    loop-holds
+    next-series-requires
+    enum-known-next
+    enum-told-2
+    returns-2
+    mul-low
+    add-low
+    add-low-2
+    add-count
+    add-i
+    loop-less
+    loop-again
+    returns-3)

@@ -1,0 +1,199 @@
+-- How the judge reads a file: its root and moment, and what month and rows its partners give.
+use mathlib.Core.Path.{_≡_, refl, sym, ap, _∙_, subst}
+use mathlib.Core.Bool.{Bool, true, false}
+use mathlib.Core.List.{List, [], _∷_, _++_, map, flatMap}
+use Prim.Native.Nat.{ℕ, zero, suc, _+_, _≤_, _<_}
+use lib.Dec.{leb}
+use lib.ListN.{length, take, drop, length-append, length-map, length-drop}
+use lib.Seq.{drop-drop}
+use native.Mathlib.Omega.{arith}
+use borrow.Author.Tests.{le-leb, lt-leb}
+use Rattle.formats.specs.Format.{Res, got, bad, pick}
+use Rattle.formats.specs.FormatLaws.{got-bad}
+use Rattle.formats.specs.Combine.{strip, mapParse}
+use Rattle.formats.specs.Words.{wordsParse}
+use Rattle.formats.specs.Exactly.{exactlyParse, fixedDigits}
+use Rattle.formats.specs.Name.{nameByte, span, nameParse}
+use Rattle.formats.specs.Rising.{All}
+use Rattle.formats.specs.Run.{run-map, run-seq, run-pre, run-post}
+use Rattle.formats.specs.Place.{Parsed, left}
+use Rattle.formats.specs.PlaceLaws.{parsed, not-there}
+use Rattle.formats.specs.declared.Mark.{Mark}
+use Rattle.formats.specs.declared.Mark.the-variants.{At, No}
+use Rattle.message.specs.declared.Kind.{Kind}
+use Rattle.message.specs.declared.Kind.the-variants.{Toe01, Toe02, Toe03}
+use Rattle.message.specs.Contents.{Observation, Series, Partner, File}
+use Rattle.message.specs.Bytes.{opening, ending, closing, root, counter}
+use Rattle.message.specs.Valid.{isMoment, monthOf, periods, firstOf, IsFile}
+use Rattle.message.specs.Group.{spread}
+use Rattle.message.specs.Rows.{Row, seriesRows, partnerRows, rowsOf}
+use Rattle.message.specs.SeriesListForm.{after}
+use Rattle.message.specs.FileForm.{roots, kindOf, kindForm, partnersForm, fileBody}
+use Rattle.message.specs.ObservationForm.{plainNumber}
+use Rattle.reader.specs.Reading.{parsed-no}
+use Rattle.reader.specs.ReaderItems.{viewed, view-bad, folded}
+use Rattle.reader.specs.ReaderSeries.{counting}
+use Rattle.reader.specs.ReaderPartners.{adding}
+
+-- ---- the root
+
+words-first : (w : List ℕ) (ws : List (List ℕ)) (s : List ℕ) (m : Mark) (q : ℕ) → Parsed (strip w) s m (At q) tt → Parsed (wordsParse (w ∷ ws)) s m (At q) 0
+unfolding wordsParse
+words-first w ws s No q h = absurd (got-bad (sym (h .run .run)))
+words-first w ws s (At p) q h = parsed (wordsParse (w ∷ ws)) s p 0 q (rw (h .run .run)) (h .within)
+
+words-rest : (w : List ℕ) (ws : List (List ℕ)) (s : List ℕ) (m r : Mark) (n : ℕ) → Parsed (strip w) s m No tt → Parsed (wordsParse ws) s m r n → Parsed (wordsParse (w ∷ ws)) s m r (suc n)
+unfolding wordsParse
+words-rest w ws s No No n h k = record { run = record { run = refl }; within = tt }
+words-rest w ws s No (At q) n h k = absurd (got-bad (sym (k .run .run)))
+words-rest w ws s (At p) No n h k = not-there (wordsParse (w ∷ ws)) s p (suc n) (rw (h .run .run, k .run .run))
+words-rest w ws s (At p) (At q) n h k = parsed (wordsParse (w ∷ ws)) s p (suc n) q (rw (h .run .run, k .run .run)) (k .within)
+
+pub root-first : (s : List ℕ) (m : Mark) (q : ℕ) → Parsed (strip (opening (root Toe01))) s m (At q) tt → Parsed (kindForm .parse) s m (At q) Toe01
+unfolding kindForm roots kindOf
+root-first s m q h =
+    let p = words-first (opening (root Toe01)) (opening (root Toe02) ∷ opening (root Toe03) ∷ []) s m q h in
+    record { run = run-map kindOf (p .run); within = p .within }
+
+pub root-rest : (s : List ℕ) (m r : Mark) (n : ℕ) → Parsed (strip (opening (root Toe01))) s m No tt → Parsed (wordsParse (opening (root Toe02) ∷ opening (root Toe03) ∷ [])) s m r n
+    → Parsed (kindForm .parse) s m r (kindOf (suc n))
+unfolding kindForm roots
+root-rest s m r n h k =
+    let p = words-rest (opening (root Toe01)) (opening (root Toe02) ∷ opening (root Toe03) ∷ []) s m r n h k in
+    record { run = run-map kindOf (p .run); within = p .within }
+
+pub kind-second : (n : ℕ) → n ≡ 0 → Toe02 ≡ kindOf (suc n)
+unfolding kindOf
+kind-second zero e = refl
+kind-second (suc n) e = absurd (omega arith)
+
+pub kind-third : (n : ℕ) → (n ≡ 0 → ⊥) → Toe03 ≡ kindOf (suc n)
+unfolding kindOf
+kind-third zero e = absurd (e refl)
+kind-third (suc n) e = refl
+
+-- ---- the moment
+
+module _ (s : List ℕ) (p : ℕ) where
+  pub moment-there : p + 29 ≤ length s → isMoment (take 29 (drop p s)) ≡ true → Parsed (exactlyParse 29 isMoment) s (At p) (At (p + 29)) (take 29 (drop p s))
+  unfolding exactlyParse
+  moment-there h e =
+      let l : 29 ≤ length (drop p s) = omega (arith, length-drop p s) in
+      parsed (exactlyParse 29 isMoment) s p (take 29 (drop p s)) (p + 29) (rw (le-leb 29 (length (drop p s)) l, e) (ap (got (take 29 (drop p s))) (drop-drop 29 p s))) h
+
+  pub moment-none : isMoment (take 29 (drop p s)) ≡ false → Parsed (exactlyParse 29 isMoment) s (At p) No (take 29 (drop p s))
+  unfolding exactlyParse
+  moment-none e = not-there (exactlyParse 29 isMoment) s p (take 29 (drop p s)) (rw e (go (leb 29 (length (drop p s)))))
+    where
+      go : (b : Bool) → _≡_ {A = Res (List ℕ)} (pick b bad) bad
+      go true = refl
+      go false = refl
+
+  pub moment-short : p ≤ length s → length s < p + 29 → Parsed (exactlyParse 29 isMoment) s (At p) No (take 29 (drop p s))
+  unfolding exactlyParse
+  moment-short w h =
+      let l : length (drop p s) < 29 = omega (arith, length-drop p s) in
+      not-there (exactlyParse 29 isMoment) s p (take 29 (drop p s)) (rw (lt-leb 29 (length (drop p s)) l))
+
+-- ---- the file
+
+-- the contents behind what is kept of a reading; where it isn't there, any
+pub record Unviewed {A B : Type 0} (view : A → B) (f : List ℕ → Res A) (s : List ℕ) (m r : Mark) (b : B) : Type 0 where
+  pub value : A
+  pub parsed : Parsed f s m r value
+  pub is : (q : ℕ) → r ≡ At q → view value ≡ b
+
+no-at : (q : ℕ) → No ≡ At q → ⊥
+no-at q e = let z : _≡_ {A = ℕ} 0 1 = cc in omega arith
+
+pub unview : {A B : Type 0} (view : A → B) (none : A) (f : List ℕ → Res A) (s : List ℕ) (m r : Mark) (b : B) → Parsed (mapParse view f) s m r b → Unviewed view f s m r b
+unview view none f s No No b p = record { value = none; parsed = parsed-no f s none; is = λ q e. absurd (no-at q e) }
+unview view none f s No (At q) b p = absurd (got-bad (sym (p .run .run)))
+unview view none f s (At n) No b p = record { value = none; parsed = not-there f s n none (view-bad view f (drop n s) (p .run .run)); is = λ q e. absurd (no-at q e) }
+unview view none f s (At n) (At q) b p =
+    let a = viewed view f (drop n s) b (drop q s) (p .run .run) in
+    record { value = a .0; parsed = parsed f s n (a .0) q (a .1 .0) (p .within); is = λ k e. a .1 .1 }
+
+module _ (s : List ℕ) {m a b c d e f g h i j l o : Mark} {k : Kind} {id moment : List ℕ} {receiver n : ℕ} {partners : List Partner} where
+  pub file-parsed : Parsed (kindForm .parse) s m a k → Parsed (strip (opening "TransactionID")) s a b tt → Parsed (nameParse nameByte 1 36 60) s b c id
+      → Parsed (strip (ending "TransactionID" ++ opening "MessageCreateDateTime")) s c d tt → Parsed (exactlyParse 29 isMoment) s d e moment
+      → Parsed (strip (closing "MessageCreateDateTime" ++ opening "ReceiverID")) s e f tt → Parsed (fixedDigits 10 .parse) s f g receiver
+      → Parsed (strip (closing "ReceiverID" ++ opening (counter k))) s g h tt → Parsed (plainNumber .parse) s h i n → Parsed (strip (ending (counter k))) s i j tt
+      → Parsed (partnersForm k n .parse) s j l partners → Parsed (strip (closing (root k))) s l o tt
+      → Parsed (fileBody .parse) s m o (k, (id, (moment, (receiver, (n, partners)))))
+  unfolding fileBody
+  file-parsed p₀ p₁ p₂ p₃ p₄ p₅ p₆ p₇ p₈ p₉ q₀ q₁ =
+      record {
+        run = run-seq _ (p₀ .run) (run-pre (opening "TransactionID") (p₁ .run) (run-seq _ (run-post _ (p₂ .run) (p₃ .run)) (run-seq _ (run-post _ (p₄ .run) (p₅ .run))
+            (run-seq _ (run-post _ (p₆ .run) (p₇ .run)) (run-seq _ (run-post _ (p₈ .run) (p₉ .run)) (run-post _ (q₀ .run) (q₁ .run)))))));
+        within = q₁ .within;
+      }
+
+-- a file was read from the first byte to the mark o: of its kind and receiver, its ID at the mark b, its moment at d, its partners of the month and rows t
+pub record Filed (s : List ℕ) (o : Mark) (k : Kind) (receiver : ℕ) (t : (ℕ × ℕ) × ℕ) (b d : Mark) : Type 0 where
+  pub count : ℕ
+  pub partners : List Partner
+  pub parsed : Parsed (fileBody .parse) s (At 0) o (k, (span nameByte (left s b), (take 29 (left s d), (receiver, (count, partners)))))
+  pub is : (q : ℕ) → o ≡ At q → folded adding ((0, 0), 0) partners ≡ t
+
+-- what stands behind a place that is missing is missing
+before-tag : (t s : List ℕ) (l : Mark) (q : ℕ) → Parsed (strip t) s l (At q) tt → (p : ℕ) × (l ≡ At p)
+before-tag t s No q p = absurd (got-bad (sym (p .run .run)))
+before-tag t s (At n) q p = (n, refl)
+
+module _ (s : List ℕ) {a b c d e f g h i j l o : Mark} {k : Kind} {receiver n : ℕ} {t : (ℕ × ℕ) × ℕ} where
+  pub filed : Parsed (kindForm .parse) s (At 0) a k → Parsed (strip (opening "TransactionID")) s a b tt → Parsed (nameParse nameByte 1 36 60) s b c (span nameByte (left s b))
+      → Parsed (strip (ending "TransactionID" ++ opening "MessageCreateDateTime")) s c d tt → Parsed (exactlyParse 29 isMoment) s d e (take 29 (left s d))
+      → Parsed (strip (closing "MessageCreateDateTime" ++ opening "ReceiverID")) s e f tt → Parsed (fixedDigits 10 .parse) s f g receiver
+      → Parsed (strip (closing "ReceiverID" ++ opening (counter k))) s g h tt → Parsed (plainNumber .parse) s h i n → Parsed (strip (ending (counter k))) s i j tt
+      → Parsed (mapParse (folded adding ((0, 0), 0)) (partnersForm k n .parse)) s j l t → Parsed (strip (closing (root k))) s l o tt
+      → Filed s o k receiver t b d
+  filed p₀ p₁ p₂ p₃ p₄ p₅ p₆ p₇ p₈ p₉ q₀ q₁ =
+      let u = unview (folded adding ((0, 0), 0)) [] (partnersForm k n .parse) s j l t q₀ in
+      record {
+        count = n;
+        partners = u .value;
+        parsed = file-parsed s p₀ p₁ p₂ p₃ p₄ p₅ p₆ p₇ p₈ p₉ (u .parsed) q₁;
+        is = λ q e.
+            let z = before-tag (closing (root k)) s l q (subst (λ (w : Mark). Parsed (strip (closing (root k))) s l w tt) e q₁) in
+            u .is (z .0) (z .1);
+      }
+
+-- ---- month and rows of the partners
+
+series-rows : (t : (ℕ × ℕ) × ℕ) (l : List Series) → folded counting t l .1 ≡ t .1 + length (spread (map seriesRows l))
+unfolding folded spread flatMap
+series-rows t [] = omega arith
+series-rows t (s ∷ l) =
+    let f : Observation → (ℕ × ℕ) × Observation = λ o. ((s .supply, s .delivery), o) in
+    omega (arith, series-rows (counting t s) l, length-append (map f (s .observations)) (spread (map seriesRows l)), length-map (s .observations) f)
+
+pub partners-rows : (t : (ℕ × ℕ) × ℕ) (l : List Partner) → folded adding t l .1 ≡ t .1 + length (rowsOf l)
+unfolding folded rowsOf spread flatMap
+partners-rows t [] = omega arith
+partners-rows t (p ∷ l) =
+    let f : (ℕ × ℕ) × Observation → Row = λ r. (p .number, r) in
+    omega (arith, partners-rows (adding t p) l, series-rows t (p .series), length-append (map f (partnerRows p .1)) (rowsOf l), length-map (partnerRows p .1) f)
+
+series-month : (t : (ℕ × ℕ) × ℕ) (l : List Series) (r : List (ℕ × ℕ)) → after (folded counting t l .0) r ≡ after (t .0) (map monthOf l ++ r)
+unfolding folded after
+series-month t [] r = refl
+series-month t (s ∷ l) r = series-month (counting t s) l r
+
+partners-after : (t : (ℕ × ℕ) × ℕ) (l : List Partner) → folded adding t l .0 ≡ after (t .0) (periods l)
+unfolding folded after periods flatMap
+partners-after t [] = refl
+partners-after t (p ∷ l) = partners-after (adding t p) l ∙ series-month t (p .series) (periods l)
+
+after-same : (q : ℕ × ℕ) (l : List (ℕ × ℕ)) → All (λ x. x ≡ q) l → after q l ≡ q
+unfolding after All
+after-same q [] a = refl
+after-same q (x ∷ l) a = ap (λ (y : ℕ × ℕ). after y l) (a .0) ∙ after-same q l (a .1)
+
+after-first : (l : List (ℕ × ℕ)) → All (λ x. x ≡ firstOf l) l → after (0, 0) l ≡ firstOf l
+unfolding after All firstOf
+after-first [] a = refl
+after-first (q ∷ l) a = after-same q l (a .1)
+
+pub partners-month : (f : File) → IsFile f → folded adding ((0, 0), 0) (f .partners) .0 ≡ firstOf (periods (f .partners))
+partners-month f ok = partners-after ((0, 0), 0) (f .partners) ∙ after-first (periods (f .partners)) (ok .same)

@@ -1,0 +1,209 @@
+-- How the judge reads a partner: its head, its series, its end.
+use mathlib.Core.Path.{_≡_, refl, sym, ap}
+use mathlib.Core.Bool.{Bool, true, false}
+use mathlib.Core.List.{List, [], _++_}
+use Prim.Native.Nat.{ℕ, _≤_}
+use lib.Dec.{ltb}
+use lib.ListN.{drop}
+use native.Mathlib.Omega.{arith}
+use Rattle.formats.specs.Format.{Res, got, bad, Format}
+use Rattle.formats.specs.FormatLaws.{got-bad}
+use Rattle.formats.specs.Combine.{strip, strip-sound, strip-complete, pre, post, seq, preParse, postParse, seqParse, mapParse}
+use Rattle.formats.specs.Exactly.{fixedDigits}
+use Rattle.formats.specs.Words.{words, wordsParse}
+use Rattle.formats.specs.Run.{run-pre, run-post, run-seq, run-map}
+use Rattle.formats.specs.Place.{Within, Parsed}
+use Rattle.formats.specs.declared.Mark.{Mark}
+use Rattle.formats.specs.declared.Mark.the-variants.{At, No}
+use Rattle.message.specs.declared.Kind.{Kind}
+use Rattle.message.specs.declared.Kind.the-variants.{Toe01, Toe02, Toe03}
+use Rattle.message.specs.Contents.{Series, Partner}
+use Rattle.message.specs.Bytes.{opening, ending, closing, group, partner, digits, supplies}
+use Rattle.message.specs.SeriesForm.{counted, apart-supplies}
+use Rattle.message.specs.SeriesListForm.{seriesList}
+use Rattle.message.specs.ObservationForm.{plainNumber}
+use Rattle.message.specs.PartnerForm.{ownPartner, ownPartnerBody, sharedPartner, sharedPartnerBody, partnerForm}
+use Rattle.reader.specs.Reading.{keep, parsed-ok, parsed-no, counted-parsed}
+use Rattle.reader.specs.ReaderItems.{run-same, viewed, folded, read-long}
+use Rattle.reader.specs.ReaderSeries.{seriesForm, counting, listForm, Room}
+
+-- ---- a place further on
+
+-- a tag alone
+abbrev pub tagForm : List ℕ → Format (Unit {0})
+tagForm t = record { Ok = λ u. Unit {0}; render = λ u. t; parse = strip t; sound = strip-sound t; complete = λ u rest ok. strip-complete t rest }
+
+-- what follows stands no earlier
+pub room-on : {A : Type 0} (F : Format A) (s : List ℕ) (m r : Mark) (v : A) (rows : ℕ) → Within s m → Room m rows → Parsed (F .parse) s m r v → Room r rows
+room-on F s m No v rows w h p = tt
+room-on F s No (At q) v rows w h p = absurd (got-bad (sym (p .run .run)))
+room-on F s (At n) (At q) v rows w h p = omega (arith, h, read-long F s n q v w (p .within) (p .run .run))
+
+-- ---- the counter of a partner's series
+
+unfoldable pub directionCounter : Format ℕ
+directionCounter = post counted (ending "DirectionCounter")
+
+pub counter-parsed : (s : List ℕ) (m a b : Mark) (n : ℕ) → Parsed (plainNumber .parse) s m a n → Parsed (strip (ending "DirectionCounter")) s (keep (ltb 0 n) a) b tt
+    → Parsed (directionCounter .parse) s m b n
+unfolding directionCounter
+counter-parsed s m a b n h i = let one = counted-parsed s m a n h in record { run = run-post _ (one .run) (i .run); within = i .within }
+
+-- ---- a partner's head: number, supply direction (0 where each series has its own), how many series follow
+
+abbrev pub Head : Type 0
+Head = ℕ × (ℕ × ℕ)
+
+-- with the tags around the number of a company
+unfoldable pub companyForm : List ℕ → List ℕ → Format (ℕ × ℕ)
+companyForm before behind = pre before (seq (post (fixedDigits 10) behind) directionCounter)
+
+unfoldable pub accessForm : Format Head
+accessForm =
+    pre (opening (group Toe03) ++ opening (partner Toe03))
+    (seq (post (fixedDigits 18) (closing (partner Toe03) ++ opening "SupplyDirection"))
+    (seq (post (words supplies apart-supplies) (closing "SupplyDirection" ++ opening "DirectionCounter")) directionCounter))
+
+abbrev pub ofCompany : ℕ × ℕ → Head
+ofCompany p = (p .0, (0, p .1))
+
+abbrev pub companyHead : Kind → Format (ℕ × ℕ)
+companyHead k = companyForm (opening (group k) ++ opening (partner k)) (closing (partner k) ++ opening "DirectionCounter")
+
+unfoldable pub headParse : Kind → List ℕ → Res Head
+headParse Toe01 = mapParse ofCompany (companyHead Toe01 .parse)
+headParse Toe02 = mapParse ofCompany (companyHead Toe02 .parse)
+headParse Toe03 = accessForm .parse
+
+module _ (s : List ℕ) {m a b c d : Mark} {number n : ℕ} where
+  pub company-parsed : (before behind : List ℕ) → Parsed (strip before) s m a tt → Parsed (fixedDigits 10 .parse) s a b number → Parsed (strip behind) s b c tt
+      → Parsed (directionCounter .parse) s c d n → Parsed (companyForm before behind .parse) s m d (number, n)
+  unfolding companyForm
+  company-parsed before behind i j k l = record { run = run-pre before (i .run) (run-seq _ (run-post _ (j .run) (k .run)) (l .run)); within = l .within }
+
+module _ (s : List ℕ) {m a b c d e f : Mark} {number supply n : ℕ} where
+  pub access-parsed : Parsed (strip (opening (group Toe03) ++ opening (partner Toe03))) s m a tt → Parsed (fixedDigits 18 .parse) s a b number
+      → Parsed (strip (closing (partner Toe03) ++ opening "SupplyDirection")) s b c tt → Parsed (wordsParse supplies) s c d supply
+      → Parsed (strip (closing "SupplyDirection" ++ opening "DirectionCounter")) s d e tt → Parsed (directionCounter .parse) s e f n → Parsed (accessForm .parse) s m f (number, (supply, n))
+  unfolding accessForm
+  access-parsed i j k l o p =
+      record {
+        run = run-pre (opening (group Toe03) ++ opening (partner Toe03)) (i .run) (run-seq _ (run-post _ (j .run) (k .run)) (run-seq _ (run-post _ (l .run) (o .run)) (p .run)));
+        within = p .within;
+      }
+
+-- ---- a partner
+
+-- what is kept of a partner behind the month and rows t: its number, and the month and rows with its own
+abbrev pub partnerKept : (ℕ × ℕ) × ℕ → Partner → ℕ × ((ℕ × ℕ) × ℕ)
+partnerKept t p = (p .number, folded counting t (p .series))
+
+abbrev rest : {A : Type 0} → Res A → List ℕ
+rest bad = []
+rest (got a r) = r
+
+abbrev said : Res ℕ → ℕ
+said bad = 0
+said (got n r) = n
+
+-- the head, then the series and the tag that ends the partner
+abbrev pub splitParse : (List ℕ → Res Head) → (ℕ → ℕ → List ℕ → Res (List Series)) → List ℕ → (ℕ × ℕ) × ℕ → List ℕ → Res (ℕ × ((ℕ × ℕ) × ℕ))
+splitParse head list end t =
+    mapParse (λ (p : Head × ((ℕ × ℕ) × ℕ)). (p .0 .0, p .1)) (seqParse head (λ (h : Head). postParse (mapParse (folded counting t) (list (h .1 .0) (h .1 .1))) (λ v. end)))
+
+module _ (A C : List ℕ) (f g : List ℕ → Res ℕ) (list : ℕ → ℕ → List ℕ → Res (List Series)) (t : (ℕ × ℕ) × ℕ) (s : List ℕ) where
+  own-split : (x : Res (Unit {0})) → strip A s ≡ x → (y : Res ℕ) → f (rest x) ≡ y → (z : Res ℕ) → g (rest y) ≡ z → (w : Res (List Series)) → list 0 (said z) (rest z) ≡ w
+      → (v : Res (Unit {0})) → strip C (rest w) ≡ v
+      → mapParse (partnerKept t) (mapParse (λ (p : ℕ × (ℕ × List Series)). record { number = p .0; series = p .1 .1 })
+      (preParse A (seqParse f (λ a. seqParse g (λ n. postParse (list 0 n) (λ l. C)))))) s
+      ≡ splitParse (mapParse ofCompany (preParse A (seqParse f (λ a. g)))) list C t s
+  unfolding preParse postParse seqParse mapParse
+  own-split bad e₁ y e₂ z e₃ w e₄ v e₅ = rw e₁
+  own-split (got u r₁) e₁ bad e₂ z e₃ w e₄ v e₅ = rw (e₁, e₂)
+  own-split (got u r₁) e₁ (got a r₂) e₂ bad e₃ w e₄ v e₅ = rw (e₁, e₂, e₃)
+  own-split (got u r₁) e₁ (got a r₂) e₂ (got n r₃) e₃ bad e₄ v e₅ = rw (e₁, e₂, e₃, e₄)
+  own-split (got u r₁) e₁ (got a r₂) e₂ (got n r₃) e₃ (got l r₄) e₄ bad e₅ = rw (e₁, e₂, e₃, e₄, e₅)
+  own-split (got u r₁) e₁ (got a r₂) e₂ (got n r₃) e₃ (got l r₄) e₄ (got o r₅) e₅ = rw (e₁, e₂, e₃, e₄, e₅)
+
+module _ (A C : List ℕ) (f g h : List ℕ → Res ℕ) (list : ℕ → ℕ → List ℕ → Res (List Series)) (t : (ℕ × ℕ) × ℕ) (s : List ℕ) where
+  shared-split : (x : Res (Unit {0})) → strip A s ≡ x → (y : Res ℕ) → f (rest x) ≡ y → (k : Res ℕ) → g (rest y) ≡ k → (z : Res ℕ) → h (rest k) ≡ z
+      → (w : Res (List Series)) → list (said k) (said z) (rest z) ≡ w → (v : Res (Unit {0})) → strip C (rest w) ≡ v
+      → mapParse (partnerKept t) (mapParse (λ (p : ℕ × (ℕ × (ℕ × List Series))). record { number = p .0; series = p .1 .1 .1 })
+      (preParse A (seqParse f (λ a. seqParse g (λ x. seqParse h (λ n. postParse (list x n) (λ l. C))))))) s
+      ≡ splitParse (preParse A (seqParse f (λ a. seqParse g (λ x. h)))) list C t s
+  unfolding preParse postParse seqParse mapParse
+  shared-split bad e₁ y e₂ k e₆ z e₃ w e₄ v e₅ = rw e₁
+  shared-split (got u r₁) e₁ bad e₂ k e₆ z e₃ w e₄ v e₅ = rw (e₁, e₂)
+  shared-split (got u r₁) e₁ (got a r₂) e₂ bad e₆ z e₃ w e₄ v e₅ = rw (e₁, e₂, e₆)
+  shared-split (got u r₁) e₁ (got a r₂) e₂ (got b r₆) e₆ bad e₃ w e₄ v e₅ = rw (e₁, e₂, e₆, e₃)
+  shared-split (got u r₁) e₁ (got a r₂) e₂ (got b r₆) e₆ (got n r₃) e₃ bad e₄ v e₅ = rw (e₁, e₂, e₆, e₃, e₄)
+  shared-split (got u r₁) e₁ (got a r₂) e₂ (got b r₆) e₆ (got n r₃) e₃ (got l r₄) e₄ bad e₅ = rw (e₁, e₂, e₆, e₃, e₄, e₅)
+  shared-split (got u r₁) e₁ (got a r₂) e₂ (got b r₆) e₆ (got n r₃) e₃ (got l r₄) e₄ (got o r₅) e₅ = rw (e₁, e₂, e₆, e₃, e₄, e₅)
+
+pub partner-split : (k : Kind) (t : (ℕ × ℕ) × ℕ) (s : List ℕ)
+    → mapParse (partnerKept t) (partnerForm k (t .0) .parse) s ≡ splitParse (headParse k) (λ x n. listForm k x n (t .0) .parse) (closing (group k)) t s
+unfolding partnerForm ownPartner ownPartnerBody sharedPartner sharedPartnerBody headParse companyForm accessForm directionCounter listForm seriesList seriesForm digits
+partner-split Toe01 t s =
+    own-split (opening (group Toe01) ++ opening (partner Toe01)) (closing (group Toe01)) (post (fixedDigits 10) (closing (partner Toe01) ++ opening "DirectionCounter") .parse)
+    (directionCounter .parse) (λ x n. listForm Toe01 x n (t .0) .parse) t s _ refl _ refl _ refl _ refl _ refl
+partner-split Toe02 t s =
+    own-split (opening (group Toe02) ++ opening (partner Toe02)) (closing (group Toe02)) (post (fixedDigits 10) (closing (partner Toe02) ++ opening "DirectionCounter") .parse)
+    (directionCounter .parse) (λ x n. listForm Toe02 x n (t .0) .parse) t s _ refl _ refl _ refl _ refl _ refl
+partner-split Toe03 t s =
+    shared-split (opening (group Toe03) ++ opening (partner Toe03)) (closing (group Toe03)) (post (fixedDigits 18) (closing (partner Toe03) ++ opening "SupplyDirection") .parse)
+    (post (words supplies apart-supplies) (closing "SupplyDirection" ++ opening "DirectionCounter") .parse)
+    (directionCounter .parse) (λ x n. listForm Toe03 x n (t .0) .parse) t s _ refl _ refl _ refl _ refl _ refl _ refl
+
+pub partner-read : (k : Kind) (t : (ℕ × ℕ) × ℕ) (s : List ℕ) (m a b c : Mark) (h : Head) (v : (ℕ × ℕ) × ℕ) → Parsed (headParse k) s m a h
+    → Parsed (mapParse (folded counting t) (listForm k (h .1 .0) (h .1 .1) (t .0) .parse)) s a b v → Parsed (strip (closing (group k))) s b c tt
+    → Parsed (mapParse (partnerKept t) (partnerForm k (t .0) .parse)) s m c (h .0, v)
+partner-read k t s m a b c h v i j l =
+    record {
+      run = run-same (λ s. sym (partner-split k t s)) (run-map (λ (p : Head × ((ℕ × ℕ) × ℕ)). (p .0 .0, p .1)) (run-seq _ (i .run) (run-post _ (j .run) (l .run))));
+      within = l .within;
+    }
+
+-- ---- what a head is known to be
+
+room-view : {A B : Type 0} (F : Format A) (view : A → B) (s : List ℕ) (m r : Mark) (v : B) (rows : ℕ) → Within s m → Room m rows → Parsed (mapParse view (F .parse)) s m r v → Room r rows
+room-view F view s m No v rows w h p = tt
+room-view F view s No (At q) v rows w h p = absurd (got-bad (sym (p .run .run)))
+room-view F view s (At n) (At q) v rows w h p =
+    let a = viewed view (F .parse) (drop n s) v (drop q s) (p .run .run) in
+    omega (arith, h, read-long F s n q (a .0) w (p .within) (a .1 .0))
+
+pub head-room : (k : Kind) (s : List ℕ) (m r : Mark) (h : Head) (rows : ℕ) → Within s m → Room m rows → Parsed (headParse k) s m r h → Room r rows
+unfolding headParse
+head-room Toe01 s m r h rows w i p = room-view (companyHead Toe01) ofCompany s m r h rows w i p
+head-room Toe02 s m r h rows w i p = room-view (companyHead Toe02) ofCompany s m r h rows w i p
+head-room Toe03 s m r h rows w i p = room-on accessForm s m r h rows w i p
+
+company-supply : (k : Kind) (s : List ℕ) (m : Mark) (q : ℕ) (h : Head) → Parsed (mapParse ofCompany (companyHead k .parse)) s m (At q) h → h .1 .0 ≤ 1
+company-supply k s No q h p = absurd (got-bad (sym (p .run .run)))
+company-supply k s (At n) q h p =
+    let a = viewed ofCompany (companyHead k .parse) (drop n s) h (drop q s) (p .run .run) in
+    omega (arith, ap (λ (v : Head). v .1 .0) (a .1 .1))
+
+access-supply : (h : Head) → accessForm .Ok h → h .1 .0 ≤ 1
+unfolding accessForm supplies
+access-supply h ok = omega (arith, ok .1 .0)
+
+pub head-supply : (k : Kind) (s : List ℕ) (m : Mark) (q : ℕ) (h : Head) → Parsed (headParse k) s m (At q) h → h .1 .0 ≤ 1
+unfolding headParse
+head-supply Toe01 s m q h p = company-supply Toe01 s m q h p
+head-supply Toe02 s m q h p = company-supply Toe02 s m q h p
+head-supply Toe03 s m q h p = access-supply h (parsed-ok accessForm s m q h p)
+
+pub room-keep : (t : Bool) (m : Mark) (rows : ℕ) → Room m rows → Room (keep t m) rows
+room-keep true m rows h = h
+room-keep false m rows h = tt
+
+-- where there is no head there is no partner
+pub partner-none : (k : Kind) (t : (ℕ × ℕ) × ℕ) (s : List ℕ) (m : Mark) (h : Head) (v : (ℕ × ℕ) × ℕ) → Parsed (headParse k) s m No h
+    → Parsed (mapParse (partnerKept t) (partnerForm k (t .0) .parse)) s m No (h .0, v)
+partner-none k t s m h v i =
+    partner-read k t s m No No No h v i (parsed-no (mapParse (folded counting t) (listForm k (h .1 .0) (h .1 .1) (t .0) .parse)) s v) (parsed-no (strip (closing (group k))) s tt)
+
+pub of-company : (before behind s : List ℕ) (m r : Mark) (number count : ℕ) → Parsed (companyForm before behind .parse) s m r (number, count)
+    → Parsed (mapParse ofCompany (companyForm before behind .parse)) s m r (number, (0, count))
+of-company before behind s m r number count p = record { run = run-map ofCompany (p .run); within = p .within }

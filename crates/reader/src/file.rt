@@ -1,0 +1,505 @@
+// The reader's first pass: it judges a file and counts its rows.
+use crate::elements::Series;
+use formats::Mark;
+use formats::Val;
+use message::Kind;
+ghost use mathlib.Core.Path.{_≡_};
+ghost use mathlib.Core.List.{_++_};
+ghost use Prim.Native.Nat.{suc, _+_, _*_, _≤_};
+ghost use Rattle.formats.specs.Combine.{mapParse, strip};
+ghost use lib.ListN.{take};
+ghost use Rattle.formats.specs.Exactly.{exactlyParse};
+ghost use Rattle.formats.specs.Place.{Within, Parsed, left};
+ghost use Rattle.message.specs.Valid.{isMoment};
+ghost use Rattle.message.specs.SeriesListForm.{follows};
+ghost use Rattle.reader.specs.Reading.{outline};
+ghost use Rattle.reader.specs.ReaderItems.{folded};
+ghost use Rattle.message.specs.Bytes.{opening, ending, closing, root, counter, group};
+ghost use Rattle.message.specs.PartnerForm.{partnerForm};
+ghost use Rattle.message.specs.FileForm.{kindOf, kindForm, partnersForm};
+ghost use Rattle.reader.specs.ReaderPartner.{directionCounter, companyForm, accessForm, headParse, partnerKept};
+ghost use Rattle.reader.specs.ReaderPartners.{partnerItem, adding};
+ghost use Rattle.reader.specs.ReaderFile.{Filed};
+ghost use Rattle.reader.specs.ReaderSeries.{seriesForm, joins, item, counting, listForm, Room};
+
+// A series of a kind; in TOE03 `supply` is its access point's.
+fn series(s: &[u8], m: Mark, kind: Kind, supply: u64) -> Series
+    requires { ⌜ Within (now s) m ⌝ }
+    ensures { λ r. ⌜ Parsed (mapParse outline (seriesForm kind supply .parse)) (now (s .entry)) m (r .next) ((r .supply, r .delivery), ((r .year, r .month), r .rows)) ⌝ }
+{
+    match kind {
+        Kind::Toe01 => crate::elements::own_series(s, m),
+        Kind::Toe02 => crate::elements::own_series(s, m),
+        Kind::Toe03 => crate::elements::shared_series(s, m, supply),
+    }
+}
+
+// Whether a month may stand behind the one that was seen.
+fn follows(seen_year: u64, seen_month: u64, year: u64, month: u64) -> bool
+    ensures { λ r. ⌜ r ≡ follows («seen_year», «seen_month») (year, month) ⌝ }
+{
+    if seen_year == 0 {
+        return true;
+    }
+    if year != seen_year {
+        return false;
+    }
+    month == seen_month
+}
+
+// Whether a series of these directions and this month may stand behind places below `low` and the month that was seen.
+fn joins(
+    supply: u64,
+    delivery: u64,
+    year: u64,
+    month: u64,
+    low: u64,
+    seen_year: u64,
+    seen_month: u64,
+) -> bool
+    ensures { λ r. ⌜ ((supply ≤ 1) × (delivery ≤ 1) → r ≡ joins low («seen_year», «seen_month») (supply * 2 + delivery) (year, month)) ⌝ }
+{
+    if 1 < supply {
+        return false;
+    }
+    if 1 < delivery {
+        return false;
+    }
+    if supply * 2 + delivery < low {
+        return false;
+    }
+    follows(seen_year, seen_month, year, month)
+}
+
+// The next series of a partner: from place `low` on, of the month that was seen.
+fn next_series(
+    s: &[u8],
+    m: Mark,
+    kind: Kind,
+    supply: u64,
+    low: u64,
+    year: u64,
+    month: u64,
+) -> Series
+    requires { ⌜ Within (now s) m × (supply ≤ 1) ⌝ }
+    ensures { λ r. ⌜ Parsed (mapParse outline (item kind supply (low, (year, month)) .parse)) (now (s .entry)) m (r .next) ((r .supply, r .delivery), ((r .year, r .month), r .rows)) ⌝ }
+{
+    let x = series(s, m, kind, supply);
+    let a = x.next;
+    let good = joins(x.supply, x.delivery, x.year, x.month, low, year, month);
+    let next = crate::elements::kept(a, good);
+    Series {
+        supply: x.supply,
+        delivery: x.delivery,
+        year: x.year,
+        month: x.month,
+        rows: x.rows,
+        next,
+    }
+}
+
+// The month of the series that were read and the number of their rows, and the place behind them.
+pub struct Tally {
+    pub year: u64,
+    pub month: u64,
+    pub rows: u64,
+    pub next: Mark,
+}
+
+// n series of a partner, behind so many rows and the month that was seen.
+fn series_list(
+    s: &[u8],
+    m: Mark,
+    kind: Kind,
+    supply: u64,
+    n: u64,
+    year: u64,
+    month: u64,
+    rows: u64,
+) -> Tally
+    requires { ⌜ Within (now s) m × (supply ≤ 1) × Room m rows ⌝ }
+    ensures { λ r. ⌜ Parsed (mapParse (folded counting ((year, month), rows)) (listForm kind supply n (year, month) .parse)) (now (s .entry)) m (r .next) ((r .year, r .month), r .rows) × Room (r .next) (r .rows) ⌝ }
+{
+    let Mark::At(start) = m else {
+        return Tally {
+            year,
+            month,
+            rows,
+            next: Mark::No,
+        };
+    };
+    let mut at = start;
+    let mut low: u64 = 0;
+    let mut seen_year = year;
+    let mut seen_month = month;
+    let mut count = rows;
+    let mut i: u64 = 0;
+    while i < n {
+        let o = next_series(s, Mark::At(at), kind, supply, low, seen_year, seen_month);
+        let next = o.next;
+        let Mark::At(q) = next else {
+            return Tally {
+                year,
+                month,
+                rows,
+                next: Mark::No,
+            };
+        };
+        at = q;
+        low = o.supply * 2 + o.delivery + 1;
+        seen_year = o.year;
+        seen_month = o.month;
+        count += o.rows;
+        i += 1;
+    }
+    Tally {
+        year: seen_year,
+        month: seen_month,
+        rows: count,
+        next: Mark::At(at),
+    }
+}
+
+// The counter of a partner's series.
+fn direction_counter(s: &[u8], m: Mark) -> Val
+    ensures { λ r. ⌜ Parsed (directionCounter .parse) (now (s .entry)) m (r .next) (r .value) ⌝ }
+{
+    let n = formats::number(s, m, 60, 18446744073709551615);
+    let a = n.next;
+    let some = 0 < n.value;
+    let b = crate::elements::kept(a, some);
+    let next = formats::tag(s, b, b"/DirectionCounter>");
+    Val {
+        value: n.value,
+        next,
+    }
+}
+
+// A partner up to its series: its number, in TOE03 its supply direction, how many series follow, and their place.
+struct Head {
+    number: u64,
+    supply: u64,
+    count: u64,
+    next: Mark,
+}
+
+// The head of a supplier or an FSP, by the tags before and behind its number.
+fn company_head(s: &[u8], m: Mark, before: &[u8], behind: &[u8]) -> Head
+    requires { ⌜ Within (now s) m ⌝ }
+    ensures { λ r. ⌜ Parsed (companyForm (now (before .entry)) (now (behind .entry)) .parse) (now (s .entry)) m (r .next) (r .number, r .count) × (r .supply ≡ 0) ⌝ }
+{
+    let a = formats::tag(s, m, before);
+    let k = formats::fixed(s, a, 10);
+    let b = k.next;
+    let c = formats::tag(s, b, behind);
+    let n = direction_counter(s, c);
+    let next = n.next;
+    Head {
+        number: k.value,
+        supply: 0,
+        count: n.value,
+        next,
+    }
+}
+
+// The head of an access point.
+fn access_head(s: &[u8], m: Mark) -> Head
+    requires { ⌜ Within (now s) m ⌝ }
+    ensures { λ r. ⌜ Parsed (accessForm .parse) (now (s .entry)) m (r .next) (r .number, (r .supply, r .count)) ⌝ }
+{
+    let a = formats::tag(s, m, b"<SDPSupplySeries><SDPSupply>");
+    let k = formats::fixed(s, a, 18);
+    let b = k.next;
+    let c = formats::tag(s, b, b"</SDPSupply><SupplyDirection>");
+    let x = formats::word(s, c, b"Off-take", b"Injection");
+    let d = x.next;
+    let e = formats::tag(s, d, b"</SupplyDirection><DirectionCounter>");
+    let n = direction_counter(s, e);
+    let next = n.next;
+    Head {
+        number: k.value,
+        supply: x.value,
+        count: n.value,
+        next,
+    }
+}
+
+// The head of a partner of a kind.
+fn partner_head(s: &[u8], m: Mark, kind: Kind) -> Head
+    requires { ⌜ Within (now s) m ⌝ }
+    ensures { λ r. ⌜ Parsed (headParse kind) (now (s .entry)) m (r .next) (r .number, (r .supply, r .count)) ⌝ }
+{
+    match kind {
+        Kind::Toe01 => company_head(
+            s,
+            m,
+            b"<SupplierSeries><SupplierEnterpriseNumber>",
+            b"</SupplierEnterpriseNumber><DirectionCounter>",
+        ),
+        Kind::Toe02 => company_head(
+            s,
+            m,
+            b"<FspSeries><FSPEnterpriseNumber>",
+            b"</FSPEnterpriseNumber><DirectionCounter>",
+        ),
+        Kind::Toe03 => access_head(s, m),
+    }
+}
+
+// The tag that ends a partner of a kind.
+fn group_end(s: &[u8], m: Mark, kind: Kind) -> Mark
+    requires { ⌜ Within (now s) m ⌝ }
+    ensures { λ r. ⌜ Parsed (strip (closing (group kind))) (now (s .entry)) m r tt ⌝ }
+{
+    match kind {
+        Kind::Toe01 => formats::tag(s, m, b"</SupplierSeries>"),
+        Kind::Toe02 => formats::tag(s, m, b"</FspSeries>"),
+        Kind::Toe03 => formats::tag(s, m, b"</SDPSupplySeries>"),
+    }
+}
+
+// A partner that was read, the month and the rows with its own, and the place behind it.
+struct PartnerRead {
+    number: u64,
+    year: u64,
+    month: u64,
+    rows: u64,
+    next: Mark,
+}
+
+// A partner, behind so many rows and the month that was seen.
+fn partner(s: &[u8], m: Mark, kind: Kind, year: u64, month: u64, rows: u64) -> PartnerRead
+    requires { ⌜ Within (now s) m × Room m rows ⌝ }
+    ensures { λ r. ⌜ Parsed (mapParse (partnerKept ((year, month), rows)) (partnerForm kind (year, month) .parse)) (now (s .entry)) m (r .next) (r .number, ((r .year, r .month), r .rows)) × Room (r .next) (r .rows) ⌝ }
+{
+    let h = partner_head(s, m, kind);
+    let a = h.next;
+    let Mark::At(_) = a else {
+        return PartnerRead {
+            number: h.number,
+            year,
+            month,
+            rows,
+            next: Mark::No,
+        };
+    };
+    let t = series_list(s, a, kind, h.supply, h.count, year, month, rows);
+    let b = t.next;
+    let next = group_end(s, b, kind);
+    PartnerRead {
+        number: h.number,
+        year: t.year,
+        month: t.month,
+        rows: t.rows,
+        next,
+    }
+}
+
+// The next partner: a number from `low` on, series of the month that was seen.
+fn next_partner(
+    s: &[u8],
+    m: Mark,
+    kind: Kind,
+    low: u64,
+    year: u64,
+    month: u64,
+    rows: u64,
+) -> PartnerRead
+    requires { ⌜ Within (now s) m × Room m rows ⌝ }
+    ensures { λ r. ⌜ Parsed (mapParse (partnerKept ((year, month), rows)) (partnerItem kind (low, (year, month)) .parse)) (now (s .entry)) m (r .next) (r .number, ((r .year, r .month), r .rows)) × Room (r .next) (r .rows) ⌝ }
+{
+    let p = partner(s, m, kind, year, month, rows);
+    let a = p.next;
+    let number = p.number;
+    let good = low <= number;
+    let next = crate::elements::kept(a, good);
+    PartnerRead {
+        number,
+        year: p.year,
+        month: p.month,
+        rows: p.rows,
+        next,
+    }
+}
+
+// n partners: the month and the rows of their series.
+fn partners(s: &[u8], m: Mark, kind: Kind, n: u64) -> Tally
+    requires { ⌜ Within (now s) m ⌝ }
+    ensures { λ r. ⌜ Parsed (mapParse (folded adding ((0, 0), 0)) (partnersForm kind n .parse)) (now (s .entry)) m (r .next) ((r .year, r .month), r .rows) × Room (r .next) (r .rows) ⌝ }
+{
+    let Mark::At(start) = m else {
+        return Tally {
+            year: 0,
+            month: 0,
+            rows: 0,
+            next: Mark::No,
+        };
+    };
+    let mut at = start;
+    let mut low: u64 = 0;
+    let mut year: u64 = 0;
+    let mut month: u64 = 0;
+    let mut rows: u64 = 0;
+    let mut i: u64 = 0;
+    while i < n {
+        let p = next_partner(s, Mark::At(at), kind, low, year, month, rows);
+        let next = p.next;
+        let Mark::At(q) = next else {
+            return Tally {
+                year: 0,
+                month: 0,
+                rows: 0,
+                next: Mark::No,
+            };
+        };
+        at = q;
+        low = p.number + 1;
+        year = p.year;
+        month = p.month;
+        rows = p.rows;
+        i += 1;
+    }
+    Tally {
+        year,
+        month,
+        rows,
+        next: Mark::At(at),
+    }
+}
+
+// A kind that was read, and the place behind it.
+struct Root {
+    kind: Kind,
+    next: Mark,
+}
+
+// The kind of the second or the third root.
+fn later_kind(n: u64) -> Kind
+    ensures { λ r. ⌜ r ≡ kindOf (suc n) ⌝ }
+{
+    if n == 0 { Kind::Toe02 } else { Kind::Toe03 }
+}
+
+// The root that opens a file, by its kind.
+fn file_root(s: &[u8], m: Mark) -> Root
+    requires { ⌜ Within (now s) m ⌝ }
+    ensures { λ r. ⌜ Parsed (kindForm .parse) (now (s .entry)) m (r .next) (r .kind) ⌝ }
+{
+    let a = formats::tag(s, m, b"<AggregatedToEVolumesForFSP>");
+    if let Mark::At(_) = a {
+        return Root {
+            kind: Kind::Toe01,
+            next: a,
+        };
+    }
+    let w = formats::word(
+        s,
+        m,
+        b"<AggregatedToEVolumesForSupplier>",
+        b"<IndividualToEVolumesForSupplier>",
+    );
+    let next = w.next;
+    let kind = later_kind(w.value);
+    Root { kind, next }
+}
+
+// The moment of a file.
+fn file_moment(s: &[u8], m: Mark) -> Mark
+    requires { ⌜ Within (now s) m ⌝ }
+    ensures { λ r. ⌜ Parsed (exactlyParse 29 isMoment) (now (s .entry)) m r (take 29 (left (now (s .entry)) m)) ⌝ }
+{
+    let Mark::At(p) = m else {
+        return Mark::No;
+    };
+    if s.len() - p < 29 {
+        return Mark::No;
+    }
+    let j = moments::read_moment(&s[p..p + 29]);
+    let moments::Judged::Real(_) = j else {
+        return Mark::No;
+    };
+    Mark::At(p + 29)
+}
+
+// What stands between the receiver and the counter of partners.
+fn receiver_end(s: &[u8], m: Mark, kind: Kind) -> Mark
+    requires { ⌜ Within (now s) m ⌝ }
+    ensures { λ r. ⌜ Parsed (strip (closing "ReceiverID" ++ opening (counter kind))) (now (s .entry)) m r tt ⌝ }
+{
+    match kind {
+        Kind::Toe01 => formats::tag(s, m, b"</ReceiverID><SupplierCounter>"),
+        Kind::Toe02 => formats::tag(s, m, b"</ReceiverID><FSPCounter>"),
+        Kind::Toe03 => formats::tag(s, m, b"</ReceiverID><SDPSupplyCounter>"),
+    }
+}
+
+// The tag that ends the counter of partners, without the byte that ends the number.
+fn counter_end(s: &[u8], m: Mark, kind: Kind) -> Mark
+    requires { ⌜ Within (now s) m ⌝ }
+    ensures { λ r. ⌜ Parsed (strip (ending (counter kind))) (now (s .entry)) m r tt ⌝ }
+{
+    match kind {
+        Kind::Toe01 => formats::tag(s, m, b"/SupplierCounter>"),
+        Kind::Toe02 => formats::tag(s, m, b"/FSPCounter>"),
+        Kind::Toe03 => formats::tag(s, m, b"/SDPSupplyCounter>"),
+    }
+}
+
+// The tag that ends a file.
+fn root_end(s: &[u8], m: Mark, kind: Kind) -> Mark
+    requires { ⌜ Within (now s) m ⌝ }
+    ensures { λ r. ⌜ Parsed (strip (closing (root kind))) (now (s .entry)) m r tt ⌝ }
+{
+    match kind {
+        Kind::Toe01 => formats::tag(s, m, b"</AggregatedToEVolumesForFSP>"),
+        Kind::Toe02 => formats::tag(s, m, b"</AggregatedToEVolumesForSupplier>"),
+        Kind::Toe03 => formats::tag(s, m, b"</IndividualToEVolumesForSupplier>"),
+    }
+}
+
+// The parts of a file that were read, where its ID starts and ends and its moment starts, and the place behind it.
+struct FileRead {
+    kind: Kind,
+    receiver: u64,
+    year: u64,
+    month: u64,
+    rows: u64,
+    id: Mark,
+    id_end: Mark,
+    moment: Mark,
+    next: Mark,
+}
+
+// A file from its first byte on.
+fn file_read(s: &[u8]) -> FileRead
+    ensures { λ r. ⌜ Filed (now (s .entry)) (r .next) (r .kind) (r .receiver) ((r .year, r .month), r .rows) (r .id) (r .moment) ⌝ }
+{
+    let r = file_root(s, Mark::At(0));
+    let a = r.next;
+    let kind = r.kind;
+    let id = formats::tag(s, a, b"<TransactionID>");
+    let id_end = formats::name(s, id, 1, 36, 60);
+    let moment = formats::tag(s, id_end, b"/TransactionID><MessageCreateDateTime>");
+    let b = file_moment(s, moment);
+    let c = formats::tag(s, b, b"</MessageCreateDateTime><ReceiverID>");
+    let v = formats::fixed(s, c, 10);
+    let d = v.next;
+    let e = receiver_end(s, d, kind);
+    let n = formats::number(s, e, 60, 18446744073709551615);
+    let f = n.next;
+    let g = counter_end(s, f, kind);
+    let t = partners(s, g, kind, n.value);
+    let h = t.next;
+    let next = root_end(s, h, kind);
+    FileRead {
+        kind,
+        receiver: v.value,
+        year: t.year,
+        month: t.month,
+        rows: t.rows,
+        id,
+        id_end,
+        moment,
+        next,
+    }
+}

@@ -1,0 +1,3 @@
+// The reader of a file.
+mod elements;
+pub mod file;

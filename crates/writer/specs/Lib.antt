@@ -1,0 +1,6 @@
+pub mod WriterOrder
+pub mod WriterRows
+pub mod WriterRowsLaws
+pub mod WriterSteps
+pub mod WriterLaid
+pub mod WriterParts

@@ -1,0 +1,4 @@
+// The writer of a file.
+mod emitting;
+mod judging;
+mod laying;
