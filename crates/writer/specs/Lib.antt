@@ -4,3 +4,4 @@ pub mod WriterRowsLaws
 pub mod WriterSteps
 pub mod WriterLaid
 pub mod WriterParts
+pub mod WriterPartsLaws
