@@ -2,3 +2,4 @@
 mod emitting;
 mod judging;
 mod laying;
+mod runs;
