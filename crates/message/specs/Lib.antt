@@ -15,3 +15,4 @@ pub mod RowsLaws
 pub mod SixesLaws
 pub mod MessageForm
 pub mod FileLaws
+pub mod Calls
