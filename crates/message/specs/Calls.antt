@@ -44,6 +44,11 @@ kindNumbered (suc (suc zero)) = some Toe02
 kindNumbered (suc (suc (suc zero))) = some Toe03
 kindNumbered (suc (suc (suc (suc n)))) = none
 
+abbrev pub kindNumber : Kind → ℕ
+kindNumber Toe01 = 1
+kindNumber Toe02 = 2
+kindNumber Toe03 = 3
+
 -- ---- reading a file
 
 -- "It also names where ID and moment stand.": how many bytes of the file stand before them

@@ -16,3 +16,4 @@ pub mod SixesLaws
 pub mod MessageForm
 pub mod FileLaws
 pub mod Calls
+pub mod CallsLaws
