@@ -1,6 +1,6 @@
 -- The two calls on a file, reading it and writing it from rows: their answers, and every buffer afterwards (document 01, "The file", "What is sent back").
 use mathlib.Core.Path.{_≡_}
-use mathlib.Core.Bool.{Bool, true, false, cond}
+use mathlib.Core.Bool.{Bool, true, false}
 use mathlib.Core.List.{List, _++_}
 use mathlib.Core.Option.{Option, none, some}
 use Prim.Native.Nat.{ℕ, zero, suc, _*_}

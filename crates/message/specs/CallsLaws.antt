@@ -1,5 +1,5 @@
 -- What a reading's answer shows, what each answer needs, and that ID and moment stand at the places that are named.
-use mathlib.Core.Path.{_≡_, refl, sym, ap, _∙_}
+use mathlib.Core.Path.{_≡_, refl, ap, _∙_}
 use mathlib.Core.Bool.{Bool, true, false}
 use mathlib.Core.List.{List, _++_, append-assoc, flatMap}
 use mathlib.Core.Option.{some}
@@ -14,12 +14,11 @@ use Rattle.formats.specs.Format.{Res, got, bad}
 use Rattle.message.specs.declared.Kind.{Kind}
 use Rattle.message.specs.declared.Kind.the-variants.{Toe01, Toe02, Toe03}
 use Rattle.message.specs.declared.FileFacts.{FileFacts}
-use Rattle.message.specs.declared.ReadAnswer.{ReadAnswer}
 use Rattle.message.specs.declared.ReadAnswer.the-variants.{File, Refused}
 use Rattle.message.specs.Bytes.{opening, element, closing, root, counter, partnerBytes, fileBytes}
 use Rattle.message.specs.Rows.{numbers, partnersOf, Message, contents}
 use Rattle.message.specs.FileLaws.{messageBytes, readMessage}
-use Rattle.message.specs.Calls.{Verdict, accepted, refused, unless, over, afterwards, kindNumbered, kindNumber, idPlace, momentPlace, factsOf, readVerdict, readSays, messageNumbers, ReadCalled}
+use Rattle.message.specs.Calls.{accepted, unless, over, afterwards, kindNumbered, kindNumber, idPlace, momentPlace, factsOf, readVerdict, readSays, messageNumbers, ReadCalled}
 
 -- ---- kinds by their numbers
 
