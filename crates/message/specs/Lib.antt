@@ -16,3 +16,5 @@ pub mod RowsLaws
 pub mod SixesLaws
 pub mod MessageForm
 pub mod FileLaws
+pub mod Calls
+pub mod CallsLaws

@@ -1,6 +1,7 @@
 pub mod WriterOrder
 pub mod WriterRows
 pub mod WriterRowsLaws
+pub mod WriteCalls
 pub mod WriterSteps
 pub mod WriterRuns
 pub mod WriterRunsLaws
