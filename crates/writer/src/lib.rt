@@ -2,3 +2,4 @@
 pub mod emitting;
 mod judging;
 mod laying;
+mod runs;
