@@ -1,7 +1,7 @@
 -- Bytes laid behind each other into a list, or only measured: what has no room ends at no place.
 use mathlib.Core.Path.{_≡_, refl, sym, ap, _∙_}
 use mathlib.Core.Bool.{Bool, true, false, cond}
-use mathlib.Core.List.{List, [], _++_}
+use mathlib.Core.List.{List, [], _++_, append-assoc, append-nil}
 use Prim.Native.Nat.{ℕ, _+_, _≤_}
 use lib.Dec.{leb}
 use lib.ListN.{length, length-append}
@@ -137,3 +137,22 @@ laid-stands {live} {d} {m} {a} {out} {n} v =
 pub laid-none : (live : Bool) (d : List ℕ) (m : Mark) → Stands (length d) m → Laid live d m [] d m
 laid-none live d m s =
     record { keeps = refl; behind = sym (s .still); dry = λ e. refl; wrote = λ e p q f g. sym (written-nil d p) }
+
+-- ---- part by part
+
+-- what is laid so far, and the rest, are the whole
+pub record Laying (live : Bool) (before : List ℕ) (m : Mark) (whole rest after : List ℕ) (next : Mark) : Type 0 where
+  pub done : List ℕ
+  pub laid : Laid live before m done after next
+  pub both : done ++ rest ≡ whole
+
+pub laying-none : (live : Bool) (d : List ℕ) (m : Mark) (whole : List ℕ) → Stands (length d) m → Laying live d m whole whole d m
+laying-none live d m whole s = record { done = []; laid = laid-none live d m s; both = refl }
+
+pub laying-then : {live : Bool} {d : List ℕ} {m : Mark} {whole rest b out out′ : List ℕ} {n n′ : Mark} (rest′ : List ℕ)
+    → Laying live d m whole rest out n → Laid live out n b out′ n′ → rest ≡ b ++ rest′ → Laying live d m whole rest′ out′ n′
+laying-then {b = b} rest′ v w e =
+    record { done = v .done ++ b; laid = laid-then (v .laid) w; both = append-assoc (v .done) b rest′ ∙ ap (λ (l : List ℕ). v .done ++ l) (sym e) ∙ v .both }
+
+pub laying-all : {live : Bool} {d : List ℕ} {m : Mark} {whole rest out : List ℕ} {n : Mark} → Laying live d m whole rest out n → rest ≡ [] → Laid live d m whole out n
+laying-all {whole = whole} v e = laid-is whole (sym (append-nil (v .done)) ∙ ap (λ (l : List ℕ). v .done ++ l) (sym e) ∙ v .both) (v .laid)
