@@ -5,8 +5,8 @@ pub mod WriteCalls
 pub mod WriterSteps
 pub mod WriterRuns
 pub mod WriterRunsLaws
-pub mod WriterContents
-pub mod WriterContentsLaws
 pub mod WriterLaid
 pub mod WriterParts
 pub mod WriterPartsLaws
+pub mod WriterContents
+pub mod WriterContentsLaws

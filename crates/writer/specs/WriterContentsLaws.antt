@@ -15,10 +15,13 @@ use Rattle.message.specs.Bytes.{observationBytes, seriesBytes, supplyOf, partne
 use Rattle.message.specs.ObservationForm.{observed, isPeriod, to-period}
 use Rattle.message.specs.Keys.{numberKeys, pairKeys}
 use Rattle.message.specs.Group.{group, first-group}
-use Rattle.message.specs.Rows.{Row, rowsFrom, rowsIn, inSixes, seriesOf, partnerOf, partnersOf}
+use Rattle.message.specs.Rows.{Row, rowsFrom, rowsIn, inSixes, seriesOf, partnerOf, partnersOf, contents}
+use Rattle.message.specs.FileLaws.{messageBytes}
 use Rattle.writer.specs.WriterOrder.{every, ordered}
-use Rattle.writer.specs.WriterRows.{isObservation, isPair, isNumber, isRow, rowBefore, ofMonth, isRows, rowAt, Paired}
+use Rattle.writer.specs.WriterRows.{isObservation, isPair, isNumber, isRow, rowBefore, ofMonth, isRows, rowsMessage, rowAt, Paired}
 use Rattle.writer.specs.WriterRuns.{PartnerRun, PairRun}
+use Rattle.writer.specs.WriterParts.{fileHead, fileEnd}
+use Rattle.writer.specs.WriterPartsLaws.{file-parts}
 use Rattle.writer.specs.WriterContents.{observationsIn, seriesAt, seriesIn, partnerAt, partnersIn, Writable}
 
 -- ---- observations
@@ -81,6 +84,14 @@ module _ (q : ℕ × ℕ) (l : List ℕ) (at n : ℕ) where
       let f = first-group pairKeys (rowAt l at .1) (map (λ r. r .1) (rowsFrom l (at + 6) (n - 1))) in
       ap (λ (m : ℕ). supplyOf (map (seriesOf q) (group pairKeys (map (λ r. r .1) (rowsFrom l at m))))) e
       ∙ ap (λ (g : List ((ℕ × ℕ) × List Observation)). supplyOf (map (seriesOf q) g)) (f .is)
+
+-- ---- a file by its rows
+
+pub message-parts : (k : Kind) (receiver year month : ℕ) (l id moment : List ℕ)
+    → fileHead k id moment receiver (length (partnersIn (year, month) l 0 (length l / 6))) ++ flatMap (partnerBytes k) (partnersIn (year, month) l 0 (length l / 6)) ++ fileEnd k
+    ≡ messageBytes (rowsMessage k receiver year month l id moment)
+unfolding contents rowsIn
+message-parts k receiver year month l id moment = file-parts (contents (rowsMessage k receiver year month l id moment))
 
 -- ---- rows that can be written
 

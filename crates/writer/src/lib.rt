@@ -3,3 +3,4 @@ pub mod emitting;
 mod judging;
 mod laying;
 mod runs;
+pub mod writing;
