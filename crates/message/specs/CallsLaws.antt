@@ -1,5 +1,5 @@
 -- What a reading's answer shows, what each answer needs, and that ID and moment stand at the places that are named.
-use mathlib.Core.Path.{_≡_, refl, ap, _∙_}
+use mathlib.Core.Path.{_≡_, refl, sym, ap, _∙_}
 use mathlib.Core.Bool.{Bool, true, false}
 use mathlib.Core.List.{List, _++_, append-assoc, flatMap}
 use mathlib.Core.Option.{some}
@@ -14,6 +14,7 @@ use Rattle.formats.specs.Format.{Res, got, bad}
 use Rattle.message.specs.declared.Kind.{Kind}
 use Rattle.message.specs.declared.Kind.the-variants.{Toe01, Toe02, Toe03}
 use Rattle.message.specs.declared.FileFacts.{FileFacts}
+use Rattle.message.specs.declared.ReadAnswer.{ReadAnswer}
 use Rattle.message.specs.declared.ReadAnswer.the-variants.{File, Refused}
 use Rattle.message.specs.Bytes.{opening, element, closing, root, counter, partnerBytes, fileBytes}
 use Rattle.message.specs.Rows.{numbers, partnersOf, Message, contents}
@@ -79,6 +80,10 @@ module _ (file before after : List ℕ) (facts : FileFacts) where
 
   pub accepted-is : ReadCalled file before after (File facts) → Accepted file before after facts
   accepted-is c = accepted-reading (readMessage file) refl (c .answer) (c .rows)
+
+-- one call has one answer
+pub one-reading : {file before a b : List ℕ} {r s : ReadAnswer} → ReadCalled file before a r → ReadCalled file before b s → (r ≡ s) × (a ≡ b)
+one-reading c d = (c .answer ∙ sym (d .answer), c .rows ∙ sym (d .rows))
 
 -- ---- the places of ID and moment
 
