@@ -3,6 +3,8 @@ pub mod WriterRows
 pub mod WriterRowsLaws
 pub mod WriteCalls
 pub mod WriteCallsLaws
+pub mod RoundTrip
+pub mod RoundTripLaws
 pub mod WriterSteps
 pub mod WriterLaid
 pub mod WriterParts
