@@ -9,6 +9,7 @@ pub mod Months
 pub mod FileForm
 pub mod CaseF
 pub mod Group
+pub mod GroupLaws
 pub mod Keys
 pub mod Rows
 pub mod RowsLaws

@@ -6,5 +6,8 @@ pub mod WriteCallsLaws
 pub mod RoundTrip
 pub mod RoundTripLaws
 pub mod WriterSteps
+pub mod WriterRuns
+pub mod WriterRunsLaws
 pub mod WriterLaid
 pub mod WriterParts
+pub mod WriterPartsLaws
