@@ -2,4 +2,5 @@
 pub mod emitting;
 mod judging;
 mod laying;
+pub mod round_trip;
 mod runs;
