@@ -2,6 +2,9 @@ pub mod WriterOrder
 pub mod WriterRows
 pub mod WriterRowsLaws
 pub mod WriteCalls
+pub mod WriteCallsLaws
+pub mod RoundTrip
+pub mod RoundTripLaws
 pub mod WriterSteps
 pub mod WriterRuns
 pub mod WriterRunsLaws
