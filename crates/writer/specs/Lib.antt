@@ -13,3 +13,4 @@ pub mod WriterParts
 pub mod WriterPartsLaws
 pub mod WriterContents
 pub mod WriterContentsLaws
+pub mod WriterCalled

@@ -6,20 +6,27 @@ use crate::emitting::emit_partner_end;
 use crate::emitting::emit_partner_head;
 use crate::emitting::emit_series_end;
 use crate::emitting::emit_series_head;
+use crate::judging::judge_rows;
 use crate::runs::count_partners;
 use crate::runs::count_series;
 use crate::runs::pair_run;
 use crate::runs::partner_run;
 use formats::Mark;
 use message::Kind;
+use message::WriteAnswer;
+use moments::Judged;
 ghost use mathlib.Core.Path.{_≡_};
-ghost use mathlib.Core.Bool.{true};
+ghost use mathlib.Core.Bool.{true, _&&_};
 ghost use mathlib.Core.List.{flatMap};
 ghost use Prim.Native.Nat.{_+_, _*_, _/_, _≤_};
 ghost use lib.ListN.{length};
+ghost use Rattle.moments.specs.Ids.{isTransactionId};
+ghost use Rattle.message.specs.Valid.{isMoment};
 ghost use Rattle.message.specs.Bytes.{observationBytes, seriesBytes, partnerBytes};
 ghost use Rattle.message.specs.FileLaws.{messageBytes};
+ghost use Rattle.message.specs.Calls.{kindNumber};
 ghost use Rattle.writer.specs.WriterRows.{isRows, rowsMessage};
+ghost use Rattle.writer.specs.WriteCalls.{WriteCalled};
 ghost use Rattle.writer.specs.WriterContents.{observationsIn, seriesAt, seriesIn, partnerAt, partnersIn, Writable};
 ghost use Rattle.writer.specs.WriterLaid.{Laid, Stands};
 
@@ -159,4 +166,106 @@ fn emit_file(
     let a = emit_file_head(out, m, kind, id, moment, receiver, count, live);
     let b = emit_partners(out, a, kind, rows, n, year, month, live);
     emit_file_end(out, b, kind, live)
+}
+
+// Whether ID and moment are in form.
+pub fn in_form(id: &[u8], moment: &[u8]) -> bool
+    ensures { λ r. ⌜ r ≡ (isTransactionId (now (id .entry)) && isMoment (now (moment .entry))) ⌝ }
+{
+    if !moments::ids::transaction_id(id) {
+        return false;
+    }
+    let judged = moments::read_moment(moment);
+    match judged {
+        Judged::Real(_) => true,
+        Judged::Malformed => false,
+    }
+}
+
+// Writes the file of rows, where it has room: measured first, then written.
+fn write_file(
+    kind: Kind,
+    receiver: u64,
+    year: u64,
+    month: u64,
+    rows: &[u64],
+    id: &[u8],
+    moment: &[u8],
+    file: &mut [u8],
+) -> WriteAnswer
+    requires { ⌜ (isRows kind receiver year month (now rows) ≡ true) × ((isTransactionId (now id) && isMoment (now moment)) ≡ true) ⌝ }
+    ensures { λ r. ⌜ WriteCalled (kindNumber kind) receiver year month (now (rows .entry)) (now (id .entry)) (now (moment .entry)) (now (file .entry)) (now (file .exit)) r ⌝ }
+{
+    let start = Mark::At(0);
+    let end = emit_file(
+        file,
+        start,
+        kind,
+        receiver,
+        year,
+        month,
+        rows,
+        id,
+        moment,
+        false,
+    );
+    let Mark::At(count) = end else {
+        return WriteAnswer::Refused(10, 1);
+    };
+    emit_file(
+        file,
+        start,
+        kind,
+        receiver,
+        year,
+        month,
+        rows,
+        id,
+        moment,
+        true,
+    );
+    WriteAnswer::Bytes(count)
+}
+
+// Writes the file of a kind from rows.
+fn write_kind(
+    kind: Kind,
+    receiver: u64,
+    year: u64,
+    month: u64,
+    rows: &[u64],
+    id: &[u8],
+    moment: &[u8],
+    file: &mut [u8],
+) -> WriteAnswer
+    ensures { λ r. ⌜ WriteCalled (kindNumber kind) receiver year month (now (rows .entry)) (now (id .entry)) (now (moment .entry)) (now (file .entry)) (now (file .exit)) r ⌝ }
+{
+    if !judge_rows(kind, receiver, year, month, rows) {
+        return WriteAnswer::Refused(13, 0);
+    }
+    if !in_form(id, moment) {
+        return WriteAnswer::Refused(12, 0);
+    }
+    write_file(kind, receiver, year, month, rows, id, moment, file)
+}
+
+// Writes a file from rows: kind 1 to 3, receiver, year, month, six numbers a row, ID and moment.
+pub fn write(
+    kind: u8,
+    receiver: u64,
+    year: u64,
+    month: u64,
+    rows: &[u64],
+    id: &[u8],
+    moment: &[u8],
+    file: &mut [u8],
+) -> WriteAnswer
+    ensures { λ r. ⌜ WriteCalled kind receiver year month (now (rows .entry)) (now (id .entry)) (now (moment .entry)) (now (file .entry)) (now (file .exit)) r ⌝ }
+{
+    match kind {
+        1 => write_kind(Kind::Toe01, receiver, year, month, rows, id, moment, file),
+        2 => write_kind(Kind::Toe02, receiver, year, month, rows, id, moment, file),
+        3 => write_kind(Kind::Toe03, receiver, year, month, rows, id, moment, file),
+        _ => WriteAnswer::Refused(12, 0),
+    }
 }
