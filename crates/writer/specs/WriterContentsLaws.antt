@@ -1,7 +1,7 @@
 -- What rows hold, row by row and run by run: the bytes of the first, and those of the rest.
-use mathlib.Core.Path.{_≡_, refl, sym, ap, subst, _∙_}
-use mathlib.Core.Bool.{Bool, true, _&&_}
-use mathlib.Core.List.{List, [], _∷_, _++_, map, flatMap}
+use mathlib.Core.Path.{_≡_, refl, ap, subst, _∙_}
+use mathlib.Core.Bool.{true, _&&_}
+use mathlib.Core.List.{List, [], _++_, map, flatMap}
 use Prim.Native.Nat.{ℕ, zero, suc, _+_, _-_, _*_, _/_, _^_, _≤_, _<_}
 use lib.Dec.{ltb}
 use lib.ListN.{length, length-map, getD}
@@ -9,13 +9,13 @@ use native.Mathlib.Omega.{arith}
 use borrow.Author.Tests.{ltb-true}
 use Rattle.formats.specs.Rising.{and-left, and-right}
 use Rattle.message.specs.declared.Kind.{Kind}
-use Rattle.message.specs.Contents.{Observation, Series, Partner}
+use Rattle.message.specs.Contents.{Observation}
 use Rattle.message.specs.Valid.{lastPosition}
 use Rattle.message.specs.Bytes.{observationBytes, seriesBytes, supplyOf, partnerBytes}
 use Rattle.message.specs.ObservationForm.{observed, isPeriod, to-period}
 use Rattle.message.specs.Keys.{numberKeys, pairKeys}
 use Rattle.message.specs.Group.{group, first-group}
-use Rattle.message.specs.Rows.{Row, rowsFrom, rowsIn, inSixes, seriesOf, partnerOf, partnersOf, contents}
+use Rattle.message.specs.Rows.{rowsFrom, rowsIn, inSixes, seriesOf, partnerOf, partnersOf, contents}
 use Rattle.message.specs.FileLaws.{messageBytes}
 use Rattle.writer.specs.WriterOrder.{every, ordered}
 use Rattle.writer.specs.WriterRows.{isObservation, isPair, isNumber, isRow, rowBefore, ofMonth, isRows, rowsMessage, rowAt, Paired}

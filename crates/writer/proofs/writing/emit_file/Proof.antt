@@ -1,10 +1,10 @@
 -- The file's head, its partners and its end.
-use borrow.Author.Needs.{needs}
-use Rattle.writer.specs.WriterContentsLaws.{partners-count, message-parts, rows-writable}
 use mathlib.Core.Path.{sym, ap, _∙_}
 use Prim.Native.Nat.{_/_}
 use lib.ListN.{length}
+use borrow.Author.Needs.{needs}
 use Rattle.message.specs.FileLaws.{messageBytes}
+use Rattle.writer.specs.WriterContentsLaws.{partners-count, message-parts, rows-writable}
 use Rattle.writer.specs.WriterRows.{rowsMessage}
 use Rattle.writer.specs.WriterContents.{partnersIn}
 use Rattle.writer.specs.WriterParts.{fileHead}

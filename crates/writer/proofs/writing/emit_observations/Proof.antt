@@ -2,12 +2,12 @@
 use mathlib.Core.List.{flatMap}
 use Prim.Native.Nat.{_+_, _-_, _*_, _≤_}
 use lib.ListN.{length}
+use native.Mathlib.Omega.{arith}
+use borrow.Author.Needs.{needs}
 use Rattle.message.specs.Bytes.{observationBytes}
 use Rattle.writer.specs.WriterContents.{observationsIn}
 use Rattle.writer.specs.WriterContentsLaws.{observations-none, observations-step}
 use Rattle.writer.specs.WriterLaid.{Laying, laying-none, laying-then, laying-all}
-use borrow.Author.Needs.{needs}
-use native.Mathlib.Omega.{arith}
 use Rattle.writer.proofs.writing.emit_observations.Statement.{statement}
 use Rattle.writer.proofs.writing.emit_observations.Tie as tie
 

@@ -1,10 +1,10 @@
 -- The partner's head, its series and its end; its supply direction is its first row's.
-use borrow.Author.Needs.{needs}
-use Rattle.writer.specs.WriterContentsLaws.{series-count, series-supply, writable-first}
 use mathlib.Core.Path.{sym, ap₂, _∙_}
 use Prim.Native.Nat.{ℕ}
 use lib.ListN.{length}
+use borrow.Author.Needs.{needs}
 use Rattle.message.specs.Bytes.{supplyOf, partnerBytes}
+use Rattle.writer.specs.WriterContentsLaws.{series-count, series-supply, writable-first}
 use Rattle.writer.specs.WriterContents.{partnerAt}
 use Rattle.writer.specs.WriterParts.{partnerHead}
 use Rattle.writer.specs.WriterPartsLaws.{partner-parts}

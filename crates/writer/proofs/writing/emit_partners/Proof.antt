@@ -2,12 +2,12 @@
 use mathlib.Core.Path.{refl}
 use mathlib.Core.List.{flatMap}
 use Prim.Native.Nat.{_+_, _-_, _*_}
+use native.Mathlib.Omega.{arith}
+use borrow.Author.Needs.{needs}
 use Rattle.message.specs.Bytes.{partnerBytes}
 use Rattle.writer.specs.WriterContents.{partnersIn, Writable}
 use Rattle.writer.specs.WriterContentsLaws.{partners-none, partners-step, writable-part}
 use Rattle.writer.specs.WriterLaid.{Laying, laying-none, laying-then, laying-all}
-use borrow.Author.Needs.{needs}
-use native.Mathlib.Omega.{arith}
 use Rattle.writer.proofs.writing.emit_partners.Statement.{statement}
 use Rattle.writer.proofs.writing.emit_partners.Tie as tie
 

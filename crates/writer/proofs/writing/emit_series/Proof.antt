@@ -1,10 +1,10 @@
 -- The series' head, its observations and its end; it has as many observations as rows.
-use borrow.Author.Needs.{needs}
-use Rattle.writer.specs.WriterContentsLaws.{writable-first, observations-length}
 use mathlib.Core.Path.{sym, ap}
 use Prim.Native.Nat.{ℕ}
 use lib.ListN.{length}
+use borrow.Author.Needs.{needs}
 use Rattle.message.specs.Bytes.{seriesBytes}
+use Rattle.writer.specs.WriterContentsLaws.{writable-first, observations-length}
 use Rattle.writer.specs.WriterContents.{seriesAt}
 use Rattle.writer.specs.WriterParts.{seriesHead}
 use Rattle.writer.specs.WriterPartsLaws.{series-parts}

@@ -1,13 +1,13 @@
 -- Run by run: what is laid so far and the series of the rows left are the whole.
 use mathlib.Core.List.{flatMap}
+use mathlib.Core.Path.{refl}
 use Prim.Native.Nat.{_+_, _-_, _*_}
+use native.Mathlib.Omega.{arith}
+use borrow.Author.Needs.{needs}
 use Rattle.message.specs.Bytes.{seriesBytes}
 use Rattle.writer.specs.WriterContents.{seriesIn, Writable}
 use Rattle.writer.specs.WriterContentsLaws.{series-none, series-step, writable-part}
 use Rattle.writer.specs.WriterLaid.{Laying, laying-none, laying-then, laying-all}
-use borrow.Author.Needs.{needs}
-use native.Mathlib.Omega.{arith}
-use mathlib.Core.Path.{refl}
 use Rattle.writer.proofs.writing.emit_series_list.Statement.{statement}
 use Rattle.writer.proofs.writing.emit_series_list.Tie as tie
 

@@ -1,7 +1,7 @@
 -- Both tests as the definition joins them.
-use borrow.Author.Needs.{needs}
 use mathlib.Core.Path.{sym, ap, ap₂, _∙_}
 use mathlib.Core.Bool.{Bool, _&&_}
+use borrow.Author.Needs.{needs}
 use borrow.Author.Tests.{not-true, not-false}
 use Rattle.message.specs.Valid.{isReal, isMoment}
 use Rattle.writer.proofs.writing.in_form.Statement.{statement}

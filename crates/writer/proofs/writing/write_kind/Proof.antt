@@ -1,6 +1,6 @@
 -- Each refusal in its turn, then the file.
-use borrow.Author.Needs.{needs}
 use mathlib.Core.Path.{sym, _∙_}
+use borrow.Author.Needs.{needs}
 use borrow.Author.Tests.{not-true, not-false}
 use Rattle.message.specs.Calls.{kindNumber}
 use Rattle.message.specs.CallsLaws.{kind-numbered}
