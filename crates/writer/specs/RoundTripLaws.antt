@@ -98,16 +98,22 @@ module _ (m : Message) (ok : IsMessage m) where
   again-judged =
       message-rows (m .kind) (m .receiver) (m .year) (m .month) (numbers (m .rows)) (m .id) (m .moment) (numbers-sixes (m .rows)) (subst IsMessage (sym again-is) ok)
 
+  pub message-written : (before : List ℕ) → length (messageBytes m) ≤ length before
+      → WriteCalled (kindNumber (m .kind)) (m .receiver) (m .year) (m .month) (numbers (m .rows)) (m .id) (m .moment) before (over (messageBytes m) before) (Bytes (length (messageBytes m)))
+  unfolding contents
+  message-written before h =
+      let e : messageBytes again ≡ messageBytes m = ap messageBytes again-is in
+      let w = wrote-file (kindNumber (m .kind)) (m .receiver) (m .year) (m .month) (numbers (m .rows)) (m .id) (m .moment) before (m .kind) (kind-numbered (m .kind)) again-judged
+      (and-both (ok .file .id) (ok .file .moment)) (omega (arith, ap length e)) in
+      subst
+      (λ (l : List ℕ). WriteCalled (kindNumber (m .kind)) (m .receiver) (m .year) (m .month) (numbers (m .rows)) (m .id) (m .moment) before (over l before) (Bytes (length l)))
+      e w
+
   again-written : (before after : List ℕ) (r : WriteAnswer) → WriteCalled (kindNumber (m .kind)) (m .receiver) (m .year) (m .month) (numbers (m .rows)) (m .id) (m .moment) before after r
       → length (messageBytes m) ≤ length before → (r ≡ Bytes (length (messageBytes m))) × (take (length (messageBytes m)) after ≡ messageBytes m)
-  unfolding contents
   again-written before after r c h =
-      let e : messageBytes again ≡ messageBytes m = ap messageBytes again-is in
-      let d = one-write c (wrote-file (kindNumber (m .kind)) (m .receiver) (m .year) (m .month) (numbers (m .rows)) (m .id) (m .moment) before (m .kind) (kind-numbered (m .kind)) again-judged
-      (and-both (ok .file .id) (ok .file .moment)) (omega (arith, ap length e))) in (
-        d .0 ∙ ap (λ (l : List ℕ). Bytes (length l)) e,
-        ap (take (length (messageBytes m))) (d .1 ∙ ap (λ (l : List ℕ). over l before) e) ∙ over-first (messageBytes m) before (length (messageBytes m)) refl,
-      )
+      let d = one-write c (message-written before h) in
+      (d .0, ap (take (length (messageBytes m))) (d .1) ∙ over-first (messageBytes m) before (length (messageBytes m)) refl)
 
 module _ (file lent filled : List ℕ) (facts : FileFacts) (a : Accepted file lent filled facts) where
   abbrev found : Message
