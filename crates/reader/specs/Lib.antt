@@ -4,4 +4,5 @@ pub mod ReaderSeries
 pub mod ReaderPartner
 pub mod ReaderPartners
 pub mod ReaderFile
+pub mod Judged
 pub mod JudgedLaws
