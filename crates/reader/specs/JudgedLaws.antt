@@ -1,8 +1,8 @@
 -- From the reading of a file's parts, with its places, month and rows, to what the call answers: 13, 10 or the file.
-use mathlib.Core.Path.{_≡_, sym, ap, _∙_}
-use mathlib.Core.List.{List, [], _∷_}
-use Prim.Native.Nat.{ℕ, suc, _*_, _≤_, _<_}
-use lib.ListN.{length, drop, getD, drop-of-length-le}
+use mathlib.Core.Path.{_≡_, refl, sym, ap, _∙_}
+use mathlib.Core.List.{List, [], _∷_, _++_}
+use Prim.Native.Nat.{ℕ, suc, _+_, _*_, _≤_, _<_}
+use lib.ListN.{length, drop, getD, length-append, drop-of-length-le}
 use lib.Seq.{drop-cons}
 use native.Mathlib.Omega.{arith}
 use native.Mathlib.Nat.{zero-add}
@@ -15,6 +15,7 @@ use Rattle.formats.specs.declared.Mark.the-variants.{At, No}
 use Rattle.message.specs.declared.Kind.{Kind}
 use Rattle.message.specs.declared.ReadAnswer.the-variants.{File, Refused}
 use Rattle.message.specs.Contents.{Partner}
+use Rattle.message.specs.Bytes.{opening, ending, closing, root}
 use Rattle.message.specs.Valid.{IsFile}
 use Rattle.message.specs.FileForm.{Parts, fileOf, fileBody, file}
 use Rattle.message.specs.MessageForm.{messageForm}
@@ -108,3 +109,22 @@ module _ (s : List ℕ) (q : ℕ) (k : Kind) (id moment : List ℕ) (receiver co
     judged-file i n p a b c after l w =
         let r = called-file s before judgedMessage [] message-read (omega (arith, row-count)) in
         record { answer = sym (ap File (judged-facts i n p a b c)) ∙ r .answer; rows = w ∙ written-over before (numbers (rowsOf partners)) ∙ r .rows }
+
+-- ---- the places, one from the other
+
+pub id-place : (k : Kind) → length (opening (root k) ++ opening "TransactionID") ≡ idPlace k
+unfolding idPlace
+id-place k = refl
+
+pub moment-place : (k : Kind) (id : List ℕ) → idPlace k + length id + 1 + length (ending "TransactionID" ++ opening "MessageCreateDateTime") ≡ momentPlace k id
+unfolding idPlace momentPlace closing
+moment-place k id =
+    omega (
+      arith,
+      length-append (opening (root k)) (opening "TransactionID"),
+      length-append (ending "TransactionID") (opening "MessageCreateDateTime"),
+      length-append (opening (root k) ++ (opening "TransactionID" ++ id ++ (60 ∷ ending "TransactionID"))) (opening "MessageCreateDateTime"),
+      length-append (opening (root k)) (opening "TransactionID" ++ id ++ (60 ∷ ending "TransactionID")),
+      length-append (opening "TransactionID" ++ id) (60 ∷ ending "TransactionID"),
+      length-append (opening "TransactionID") id,
+    )
