@@ -1,0 +1,3 @@
+// The sheets of balance parties.
+pub mod cells;
+pub mod parties;
