@@ -4,4 +4,8 @@ pub mod Shares
 pub mod SharesLaws
 pub mod Parties
 pub mod PartiesLaws
+pub mod RowsLaws
+pub mod CellsLaws
+pub mod Parts
 pub mod SheetLaws
+pub mod EngagementLaws

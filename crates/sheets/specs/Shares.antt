@@ -1,11 +1,12 @@
 -- What a party gets of settlement rows (document 01, "Delivered volume, corrections, series").
 use mathlib.Core.List.{List, [], _∷_, map, zip}
-use Prim.Native.Nat.{ℕ, _+_, _*_, _<_}
+use Prim.Native.Nat.{ℕ, _+_, _-_, _*_, _<_}
 use lib.IntN.{ℤ, pos, _+ℤ_}
 use lib.ListN.{getD}
 use mir.Syntax.{w64}
 use mir.Val.{SFits}
 use Rattle.integers.specs.Ranges.{range}
+use Rattle.book.specs.declared.Calendar.{Calendar}
 use Rattle.book.specs.declared.Point.{Point}
 use Rattle.book.specs.declared.Engagement.{Engagement}
 use Rattle.book.specs.Book.{Book}
@@ -35,3 +36,7 @@ pub record Both (rows : List ℤ) (count : ℕ) : Type 0 where
 -- a party's corrections of an engagement, one after the other
 unfoldable pub correctionsFor : Book → ℕ → Engagement → List ℤ
 correctionsFor book party e = map (λ k. correctionAt book party (startPosition (book .calendar) e + k) e) (quarterHours e)
+
+-- the cell of its first quarter-hour: positions are counted from 1, cells from 0
+abbrev pub firstCell : Calendar → Engagement → ℕ
+firstCell c e = startPosition c e - 1
