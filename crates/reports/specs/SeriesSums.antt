@@ -1,12 +1,12 @@
 -- A series of a file as the code goes through it: its kind by the file's form, and its grains by the engagements passed.
 use mathlib.Core.Path.{_≡_}
 use mathlib.Core.List.{List, _++_, map}
-use Prim.Native.Nat.{ℕ, zero, suc, _+_, _*_, _≤_, _<_}
+use Prim.Native.Nat.{ℕ, zero, suc, _+_, _*_, _^_, _≤_, _<_}
 use lib.IntN.{ℤ, pos}
 use lib.ListN.{length, getD, take, drop, set}
 use Rattle.integers.specs.Ranges.{range}
 use Rattle.integers.specs.Sums.{sumOf}
-use Rattle.integers.specs.Z.{up}
+use Rattle.integers.specs.Z.{up, dn}
 use Rattle.book.specs.declared.Calendar.{Calendar}
 use Rattle.book.specs.Register.{pointAt}
 use Rattle.book.specs.Engagements.{engagementAt}
@@ -41,6 +41,13 @@ volumeIn settled at k = getD settled (at + rowWidth * k + 1) (pos 0)
 unfoldable pub added : List ℕ → ℕ → (ℕ → ℕ) → ℕ → List ℕ
 added l at v zero = l
 added l at v (suc k) = set (added l at v k) (at + k) (getD l (at + k) 0 + v k)
+
+-- the volumes of n rows can be added to the cells from a place on: none is negative, and no sum wraps
+pub record Addable (grains : List ℕ) (first : ℕ) (settled : List ℤ) (at n : ℕ) : Type 0 where
+  pub cells : first + n ≤ length grains
+  pub rows : at + rowWidth * n ≤ length settled
+  pub positive : (k : ℕ) → k < n → dn (volumeIn settled at k) ≡ 0
+  pub fits : (k : ℕ) → k < n → getD grains (first + k) 0 + up (volumeIn settled at k) < 2 ^ 64
 
 -- a calendar, a register, engagements and settlement rows are those of a book that passes refusals 1 to 7
 pub record Parts (c : Calendar) (register engagements : List ℕ) (settled : List ℤ) (book : Book) : Type 0 where

@@ -2,16 +2,20 @@
 use mathlib.Core.Path.{_≡_, refl, sym, ap, ap₂, _∙_}
 use mathlib.Core.Bool.{Bool, true, false, not, cond, _&&_}
 use mathlib.Core.List.{List, [], _∷_, _++_, map, flatMap, List·Memᴰ}
-use Prim.Native.Nat.{ℕ, zero, suc, _+_, _-_, _*_, _≤_, _<_}
+use Prim.Native.Nat.{ℕ, zero, suc, _+_, _-_, _*_, _^_, _≤_, _<_}
 use native.Mathlib.Numerals.{add-one}
 use native.Mathlib.Nat.{zero-add, mul-zero, mul-suc, mul-le-mul-left}
 use native.Mathlib.Omega.{arith}
-use lib.Dec.{leb, ltb}
-use lib.IntN.{ℤ, pos}
+use lib.Dec.{T, leb, ltb}
+use lib.IntN.{ℤ, pos, negsuc, natAbs}
+use lib.Signed.{nonNeg}
+use mir.Syntax.{w64}
+use mir.Val.{Fits, SFits}
 use lib.ListN.{length, getD, take, drop, set, length-append, length-take, length-map, length-set, List·getD-append}
 use lib.Seq.{take-all, take-suc, split-at, getD-append-add, getD-take, getD-set-other}
 use borrow.Author.Tests.{leb-true, ltb-true, ltb-false, le-leb, lt-ltb, le-ltb}
 use Rattle.integers.specs.Ranges.{range, length-range}
+use Rattle.integers.specs.Z.{up, dn, inside}
 use Rattle.integers.specs.Sums.{naturals, sumBy, sumOf, sum-append}
 use Rattle.book.specs.declared.Situation.the-variants.{OptOut, NetInjector}
 use Rattle.book.specs.declared.Supply.{Supply}
@@ -153,8 +157,8 @@ added-span f t n at v (suc k) h =
     let here : 1 + (at + k) ≡ at + 1 + k = omega arith in
     ap (λ (l : List ℕ). set l (at + k) (getD (map f (range 1 n) ++ t) (at + k) 0 + v k)) (added-span f t n at v k (omega arith))
     ∙ set-made (λ p. f p + spanOf (at + 1) k v p) (λ p. f p + spanOf (at + 1) (suc k) v p) t 1 n (at + k) _ (omega arith)
-      (ap₂ _+_ (sym (getD-byPosition f t 1 n (at + k) 0 (omega arith))) (span-last (at + 1) k v (1 + (at + k)) here))
-      (λ p other. ap (λ (x : ℕ). f p + x) (span-other (at + 1) k v p (λ e. other (omega arith))))
+    (ap₂ _+_ (sym (getD-byPosition f t 1 n (at + k) 0 (omega arith))) (span-last (at + 1) k v (1 + (at + k)) here))
+    (λ p other. ap (λ (x : ℕ). f p + x) (span-other (at + 1) k v p (λ e. other (omega arith))))
 
 -- ---- the delivered volumes among the settlement rows
 
@@ -269,7 +273,7 @@ module _ {c : Calendar} {register engagements : List ℕ} {settled : List ℤ} {
         let g = grainsTo book kind receiver series (i + 1) in
         added-span f (drop n t) n at (delivered book e) (e .count) (omega (arith, position-inside c (length (book .points)) e (placed i h)))
         ∙ ap (λ (l : List ℕ). l ++ drop n t) (map-range-cong (λ p. f p + spanOf (at + 1) (e .count) (delivered book e) p) g 1 n (λ p _ _.
-          ap (λ (q : ℕ). f p + spanOf q (e .count) (delivered book e) p) start ∙ ap (λ (x : ℕ). f p + x) (sym (grains-in p e own)) ∙ sym (grains-more i h p)))
+        ap (λ (q : ℕ). f p + spanOf q (e .count) (delivered book e) p) start ∙ ap (λ (x : ℕ). f p + x) (sym (grains-in p e own)) ∙ sym (grains-more i h p)))
 
     pub step-out : (i n : ℕ) (t : List ℕ) → i < engagementCountIn engagements → isEngagement book kind receiver series (engagementAt engagements i) ≡ false
         → byPosition (grainsTo book kind receiver series i) n t ≡ byPosition (grainsTo book kind receiver series (i + 1)) n t
@@ -306,3 +310,13 @@ module _ {c : Calendar} {register engagements : List ℕ} {settled : List ℤ} {
         let es = take i (book .engagements) in
         let few : length es ≤ 512 = omega (arith, length-take i (book .engagements), s .sound .few) in
         omega (arith, sum-most p es, mul-le-mul-left {m = length es} {n = 512} most few)
+
+-- ---- a number that is not negative, without its sign
+
+pub unsigned : (z : ℤ) → dn z ≡ 0 → SFits w64 z → T (nonNeg z) × Fits w64 (natAbs z)
+unsigned (pos n) h f = let k : n < 2 ^ 63 = inside w64 (pos n) f .above in (tt, record { fits = omega arith })
+unsigned (negsuc n) h f = absurd (omega arith)
+
+pub unsigned-is : (z : ℤ) → dn z ≡ 0 → natAbs z ≡ up z
+unsigned-is (pos n) h = refl
+unsigned-is (negsuc n) h = absurd (omega arith)

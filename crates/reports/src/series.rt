@@ -1,20 +1,29 @@
 // The watts of a series by position, from a book's settlement rows.
+use book::Calendar;
 use book::Direction;
 use book::Engagement;
 use book::Point;
 use book::Situation;
 use book::Supply;
 use message::Kind;
+use settlement::rows::ROW_WIDTH;
 ghost use mathlib.Core.Path.{_≡_};
+ghost use Prim.Native.Nat.{_+_, _*_, _≤_, _<_};
+ghost use lib.IntN.{pos};
+ghost use lib.ListN.{length, getD};
+ghost use Rattle.integers.specs.Z.{up, dn};
 ghost use Rattle.book.specs.declared.Supply.the-variants.{OffTake};
 ghost use Rattle.book.specs.declared.Direction.the-variants.{Up};
 ghost use Rattle.book.specs.declared.Situation.the-variants.{Transfer, PassThrough};
 ghost use Rattle.book.specs.declared.Direction.{Direction};
+ghost use Rattle.book.specs.Calendars.{dayStart, Ranged};
 ghost use Rattle.book.specs.Book.{Book};
+ghost use Rattle.volumes.specs.Quarters.{monthQuarters};
+ghost use Rattle.volumes.specs.Sheets.{startPosition};
 ghost use Rattle.volumes.specs.Baseline.{pointOf};
 ghost use Rattle.volumes.specs.Series.{takes, receiverOf, partnerOf, sameSupply, sameDirection, isPoint, isEngagement};
 ghost use Rattle.volumes.specs.SeriesLaws.{seriesOf};
-ghost use Rattle.reports.specs.SeriesSums.{kindIn};
+ghost use Rattle.reports.specs.SeriesSums.{kindIn, volumeIn, added, Addable};
 
 // Whether a kind's files take transfer points, and pass-through points.
 fn takes_transfer(kind: Kind) -> bool
@@ -133,4 +142,51 @@ pub fn is_engagement(
 {
     let direction = e.direction;
     is_point(kind, receiver, partner, supply, point) & same_direction(direction, delivery)
+}
+
+// The quarter-hours of the lead days.
+fn lead_quarters(c: Calendar) -> usize
+    requires { ⌜ Ranged c ⌝ }
+    ensures { λ r. ⌜ r ≡ dayStart c (c .lead) ⌝ }
+{
+    let lead = c.lead;
+    book::header::day_start(c, lead) as usize
+}
+
+// The quarter-hours of the month, which are its last position.
+pub fn month_quarters(c: Calendar) -> usize
+    requires { ⌜ Ranged c ⌝ }
+    ensures { λ r. ⌜ r ≡ monthQuarters c ⌝ }
+{
+    (book::header::quarters_of(c) as usize) - lead_quarters(c)
+}
+
+// The cell of an engagement's first position.
+fn cell_of(c: Calendar, e: Engagement) -> usize
+    requires { ⌜ Ranged c × (c .lead ≤ e .day) × (e .day < 64) ⌝ }
+    ensures { λ r. ⌜ r + 1 ≡ startPosition c e ⌝ }
+{
+    baseline::judge::start_of(c, e) - lead_quarters(c)
+}
+
+// A delivered volume, which isn't negative.
+fn volume_at(settled: &[i64], i: usize) -> u64
+    requires { ⌜ (i < length (now settled)) × (dn (getD (now settled) i (pos 0)) ≡ 0) ⌝ }
+    ensures { λ r. ⌜ r ≡ up (getD (now (settled .entry)) i (pos 0)) ⌝ }
+{
+    settled[i] as u64
+}
+
+// Adds the delivered volumes of n rows, which start at a place, to the cells from `first` on.
+fn add_volumes(grains: &mut [u64], first: usize, settled: &[i64], at: usize, n: usize)
+    requires { ⌜ Addable (now grains) first (now settled) at n ⌝ }
+    ensures { λ r. ⌜ now (grains .exit) ≡ added (now (grains .entry)) first (λ k. up (volumeIn (now (settled .entry)) at k)) n ⌝ }
+{
+    let mut k = 0;
+    while k < n {
+        let volume = volume_at(settled, at + ROW_WIDTH * k + 1);
+        let cell = first + k;
+        grains[cell] = grains[cell] + volume;
+        k += 1;
+    }
 }
