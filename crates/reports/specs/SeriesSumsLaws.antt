@@ -1,7 +1,7 @@
 -- A series' grains grow by what each engagement adds, and a list of numbers by position with them.
 use mathlib.Core.Path.{_≡_, refl, sym, ap, ap₂, _∙_}
 use mathlib.Core.Bool.{Bool, true, false, not, cond, _&&_}
-use mathlib.Core.List.{List, [], _∷_, _++_, map, flatMap, List·Memᴰ}
+use mathlib.Core.List.{List, [], _∷_, _++_, map, flatMap, map-append, List·Memᴰ}
 use Prim.Native.Nat.{ℕ, zero, suc, _+_, _-_, _*_, _^_, _≤_, _<_}
 use native.Mathlib.Numerals.{add-one}
 use native.Mathlib.Nat.{zero-add, mul-zero, mul-suc, mul-le-mul-left}
@@ -11,10 +11,10 @@ use lib.IntN.{ℤ, pos, negsuc, natAbs}
 use lib.Signed.{nonNeg}
 use mir.Syntax.{w64}
 use mir.Val.{Fits, SFits}
-use lib.ListN.{length, getD, take, drop, set, length-append, length-take, length-map, length-set, List·getD-append}
-use lib.Seq.{take-all, take-suc, split-at, getD-append-add, getD-take, getD-set-other}
+use lib.ListN.{length, getD, take, drop, set, length-append, length-take, length-drop, length-map, length-set, List·getD-append}
+use lib.Seq.{take-all, take-suc, drop-cons, append-snoc, split-at, set-at, drop-at, getD-at, getD-append-add, getD-take, getD-set-other}
 use borrow.Author.Tests.{leb-true, ltb-true, ltb-false, le-leb, lt-ltb, le-ltb}
-use Rattle.integers.specs.Ranges.{range, length-range}
+use Rattle.integers.specs.Ranges.{range, length-range, range-more}
 use Rattle.integers.specs.Z.{up, dn, inside}
 use Rattle.integers.specs.Sums.{naturals, sumBy, sumOf, sum-append}
 use Rattle.book.specs.declared.Situation.the-variants.{OptOut, NetInjector}
@@ -99,6 +99,34 @@ unfolding range
 getD-byPosition f t a zero i d h = absurd (omega arith)
 getD-byPosition f t a (suc n) zero d h = let z : a ≡ a + 0 = omega arith in ap f z
 getD-byPosition f t a (suc n) (suc i) d h = let z : suc a + i ≡ a + suc i = omega arith in getD-byPosition f t (suc a) n i d (omega arith) ∙ ap f z
+
+pub by-length : (f : ℕ → ℕ) (n : ℕ) (l : List ℕ) → n ≤ length l → length (byPosition f n l) ≡ length l
+by-length f n l h = simp (length-append, length-map, length-range, length-drop) (omega arith)
+
+-- no position yet, and one more: its cell was as before
+pub by-none : (f : ℕ → ℕ) (l : List ℕ) → byPosition f 0 l ≡ l
+unfolding range
+by-none f l = refl
+
+pub by-rest : (f : ℕ → ℕ) (i : ℕ) (l : List ℕ) → i < length l → getD (byPosition f i l) i 0 ≡ getD l i 0
+by-rest f i l h = rw (drop-cons l i 0 h) (getD-at (map f (range 1 i)) (getD l i 0) (drop (suc i) l) 0 i (length-map (range 1 i) f ∙ length-range 1 i))
+
+pub by-more : (f : ℕ → ℕ) (i : ℕ) (l : List ℕ) (x : ℕ) → i < length l → x ≡ f (i + 1) → set (byPosition f i l) i x ≡ byPosition f (i + 1) l
+by-more f i l x h e =
+    let size : length (map f (range 1 i)) ≡ i = length-map (range 1 i) f ∙ length-range 1 i in
+    let here : 1 + i ≡ i + 1 = omega arith in
+    let next : map f (range 1 (i + 1)) ≡ map f (range 1 i) ++ (x ∷ []) = ap (map f) (range-more 1 i) ∙ map-append f (range 1 i) ((1 + i) ∷ []) ∙ ap (λ (y : ℕ). map f (range 1 i) ++ (y ∷ [])) (ap f here ∙ sym e) in
+    ap (λ (t : List ℕ). set (map f (range 1 i) ++ t) i x) (drop-cons l i 0 h)
+    ∙ set-at (map f (range 1 i)) (getD l i 0) (drop (suc i) l) x i size
+    ∙ sym (append-snoc (map f (range 1 i)) x (drop (suc i) l))
+    ∙ ap₂ _++_ (sym next) (ap (λ (k : ℕ). drop k l) (sym (add-one i)))
+
+-- the cells filled anew, and filled with the same
+pub by-again : (f g : ℕ → ℕ) (n : ℕ) (l : List ℕ) → byPosition g n (byPosition f n l) ≡ byPosition g n l
+by-again f g n l = ap (λ (t : List ℕ). map g (range 1 n) ++ t) (drop-at (map f (range 1 n)) (drop n l) n (length-map (range 1 n) f ∙ length-range 1 n))
+
+pub by-cong : (f g : ℕ → ℕ) (n : ℕ) (l : List ℕ) → ((p : ℕ) → 1 ≤ p → p ≤ n → f p ≡ g p) → byPosition f n l ≡ byPosition g n l
+by-cong f g n l h = ap (λ (t : List ℕ). t ++ drop n l) (map-range-cong f g 1 n (λ p a b. h p a (omega arith)))
 
 -- n numbers of v from position q on
 unfoldable pub spanOf : ℕ → ℕ → (ℕ → ℕ) → ℕ → ℕ
@@ -264,7 +292,7 @@ module _ {c : Calendar} {register engagements : List ℕ} {settled : List ℤ} {
     unfolding grainsOf
     grains-out p e h = rw h
 
-    pub step-in : (i at n : ℕ) (t : List ℕ) → i < engagementCountIn engagements → isEngagement book kind receiver series (engagementAt engagements i) ≡ true
+    step-in : (i at n : ℕ) (t : List ℕ) → i < engagementCountIn engagements → isEngagement book kind receiver series (engagementAt engagements i) ≡ true
         → at + 1 ≡ startPosition c (engagementAt engagements i) → n ≡ monthQuarters c
         → added (byPosition (grainsTo book kind receiver series i) n t) at (delivered book (engagementAt engagements i)) (engagementAt engagements i .count) ≡ byPosition (grainsTo book kind receiver series (i + 1)) n t
     step-in i at n t h own start month =
@@ -275,11 +303,20 @@ module _ {c : Calendar} {register engagements : List ℕ} {settled : List ℤ} {
         ∙ ap (λ (l : List ℕ). l ++ drop n t) (map-range-cong (λ p. f p + spanOf (at + 1) (e .count) (delivered book e) p) g 1 n (λ p _ _.
         ap (λ (q : ℕ). f p + spanOf q (e .count) (delivered book e) p) start ∙ ap (λ (x : ℕ). f p + x) (sym (grains-in p e own)) ∙ sym (grains-more i h p)))
 
-    pub step-out : (i n : ℕ) (t : List ℕ) → i < engagementCountIn engagements → isEngagement book kind receiver series (engagementAt engagements i) ≡ false
+    step-out : (i n : ℕ) (t : List ℕ) → i < engagementCountIn engagements → isEngagement book kind receiver series (engagementAt engagements i) ≡ false
         → byPosition (grainsTo book kind receiver series i) n t ≡ byPosition (grainsTo book kind receiver series (i + 1)) n t
     step-out i n t h other =
         let e = engagementAt engagements i in
         ap (λ (l : List ℕ). l ++ drop n t) (map-range-cong (grainsTo book kind receiver series i) (grainsTo book kind receiver series (i + 1)) 1 n (λ p _ _. omega (arith, grains-out p e other, grains-more i h p)))
+
+    -- one engagement more
+    pub step : (i at n : ℕ) (t : List ℕ) → i < engagementCountIn engagements → at + 1 ≡ startPosition c (engagementAt engagements i) → n ≡ monthQuarters c
+        → added (byPosition (grainsTo book kind receiver series i) n t) at (delivered book (engagementAt engagements i)) (cond (isEngagement book kind receiver series (engagementAt engagements i)) (engagementAt engagements i .count) 0) ≡ byPosition (grainsTo book kind receiver series (i + 1)) n t
+    step i at n t h start month = go (isEngagement book kind receiver series (engagementAt engagements i)) refl
+      where
+        go : (b : Bool) → isEngagement book kind receiver series (engagementAt engagements i) ≡ b → added (byPosition (grainsTo book kind receiver series i) n t) at (delivered book (engagementAt engagements i)) (cond b (engagementAt engagements i .count) 0) ≡ byPosition (grainsTo book kind receiver series (i + 1)) n t
+        go true e = step-in i at n t h e start month
+        go false e = added-none (byPosition (grainsTo book kind receiver series i) n t) at (delivered book (engagementAt engagements i)) ∙ step-out i n t h e
 
     -- none are passed, and all
     pub grains-none : (p : ℕ) → grainsTo book kind receiver series 0 p ≡ 0

@@ -8,6 +8,7 @@ use book::Supply;
 use message::Kind;
 use settlement::rows::ROW_WIDTH;
 ghost use mathlib.Core.Path.{_≡_};
+ghost use mathlib.Core.Bool.{cond};
 ghost use Prim.Native.Nat.{_+_, _*_, _≤_, _<_};
 ghost use lib.IntN.{pos};
 ghost use lib.ListN.{length, getD};
@@ -17,13 +18,14 @@ ghost use Rattle.book.specs.declared.Direction.the-variants.{Up};
 ghost use Rattle.book.specs.declared.Situation.the-variants.{Transfer, PassThrough};
 ghost use Rattle.book.specs.declared.Direction.{Direction};
 ghost use Rattle.book.specs.Calendars.{dayStart, Ranged};
+ghost use Rattle.book.specs.Register.{pointAt};
 ghost use Rattle.book.specs.Book.{Book};
 ghost use Rattle.volumes.specs.Quarters.{monthQuarters};
 ghost use Rattle.volumes.specs.Sheets.{startPosition};
 ghost use Rattle.volumes.specs.Baseline.{pointOf};
 ghost use Rattle.volumes.specs.Series.{takes, receiverOf, partnerOf, sameSupply, sameDirection, isPoint, isEngagement};
 ghost use Rattle.volumes.specs.SeriesLaws.{seriesOf};
-ghost use Rattle.reports.specs.SeriesSums.{kindIn, volumeIn, added, Addable};
+ghost use Rattle.reports.specs.SeriesSums.{kindIn, byPosition, volumeIn, added, Addable};
 
 // Whether a kind's files take transfer points, and pass-through points.
 fn takes_transfer(kind: Kind) -> bool
@@ -188,5 +190,38 @@ fn add_volumes(grains: &mut [u64], first: usize, settled: &[i64], at: usize, n: 
         let cell = first + k;
         grains[cell] = grains[cell] + volume;
         k += 1;
+    }
+}
+
+// Zeros at the first n positions.
+fn clear(cells: &mut [u64], n: usize)
+    requires { ⌜ n ≤ length (now cells) ⌝ }
+    ensures { λ r. ⌜ now (cells .exit) ≡ byPosition (λ p. 0) n (now (cells .entry)) ⌝ }
+{
+    let mut i = 0;
+    while i < n {
+        cells[i] = 0;
+        i += 1;
+    }
+}
+
+// The rows that an engagement has in the series: all of its own, or none.
+fn series_rows(
+    register: &[u8],
+    e: Engagement,
+    kind: Kind,
+    receiver: u64,
+    partner: u64,
+    supply: Supply,
+    delivery: Direction,
+) -> usize
+    requires { ⌜ 64 * e .point + 64 ≤ length (now register) ⌝ }
+    ensures { λ r. ⌜ ((b : Book) → pointOf b e ≡ pointAt (now (register .entry)) (e .point) → r ≡ cond (isEngagement b (kindIn kind) receiver (seriesOf partner supply delivery) e) (e .count) 0) ⌝ }
+{
+    let point = book::register::point_at(register, e.point as usize);
+    if is_engagement(kind, receiver, partner, supply, delivery, point, e) {
+        e.count as usize
+    } else {
+        0
     }
 }
