@@ -1,6 +1,7 @@
 -- A series of a file as the code goes through it: its kind by the file's form, and its grains by the engagements passed.
 use mathlib.Core.Path.{_≡_}
 use mathlib.Core.List.{List, _++_, map}
+use mathlib.Core.Option.{none}
 use Prim.Native.Nat.{ℕ, zero, suc, _+_, _*_, _^_, _≤_, _<_}
 use lib.IntN.{ℤ, pos}
 use lib.ListN.{length, getD, take, drop, set}
@@ -10,9 +11,9 @@ use Rattle.integers.specs.Z.{up, dn}
 use Rattle.book.specs.declared.Calendar.{Calendar}
 use Rattle.book.specs.Register.{pointAt}
 use Rattle.book.specs.Engagements.{engagementAt}
-use Rattle.book.specs.Book.{Book}
+use Rattle.book.specs.Book.{Book, bookOf}
 use Rattle.volumes.specs.Baseline.{pointOf}
-use Rattle.volumes.specs.Settlement.{rowWidth, rows}
+use Rattle.volumes.specs.Settlement.{rowWidth, rows, bookRefusal}
 use Rattle.volumes.specs.Series.{Kind, Toe01, Toe02, Toe03, Series, grainsOf}
 use Rattle.volumes.specs.Sound.{Sound}
 use Rattle.settlement.specs.Sections.{engagementCountIn, engagementsIn}
@@ -62,3 +63,8 @@ pub record Parts (c : Calendar) (register engagements : List ℕ) (settled : Lis
 pub record Parted (c : Calendar) (register engagements : List ℕ) (settled : List ℤ) : Type 0 where
   pub book : Book
   pub parts : Parts c register engagements settled book
+
+-- the bytes of a book that refusals 1 to 9 pass, and numbers that start with its settlement rows
+pub record SettledIn (bytes : List ℕ) (settled : List ℤ) : Type 0 where
+  pub accepted : bookRefusal bytes ≡ none
+  pub starts : take (length (rows (bookOf bytes))) settled ≡ rows (bookOf bytes)

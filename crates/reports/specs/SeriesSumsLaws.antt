@@ -25,22 +25,26 @@ use Rattle.book.specs.declared.Direction.the-variants.{Up, Down}
 use Rattle.book.specs.declared.Calendar.{Calendar}
 use Rattle.book.specs.declared.Engagement.{Engagement}
 use Rattle.book.specs.Engagements.{engagementAt}
-use Rattle.book.specs.Book.{Book}
+use Rattle.book.specs.Header.{calendarOf, registerSection, engagementSection}
+use Rattle.book.specs.Book.{Book, bookOf}
 use Rattle.volumes.specs.Quarters.{quarterHours, position, monthQuarters}
 use Rattle.volumes.specs.QuartersLaws.{map-range-cong, flatMap-append, position-inside}
 use Rattle.volumes.specs.Settlement.{delivered, rowWidth, row, rowsOf, rows, rowCount}
-use Rattle.volumes.specs.SettlementLaws.{row-length, rowsOf-length, rows-length-of, rows-length}
+use Rattle.volumes.specs.SettlementLaws.{row-length, rowsOf-length, rows-length-of, rows-length, passing}
 use Rattle.volumes.specs.Sheets.{startPosition, covers, quarterAt}
 use Rattle.volumes.specs.Series.{Kind, Toe01, Toe02, Toe03, takes, Series, sameSupply, sameDirection, isEngagement, grainsOf, grainsAt}
+use Rattle.volumes.specs.Baseline.{pointOf}
 use Rattle.volumes.specs.Sound.{Placed}
+use Rattle.volumes.specs.SoundLaws.{sound}
 use Rattle.volumes.specs.WidthsLaws.{most, delivered-most}
 use Rattle.settlement.specs.Sections.{engagementCountIn, engagementsIn, rowCountIn}
-use Rattle.settlement.specs.EngagedLaws.{getD-made, getD-mem}
+use Rattle.settlement.specs.SectionsLaws.{rows-counted, same-book, sectioned}
+use Rattle.settlement.specs.EngagedLaws.{getD-made, getD-mem, engaged}
 use Rattle.settlement.specs.SettlingLaws.{rowCountTo, count-more, count-most}
 use Rattle.message.specs.declared.Kind.{Kind as Form}
 use Rattle.message.specs.declared.Kind.the-variants.{Toe01 as Form01, Toe02 as Form02, Toe03 as Form03}
 use Rattle.reports.specs.FileRows.{formOf}
-use Rattle.reports.specs.SeriesSums.{kindIn, byPosition, grainsTo, volumeIn, added, Parts}
+use Rattle.reports.specs.SeriesSums.{kindIn, byPosition, grainsTo, volumeIn, added, Addable, Parts, SettledIn}
 
 -- ---- kinds and directions
 
@@ -124,6 +128,9 @@ by-more f i l x h e =
 -- the cells filled anew, and filled with the same
 pub by-again : (f g : ℕ → ℕ) (n : ℕ) (l : List ℕ) → byPosition g n (byPosition f n l) ≡ byPosition g n l
 by-again f g n l = ap (λ (t : List ℕ). map g (range 1 n) ++ t) (drop-at (map f (range 1 n)) (drop n l) n (length-map (range 1 n) f ∙ length-range 1 n))
+
+pub by-own : (f : ℕ → ℕ) (n m : ℕ) (l after : List ℕ) → n ≡ m → after ≡ byPosition f n l → n ≤ length l → (m ≤ length after) × (after ≡ byPosition f m after)
+by-own f n m l after e h k = rw (← e) (omega (arith, ap length h, by-length f n l k), h ∙ sym (by-again f f n l) ∙ ap (byPosition f n) (sym h))
 
 pub by-cong : (f g : ℕ → ℕ) (n : ℕ) (l : List ℕ) → ((p : ℕ) → 1 ≤ p → p ≤ n → f p ≡ g p) → byPosition f n l ≡ byPosition g n l
 by-cong f g n l h = ap (λ (t : List ℕ). t ++ drop n l) (map-range-cong f g 1 n (λ p a b. h p a (omega arith)))
@@ -229,6 +236,9 @@ module _ {c : Calendar} {register engagements : List ℕ} {settled : List ℤ} {
   row-count : length (book .engagements) ≡ engagementCountIn engagements
   unfolding engagementsIn
   row-count = ap length (s .listed) ∙ rw (length-map, length-range)
+
+  pub rows-few : engagementCountIn engagements ≤ 512
+  rows-few = omega (arith, row-count, s .sound .few)
 
   row-named : (i : ℕ) (d : Engagement) → i < engagementCountIn engagements → getD (book .engagements) i d ≡ engagementAt engagements i
   unfolding engagementsIn
@@ -347,6 +357,59 @@ module _ {c : Calendar} {register engagements : List ℕ} {settled : List ℤ} {
         let es = take i (book .engagements) in
         let few : length es ≤ 512 = omega (arith, length-take i (book .engagements), s .sound .few) in
         omega (arith, sum-most p es, mul-le-mul-left {m = length es} {n = 512} most few)
+
+module _ {c : Calendar} {register engagements : List ℕ} {settled : List ℤ} {book : Book} (s : Parts c register engagements settled book) (kind : Kind) (receiver : ℕ) (series : Series) (i at own first : ℕ) (before grains : List ℕ)
+    (inside : i < engagementCountIn engagements)
+    (place : at ≡ rowWidth * rowCountTo engagements i)
+    (rows : own ≡ cond (isEngagement book kind receiver series (engagementAt engagements i)) (engagementAt engagements i .count) 0)
+    (start : first + 1 ≡ startPosition c (engagementAt engagements i))
+    (room : monthQuarters c ≤ length before)
+    (held : grains ≡ byPosition (grainsTo book kind receiver series i) (monthQuarters c) before) where
+  at-most-own : own ≤ engagementAt engagements i .count
+  at-most-own = go (isEngagement book kind receiver series (engagementAt engagements i)) rows
+    where
+      go : (t : Bool) → own ≡ cond t (engagementAt engagements i .count) 0 → own ≤ engagementAt engagements i .count
+      go true e = omega arith
+      go false e = omega arith
+
+  cells-inside : first + own ≤ monthQuarters c
+  cells-inside = omega (arith, at-most-own, position-inside c (length (book .points)) (engagementAt engagements i) (placed s i inside))
+
+  own-volume-is : (k : ℕ) → k < own → volumeIn settled at k ≡ pos (delivered book (engagementAt engagements i) k)
+  own-volume-is k h = ap (λ (a : ℕ). volumeIn settled a k) place ∙ volume-is s i k inside (omega (arith, at-most-own))
+
+  -- the volumes of one engagement more can be added, and their sums are those of one more
+  pub turn-adds : Addable grains first settled at own
+  turn-adds =
+      record {
+        cells = omega (arith, cells-inside, ap length held, by-length (grainsTo book kind receiver series i) (monthQuarters c) before room);
+        rows = omega (arith, at-most-own, rows-room s i inside);
+        positive = λ k h. ap dn (own-volume-is k h);
+        fits = λ k h.
+            let cell : getD grains (first + k) 0 ≡ grainsTo book kind receiver series i (1 + (first + k)) = ap (λ (l : List ℕ). getD l (first + k) 0) held ∙ getD-byPosition (grainsTo book kind receiver series i) (drop (monthQuarters c) before) 1 (monthQuarters c) (first + k) 0 (omega (arith, cells-inside)) in
+            omega (arith, cell, ap up (own-volume-is k h), volume-most s i k, grains-most s kind receiver series i (1 + (first + k)));
+      }
+
+  pub turn-sums : added grains first (λ k. up (volumeIn settled at k)) own ≡ byPosition (grainsTo book kind receiver series (i + 1)) (monthQuarters c) before
+  turn-sums =
+      added-cong grains first (λ k. up (volumeIn settled at k)) (delivered book (engagementAt engagements i)) own (λ k h. ap up (own-volume-is k h))
+      ∙ ap₂ (λ (l : List ℕ) (n : ℕ). added l first (delivered book (engagementAt engagements i)) n) held rows
+      ∙ step s kind receiver series i first (monthQuarters c) before inside start refl
+
+-- the parts of a book's own bytes
+pub parts-of : (bytes : List ℕ) (settled : List ℤ) → SettledIn bytes settled → Parts (calendarOf bytes) (registerSection bytes) (engagementSection bytes) settled (bookOf bytes)
+unfolding bookOf engagementsIn
+parts-of bytes settled h =
+    let passed = passing bytes (h .accepted) .passed in
+    let s = sectioned bytes passed in
+    record {
+      sound = sound bytes passed;
+      when = refl;
+      listed = rw (rows-counted bytes passed);
+      registered = λ i k. engaged s i k .registered;
+      owner = λ i k. ap (λ (b : Book). pointOf b (engagementAt (engagementSection bytes) i)) (sym (same-book bytes passed)) ∙ engaged s i k .shows .owner;
+      starts = h .starts;
+    }
 
 -- ---- a number that is not negative, without its sign
 

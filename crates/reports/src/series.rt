@@ -19,13 +19,13 @@ ghost use Rattle.book.specs.declared.Situation.the-variants.{Transfer, PassThro
 ghost use Rattle.book.specs.declared.Direction.{Direction};
 ghost use Rattle.book.specs.Calendars.{dayStart, Ranged};
 ghost use Rattle.book.specs.Register.{pointAt};
-ghost use Rattle.book.specs.Book.{Book};
+ghost use Rattle.book.specs.Book.{Book, bookOf};
 ghost use Rattle.volumes.specs.Quarters.{monthQuarters};
 ghost use Rattle.volumes.specs.Sheets.{startPosition};
 ghost use Rattle.volumes.specs.Baseline.{pointOf};
-ghost use Rattle.volumes.specs.Series.{takes, receiverOf, partnerOf, sameSupply, sameDirection, isPoint, isEngagement};
+ghost use Rattle.volumes.specs.Series.{takes, receiverOf, partnerOf, sameSupply, sameDirection, isPoint, isEngagement, grainsAt};
 ghost use Rattle.volumes.specs.SeriesLaws.{seriesOf};
-ghost use Rattle.reports.specs.SeriesSums.{kindIn, byPosition, volumeIn, added, Addable};
+ghost use Rattle.reports.specs.SeriesSums.{kindIn, byPosition, volumeIn, added, Addable, Parts, Parted, SettledIn};
 
 // Whether a kind's files take transfer points, and pass-through points.
 fn takes_transfer(kind: Kind) -> bool
@@ -224,4 +224,65 @@ fn series_rows(
     } else {
         0
     }
+}
+
+// Adds what the engagements deliver to a series, to cells that are 0.
+fn add_engagements(
+    c: Calendar,
+    register: &[u8],
+    engagements: &[u8],
+    settled: &[i64],
+    kind: Kind,
+    receiver: u64,
+    partner: u64,
+    supply: Supply,
+    delivery: Direction,
+    grains: &mut [u64],
+)
+    requires { ⌜ Parted c (now register) (now engagements) (now settled) × (monthQuarters c ≤ length (now grains)) × (now grains ≡ byPosition (λ p. 0) (monthQuarters c) (now grains)) ⌝ }
+    ensures { λ r. ⌜ ((b : Book) → Parts c (now (register .entry)) (now (engagements .entry)) (now (settled .entry)) b → now (grains .exit) ≡ byPosition (grainsAt b (kindIn kind) receiver (seriesOf partner supply delivery)) (monthQuarters c) (now (grains .entry))) ⌝ }
+{
+    let n = engagements.len() / 16;
+    let mut at = 0;
+    let mut i = 0;
+    while i < n {
+        let e = book::engagements::engagement_at(engagements, i);
+        let own = series_rows(register, e, kind, receiver, partner, supply, delivery);
+        let first = cell_of(c, e);
+        add_volumes(grains, first, settled, at, own);
+        at += ROW_WIDTH * (e.count as usize);
+        i += 1;
+    }
+}
+
+// The grains of a series by position, from the rows of a book that refusals 1 to 9 pass.
+pub fn fill_grains(
+    book: &[u8],
+    settled: &[i64],
+    kind: Kind,
+    receiver: u64,
+    partner: u64,
+    supply: Supply,
+    delivery: Direction,
+    grains: &mut [u64],
+)
+    requires { ⌜ SettledIn (now book) (now settled) × (monthQuarters (bookOf (now book) .calendar) ≤ length (now grains)) ⌝ }
+    ensures { λ r. ⌜ now (grains .exit) ≡ byPosition (grainsAt (bookOf (now (book .entry))) (kindIn kind) receiver (seriesOf partner supply delivery)) (monthQuarters (bookOf (now (book .entry)) .calendar)) (now (grains .entry)) ⌝ }
+{
+    let register = settlement::sections::section(book, 2);
+    let engagements = settlement::sections::section(book, 4);
+    let c = book::header::calendar_of(book);
+    clear(grains, month_quarters(c));
+    add_engagements(
+        c,
+        register,
+        engagements,
+        settled,
+        kind,
+        receiver,
+        partner,
+        supply,
+        delivery,
+        grains,
+    );
 }
