@@ -2,7 +2,7 @@
 use mathlib.Core.Path.{_≡_}
 use mathlib.Core.List.{List, _++_, map}
 use mathlib.Core.Option.{none}
-use Prim.Native.Nat.{ℕ, zero, suc, _+_, _*_, _^_, _≤_, _<_}
+use Prim.Native.Nat.{ℕ, zero, suc, pred, _+_, _*_, _^_, _≤_, _<_}
 use lib.IntN.{ℤ, pos}
 use lib.ListN.{length, getD, take, drop, set}
 use Rattle.integers.specs.Ranges.{range}
@@ -29,6 +29,10 @@ kindIn Form03 = Toe03
 -- numbers by position in a list's first n cells, and the rest as before
 abbrev pub byPosition : (ℕ → ℕ) → ℕ → List ℕ → List ℕ
 byPosition f n before = map f (range 1 n) ++ drop n before
+
+-- the numbers of a list, by position
+abbrev pub cellAt : List ℕ → ℕ → ℕ
+cellAt l p = getD l (pred p) 0
 
 -- a series' grains at a position, of the first i engagements
 unfoldable pub grainsTo : Book → Kind → ℕ → Series → ℕ → ℕ → ℕ

@@ -2,7 +2,7 @@
 use mathlib.Core.Path.{_≡_, refl, sym, ap, ap₂, _∙_}
 use mathlib.Core.Bool.{Bool, true, false, not, cond, _&&_}
 use mathlib.Core.List.{List, [], _∷_, _++_, map, flatMap, map-append, List·Memᴰ}
-use Prim.Native.Nat.{ℕ, zero, suc, _+_, _-_, _*_, _^_, _≤_, _<_}
+use Prim.Native.Nat.{ℕ, zero, suc, _+_, _-_, _*_, _/_, _%_, _^_, _≤_, _<_}
 use native.Mathlib.Numerals.{add-one}
 use native.Mathlib.Nat.{zero-add, mul-zero, mul-suc, mul-le-mul-left}
 use native.Mathlib.Omega.{arith}
@@ -15,8 +15,10 @@ use lib.ListN.{length, getD, take, drop, set, length-append, length-take, length
 use lib.Seq.{take-all, take-suc, drop-cons, append-snoc, split-at, set-at, drop-at, getD-at, getD-append-add, getD-take, getD-set-other}
 use borrow.Author.Tests.{leb-true, ltb-true, ltb-false, le-leb, lt-ltb, le-ltb}
 use Rattle.integers.specs.Ranges.{range, length-range, range-more}
+use Rattle.integers.specs.Running.{upTo, floorAt}
 use Rattle.integers.specs.Z.{up, dn, inside}
 use Rattle.integers.specs.Sums.{naturals, sumBy, sumOf, sum-append}
+use Rattle.grains.specs.Grains.{perWatt}
 use Rattle.book.specs.declared.Situation.the-variants.{OptOut, NetInjector}
 use Rattle.book.specs.declared.Supply.{Supply}
 use Rattle.book.specs.declared.Supply.the-variants.{OffTake, Injection}
@@ -44,7 +46,7 @@ use Rattle.settlement.specs.SettlingLaws.{rowCountTo, count-more, count-most}
 use Rattle.message.specs.declared.Kind.{Kind as Form}
 use Rattle.message.specs.declared.Kind.the-variants.{Toe01 as Form01, Toe02 as Form02, Toe03 as Form03}
 use Rattle.reports.specs.FileRows.{formOf}
-use Rattle.reports.specs.SeriesSums.{kindIn, byPosition, grainsTo, volumeIn, added, Addable, Parts, SettledIn}
+use Rattle.reports.specs.SeriesSums.{kindIn, byPosition, cellAt, grainsTo, volumeIn, added, Addable, Parts, SettledIn}
 
 -- ---- kinds and directions
 
@@ -410,6 +412,29 @@ parts-of bytes settled h =
       owner = λ i k. ap (λ (b : Book). pointOf b (engagementAt (engagementSection bytes) i)) (sym (same-book bytes passed)) ∙ engaged s i k .shows .owner;
       starts = h .starts;
     }
+
+-- ---- grains to watts
+
+-- "The watts at a position are the series' grains up to it, over 30,240 rounded down, less the same before it.": what is carried and what comes
+-- make the watts, and what they leave is carried on
+pub record Carried (g : ℕ → ℕ) (p watts rest : ℕ) : Type 0 where
+  pub whole : watts ≡ floorAt perWatt g p
+  pub left : rest ≡ upTo g p % perWatt
+
+pub carried : (g : ℕ → ℕ) (p carry more : ℕ) → carry ≡ upTo g p % perWatt → more ≡ g (p + 1) → Carried g (p + 1) ((carry + more) / perWatt) ((carry + more) % perWatt)
+unfolding floorAt upTo
+carried g p carry more h e =
+    let next : g (p + 1) ≡ g (suc p) = ap g (add-one p) in
+    rw (add-one p) (record { whole = omega (arith, h, e, next); left = omega (arith, h, e, next) })
+
+pub carry-none : (g : ℕ → ℕ) → 0 ≡ upTo g 0 % perWatt
+unfolding upTo
+carry-none g = refl
+
+-- the numbers by position of a list that was filled by position
+pub cell-is : (f : ℕ → ℕ) (n : ℕ) (l : List ℕ) (p : ℕ) → 1 ≤ p → p ≤ n → cellAt (byPosition f n l) p ≡ f p
+cell-is f n l zero h k = absurd (omega arith)
+cell-is f n l (suc p) h k = let e : 1 + p ≡ suc p = omega arith in getD-byPosition f (drop n l) 1 n p 0 (omega arith) ∙ ap f e
 
 -- ---- a number that is not negative, without its sign
 

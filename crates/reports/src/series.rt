@@ -5,14 +5,17 @@ use book::Engagement;
 use book::Point;
 use book::Situation;
 use book::Supply;
+use grains::Grains;
 use message::Kind;
 use settlement::rows::ROW_WIDTH;
 ghost use mathlib.Core.Path.{_≡_};
 ghost use mathlib.Core.Bool.{cond};
-ghost use Prim.Native.Nat.{_+_, _*_, _≤_, _<_};
+ghost use Prim.Native.Nat.{ℕ, _+_, _*_, _^_, _≤_, _<_};
 ghost use lib.IntN.{pos};
 ghost use lib.ListN.{length, getD};
+ghost use Rattle.integers.specs.Running.{floorAt};
 ghost use Rattle.integers.specs.Z.{up, dn};
+ghost use Rattle.grains.specs.Grains.{perWatt};
 ghost use Rattle.book.specs.declared.Supply.the-variants.{OffTake};
 ghost use Rattle.book.specs.declared.Direction.the-variants.{Up};
 ghost use Rattle.book.specs.declared.Situation.the-variants.{Transfer, PassThrough};
@@ -25,7 +28,7 @@ ghost use Rattle.volumes.specs.Sheets.{startPosition};
 ghost use Rattle.volumes.specs.Baseline.{pointOf};
 ghost use Rattle.volumes.specs.Series.{takes, receiverOf, partnerOf, sameSupply, sameDirection, isPoint, isEngagement, grainsAt};
 ghost use Rattle.volumes.specs.SeriesLaws.{seriesOf};
-ghost use Rattle.reports.specs.SeriesSums.{kindIn, byPosition, volumeIn, added, Addable, Parts, Parted, SettledIn};
+ghost use Rattle.reports.specs.SeriesSums.{kindIn, byPosition, cellAt, volumeIn, added, Addable, Parts, Parted, SettledIn};
 
 // Whether a kind's files take transfer points, and pass-through points.
 fn takes_transfer(kind: Kind) -> bool
@@ -285,4 +288,20 @@ pub fn fill_grains(
         delivery,
         grains,
     );
+}
+
+// Grains to watts at the first n positions: what doesn't complete a watt is carried on.
+pub fn fill_watts(cells: &mut [u64], n: usize)
+    requires { ⌜ (n ≤ length (now cells)) × ((k : ℕ) → k < n → getD (now cells) k 0 + perWatt ≤ 2 ^ 64) ⌝ }
+    ensures { λ r. ⌜ now (cells .exit) ≡ byPosition (floorAt perWatt (cellAt (now (cells .entry)))) n (now (cells .entry)) ⌝ }
+{
+    let mut carry: u64 = 0;
+    let mut i = 0;
+    while i < n {
+        let sum = carry + cells[i];
+        let grains = Grains { count: sum };
+        cells[i] = grains.down_to_watts();
+        carry = sum % Grains::PER_WATT;
+        i += 1;
+    }
 }
