@@ -15,7 +15,7 @@ use lib.ListN.{length, getD, take, drop, set, length-append, length-take, length
 use lib.Seq.{take-all, take-suc, drop-cons, append-snoc, split-at, set-at, drop-at, getD-at, getD-append-add, getD-take, getD-set-other}
 use borrow.Author.Tests.{leb-true, ltb-true, ltb-false, le-leb, lt-ltb, le-ltb}
 use Rattle.integers.specs.Ranges.{range, length-range, range-more}
-use Rattle.integers.specs.Running.{upTo, floorAt}
+use Rattle.integers.specs.Running.{upTo, floorAt, floorAt-cong}
 use Rattle.integers.specs.Z.{up, dn, inside}
 use Rattle.integers.specs.Sums.{naturals, sumBy, sumOf, sum-append}
 use Rattle.grains.specs.Grains.{perWatt}
@@ -34,7 +34,7 @@ use Rattle.volumes.specs.QuartersLaws.{map-range-cong, flatMap-append, position
 use Rattle.volumes.specs.Settlement.{delivered, rowWidth, row, rowsOf, rows, rowCount}
 use Rattle.volumes.specs.SettlementLaws.{row-length, rowsOf-length, rows-length-of, rows-length, passing}
 use Rattle.volumes.specs.Sheets.{startPosition, covers, quarterAt}
-use Rattle.volumes.specs.Series.{Kind, Toe01, Toe02, Toe03, takes, Series, sameSupply, sameDirection, isEngagement, grainsOf, grainsAt}
+use Rattle.volumes.specs.Series.{Kind, Toe01, Toe02, Toe03, takes, Series, sameSupply, sameDirection, isEngagement, grainsOf, grainsAt, seriesWatts}
 use Rattle.volumes.specs.Baseline.{pointOf}
 use Rattle.volumes.specs.Sound.{Placed}
 use Rattle.volumes.specs.SoundLaws.{sound}
@@ -435,6 +435,23 @@ carry-none g = refl
 pub cell-is : (f : ℕ → ℕ) (n : ℕ) (l : List ℕ) (p : ℕ) → 1 ≤ p → p ≤ n → cellAt (byPosition f n l) p ≡ f p
 cell-is f n l zero h k = absurd (omega arith)
 cell-is f n l (suc p) h k = let e : 1 + p ≡ suc p = omega arith in getD-byPosition f (drop n l) 1 n p 0 (omega arith) ∙ ap f e
+
+-- grains that were filled have room for what is carried, and become the series' watts
+module _ {c : Calendar} {register engagements : List ℕ} {settled : List ℤ} {book : Book} (s : Parts c register engagements settled book) (kind : Kind) (receiver : ℕ) (series : Series) (n : ℕ) (before cells : List ℕ)
+    (filled : cells ≡ byPosition (grainsAt book kind receiver series) n before) where
+  pub carry-fits : (k : ℕ) → k < n → getD cells k 0 + perWatt ≤ 2 ^ 64
+  carry-fits k h =
+      let i = engagementCountIn engagements in
+      let cell = ap (λ (l : List ℕ). getD l k 0) filled ∙ getD-byPosition (grainsAt book kind receiver series) (drop n before) 1 n k 0 h in
+      omega (arith, cell, grains-all s kind receiver series i (omega arith) (1 + k), grains-most s kind receiver series i (1 + k))
+
+  pub watts-are : byPosition (floorAt perWatt (cellAt cells)) n cells ≡ byPosition (seriesWatts book kind receiver series) n before
+  unfolding seriesWatts
+  watts-are =
+      ap (byPosition (floorAt perWatt (cellAt cells)) n) filled
+      ∙ by-again (grainsAt book kind receiver series) (floorAt perWatt (cellAt cells)) n before
+      ∙ by-cong (floorAt perWatt (cellAt cells)) (floorAt perWatt (grainsAt book kind receiver series)) n before (λ p _ h.
+      floorAt-cong perWatt (cellAt cells) (grainsAt book kind receiver series) p (λ k low high. ap (λ (l : List ℕ). cellAt l k) filled ∙ cell-is (grainsAt book kind receiver series) n before k low (omega arith)))
 
 -- ---- a number that is not negative, without its sign
 

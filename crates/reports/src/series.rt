@@ -26,7 +26,7 @@ ghost use Rattle.book.specs.Book.{Book, bookOf};
 ghost use Rattle.volumes.specs.Quarters.{monthQuarters};
 ghost use Rattle.volumes.specs.Sheets.{startPosition};
 ghost use Rattle.volumes.specs.Baseline.{pointOf};
-ghost use Rattle.volumes.specs.Series.{takes, receiverOf, partnerOf, sameSupply, sameDirection, isPoint, isEngagement, grainsAt};
+ghost use Rattle.volumes.specs.Series.{takes, receiverOf, partnerOf, sameSupply, sameDirection, isPoint, isEngagement, grainsAt, seriesWatts};
 ghost use Rattle.volumes.specs.SeriesLaws.{seriesOf};
 ghost use Rattle.reports.specs.SeriesSums.{kindIn, byPosition, cellAt, volumeIn, added, Addable, Parts, Parted, SettledIn};
 
@@ -304,4 +304,32 @@ pub fn fill_watts(cells: &mut [u64], n: usize)
         carry = sum % Grains::PER_WATT;
         i += 1;
     }
+}
+
+// The watts of a series by position, from the rows of a book that refusals 1 to 9 pass.
+pub fn series_watts(
+    book: &[u8],
+    settled: &[i64],
+    kind: Kind,
+    receiver: u64,
+    partner: u64,
+    supply: Supply,
+    delivery: Direction,
+    watts: &mut [u64],
+)
+    requires { ⌜ SettledIn (now book) (now settled) × (monthQuarters (bookOf (now book) .calendar) ≤ length (now watts)) ⌝ }
+    ensures { λ r. ⌜ now (watts .exit) ≡ byPosition (seriesWatts (bookOf (now (book .entry))) (kindIn kind) receiver (seriesOf partner supply delivery)) (monthQuarters (bookOf (now (book .entry)) .calendar)) (now (watts .entry)) ⌝ }
+{
+    fill_grains(
+        book,
+        settled,
+        kind,
+        receiver,
+        partner,
+        supply,
+        delivery,
+        watts,
+    );
+    let c = book::header::calendar_of(book);
+    fill_watts(watts, month_quarters(c));
 }
