@@ -22,3 +22,5 @@ pub mod SmallLaws
 pub mod ScanLaws
 pub mod SeriesSums
 pub mod SeriesSumsLaws
+pub mod SeriesSumsWritten
+pub mod SeriesSumsWrittenLaws

@@ -28,6 +28,7 @@ ghost use Rattle.volumes.specs.Sheets.{startPosition};
 ghost use Rattle.volumes.specs.Baseline.{pointOf};
 ghost use Rattle.volumes.specs.Series.{takes, receiverOf, partnerOf, sameSupply, sameDirection, isPoint, isEngagement, grainsAt, seriesWatts};
 ghost use Rattle.volumes.specs.SeriesLaws.{seriesOf};
+ghost use Rattle.reports.specs.SeriesSumsWritten.{observationIf, observationsIn};
 ghost use Rattle.reports.specs.SeriesSums.{kindIn, byPosition, cellAt, volumeIn, added, Addable, Parts, Parted, SettledIn};
 
 // Whether a kind's files take transfer points, and pass-through points.
@@ -332,4 +333,28 @@ pub fn series_watts(
     );
     let c = book::header::calendar_of(book);
     fill_watts(watts, month_quarters(c));
+}
+
+// 1 for watts that are written, 0 for none.
+fn written(watts: u64) -> u64
+    ensures { λ r. ⌜ ((p : ℕ) → r ≡ length (observationIf p watts)) × (r ≤ 1) ⌝ }
+{
+    if watts == 0 {
+        return 0;
+    }
+    1
+}
+
+// How many of the first n positions are written.
+pub fn count_written(watts: &[u64], n: usize) -> u64
+    requires { ⌜ n ≤ length (now watts) ⌝ }
+    ensures { λ r. ⌜ r ≡ length (observationsIn (now (watts .entry)) n) ⌝ }
+{
+    let mut count: u64 = 0;
+    let mut i = 0;
+    while i < n {
+        count += written(watts[i]);
+        i += 1;
+    }
+    count
 }
