@@ -1,7 +1,7 @@
 -- Observations one position after the other, and those of a series' watts: they are the series' own.
 use mathlib.Core.Path.{_≡_, refl, sym, ap, ap₂, _∙_}
 use mathlib.Core.Bool.{Bool, true, false, cond}
-use mathlib.Core.List.{List, [], _∷_, _++_, map, flatMap, map-append}
+use mathlib.Core.List.{List, [], _∷_, _++_, map, flatMap, map-append, append-nil}
 use Prim.Native.Nat.{ℕ, suc, _+_, _<_, _≤_}
 use native.Mathlib.Numerals.{add-one}
 use native.Mathlib.Omega.{arith}
@@ -42,11 +42,23 @@ pub one-observation : (p watts : ℕ) → 0 < watts → observationIf p watts �
 unfolding observationIf keep isWritten
 one-observation p watts h = rw (lt-ltb 0 watts h)
 
+pub bytes-none : (p watts : ℕ) → watts ≡ 0 → [] ≡ flatMap observationBytes (observationIf p watts)
+unfolding flatMap
+bytes-none p watts e = sym (ap (flatMap observationBytes) (no-observation p watts e))
+
+pub bytes-one : (p watts : ℕ) → 0 < watts → observationBytes (observed (p, watts)) ≡ flatMap observationBytes (observationIf p watts)
+unfolding flatMap
+bytes-one p watts h = sym (ap (flatMap observationBytes) (one-observation p watts h) ∙ append-nil (observationBytes (observed (p, watts))))
+
 -- ---- one position more
 
 pub observations-none : (l : List ℕ) → observationsIn l 0 ≡ []
 unfolding observationsIn range keep
 observations-none l = refl
+
+pub no-bytes : (l : List ℕ) → [] ≡ flatMap observationBytes (observationsIn l 0)
+unfolding flatMap
+no-bytes l = sym (ap (flatMap observationBytes) (observations-none l))
 
 pub observations-more : (l : List ℕ) (i : ℕ) → observationsIn l (i + 1) ≡ observationsIn l i ++ observationIf (i + 1) (getD l i 0)
 unfolding observationsIn observationIf

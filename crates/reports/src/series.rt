@@ -5,11 +5,13 @@ use book::Engagement;
 use book::Point;
 use book::Situation;
 use book::Supply;
+use formats::Mark;
 use grains::Grains;
 use message::Kind;
 use settlement::rows::ROW_WIDTH;
 ghost use mathlib.Core.Path.{_≡_};
 ghost use mathlib.Core.Bool.{cond};
+ghost use mathlib.Core.List.{flatMap};
 ghost use Prim.Native.Nat.{ℕ, _+_, _*_, _^_, _≤_, _<_};
 ghost use lib.IntN.{pos};
 ghost use lib.ListN.{length, getD};
@@ -28,6 +30,8 @@ ghost use Rattle.volumes.specs.Sheets.{startPosition};
 ghost use Rattle.volumes.specs.Baseline.{pointOf};
 ghost use Rattle.volumes.specs.Series.{takes, receiverOf, partnerOf, sameSupply, sameDirection, isPoint, isEngagement, grainsAt, seriesWatts};
 ghost use Rattle.volumes.specs.SeriesLaws.{seriesOf};
+ghost use Rattle.message.specs.Bytes.{observationBytes};
+ghost use Rattle.writer.specs.WriterLaid.{Laid, Stands};
 ghost use Rattle.reports.specs.SeriesSumsWritten.{observationIf, observationsIn};
 ghost use Rattle.reports.specs.SeriesSums.{kindIn, byPosition, cellAt, volumeIn, added, Addable, Parts, Parted, SettledIn};
 
@@ -357,4 +361,30 @@ pub fn count_written(watts: &[u64], n: usize) -> u64
         i += 1;
     }
     count
+}
+
+// A position's observation, if it has watts.
+fn emit_position(out: &mut [u8], m: Mark, position: u64, watts: u64, live: bool) -> Mark
+    requires { ⌜ Stands (length (now out)) m ⌝ }
+    ensures { λ r. ⌜ Laid live (now (out .entry)) m (flatMap observationBytes (observationIf position watts)) (now (out .exit)) r ⌝ }
+{
+    if watts == 0 {
+        return m;
+    }
+    writer::emitting::emit_observation(out, m, position, watts, live)
+}
+
+// The observations of the first n positions.
+pub fn emit_watts(out: &mut [u8], m: Mark, watts: &[u64], n: usize, live: bool) -> Mark
+    requires { ⌜ (n ≤ length (now watts)) × Stands (length (now out)) m ⌝ }
+    ensures { λ r. ⌜ Laid live (now (out .entry)) m (flatMap observationBytes (observationsIn (now (watts .entry)) n)) (now (out .exit)) r ⌝ }
+{
+    let mut a = m;
+    let mut i = 0;
+    while i < n {
+        let position = i + 1;
+        a = emit_position(out, a, position as u64, watts[i], live);
+        i += 1;
+    }
+    a
 }
