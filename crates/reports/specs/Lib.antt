@@ -21,3 +21,7 @@ pub mod PossibleLaws
 pub mod Small
 pub mod SmallLaws
 pub mod ScanLaws
+pub mod SeriesSums
+pub mod SeriesSumsLaws
+pub mod SeriesSumsWritten
+pub mod SeriesSumsWrittenLaws
