@@ -1,0 +1,160 @@
+-- Every refusal has a number of at most 13 and an item of at most 512, so that no code wraps and no two refusals share one.
+use mathlib.Core.Path.{_≡_, refl}
+use mathlib.Core.Bool.{Bool, true, false, cond, not, _&&_}
+use mathlib.Core.List.{List, [], _∷_}
+use mathlib.Core.Option.{Option, none, some}
+use Prim.Native.Nat.{ℕ, zero, suc, _+_, _*_, _/_, _≤_, _<_}
+use lib.Dec.{leb}
+use lib.IntN.{ℤ}
+use lib.ListN.{length, length-map}
+use native.Mathlib.Nat.{div-le-of-le-mul}
+use native.Mathlib.Omega.{arith}
+use Rattle.integers.specs.First.{first}
+use Rattle.integers.specs.Ranges.{range, length-range}
+use Rattle.book.specs.declared.Calendar.{Calendar}
+use Rattle.book.specs.declared.Engagement.{Engagement}
+use Rattle.book.specs.Calendars.{daysOf, quartersOf}
+use Rattle.book.specs.Refusals.{Refusal, refused, unless, unlessFound}
+use Rattle.book.specs.Header.{calendarOf, pointCount, engagementCount, headerGood, layoutGood, calendarSection, pairSection, registerSection, readingSection, engagementSection}
+use Rattle.book.specs.HeaderLaws.{headed}
+use Rattle.book.specs.Tables.{calendarGood, pairsGood}
+use Rattle.book.specs.Register.{badPoint}
+use Rattle.book.specs.Metering.{badReading, pointOfReading, firstBadReading}
+use Rattle.book.specs.Engagements.{badEngagement, engagementAt}
+use Rattle.book.specs.Judged.{clockChangeIn, rowsRefusal, sectionsRefusal, refusalOf}
+use Rattle.book.specs.Book.{Book, bookOf}
+use Rattle.volumes.specs.SoundLaws.{passes}
+use Rattle.volumes.specs.Baseline.{pointOf, complete, eligibleDays, yOf}
+use Rattle.volumes.specs.Settlement.{needed, tooFew, rowWidth, rowCount, refusalNumber, rowRefusal, refusalFrom, settlementRefusal, orElse, bookRefusal, settlingRefusal}
+use Rattle.settlement.specs.declared.settle.Settled.the-variants.{Rows, Refused}
+use Rattle.settlement.specs.Settling.{answerBy, SettleCall}
+use Rattle.toe_c.specs.Codes.{refusalCode, coded, SettleCoded}
+
+pub record Small (r : Refusal) : Type 0 where
+  pub number : r .number ≤ 13
+  pub item : r .item ≤ 512
+
+abbrev pub AllSmall : Option Refusal → Type 0
+AllSmall none = Unit {0}
+AllSmall (some r) = Small r
+
+-- two refusals of one code are the same
+pub told-apart : (r q : Refusal) → Small r → Small q → refusalCode (r .number) (r .item) ≡ refusalCode (q .number) (q .item) → (r .number ≡ q .number) × (r .item ≡ q .item)
+unfolding refusalCode
+told-apart r q h k e = (omega (arith, h .item, k .item), omega (arith, h .item, k .item))
+
+-- ---- by the shape of what is refused
+
+small-unless : (t : Bool) (n : ℕ) (later : Option Refusal) → n ≤ 13 → (t ≡ true → AllSmall later) → AllSmall (unless t n later)
+small-unless true n later h k = k refl
+small-unless false n later h k = record { number = h; item = omega arith }
+
+small-found : (f : Option ℕ) (n : ℕ) (later : Option Refusal) → n ≤ 13 → ((i : ℕ) → f ≡ some i → i ≤ 512) → AllSmall later → AllSmall (unlessFound f n later)
+small-found none n later h l k = k
+small-found (some i) n later h l k = record { number = h; item = l i refl }
+
+small-else : (a b : Option Refusal) → AllSmall a → (a ≡ none → AllSmall b) → AllSmall (orElse a b)
+unfolding orElse
+small-else none b h k = k refl
+small-else (some r) b h k = h
+
+some-same : {i j : ℕ} → some i ≡ some j → i ≡ j
+some-same e = cc
+
+none-some : {A : Type 0} {i : ℕ} → _≡_ {A = Option ℕ} none (some i) → A
+none-some e = let z : _≡_ {A = ℕ} 0 1 = cc in absurd (omega arith)
+
+-- ---- where a search ends
+
+first-below : (test : ℕ → Bool) (a n i : ℕ) → first test a n ≡ some i → i < a + n
+unfolding first
+first-below test a zero i e = none-some e
+first-below test a (suc n) i e = go (test a) e (first-below test (suc a) n i)
+  where
+    go : (b : Bool) → cond b (some a) (first test (suc a) n) ≡ some i → (first test (suc a) n ≡ some i → i < suc a + n) → i < a + suc n
+    go true e k = omega (arith, some-same e)
+    go false e k = omega (arith, k e)
+
+reading-below : (quarters : ℕ) (test : ℕ → Bool) (n i : ℕ) → pointOfReading quarters (first test 0 (quarters * n)) ≡ some i → i ≤ n
+reading-below quarters test n i e = go (first test 0 (quarters * n)) refl e
+  where
+    go : (f : Option ℕ) → first test 0 (quarters * n) ≡ f → pointOfReading quarters f ≡ some i → i ≤ n
+    go none p e = none-some e
+    go (some k) p e =
+        let h : k < 0 + quarters * n = first-below test 0 (quarters * n) k p in
+        let l : k / quarters ≤ n = div-le-of-le-mul quarters (omega arith) in
+        omega (arith, some-same e)
+
+-- ---- refusals 1 to 7
+
+rows-small : (c : Calendar) (points rows : ℕ) (register readings engagements : List ℕ) → points ≤ 256 → rows ≤ 512 → AllSmall (rowsRefusal c points rows register readings engagements)
+unfolding rowsRefusal firstBadReading
+rows-small c points rows register readings engagements h k =
+    small-found (first (badPoint (daysOf c) register) 0 points) 5 _ (omega arith) (λ i e. omega (arith, first-below (badPoint (daysOf c) register) 0 points i e))
+    (small-found (firstBadReading c readings points) 6 _ (omega arith) (λ i e. omega (arith, reading-below (quartersOf c) (badReading readings) points i e))
+    (small-found (first (badEngagement c points engagements) 0 rows) 7 none (omega arith) (λ i e. omega (arith, first-below (badEngagement c points engagements) 0 rows i e)) tt))
+
+bytes-small : (bytes : List ℕ) → AllSmall (refusalOf bytes)
+unfolding refusalOf sectionsRefusal
+bytes-small bytes =
+    small-unless (headerGood bytes) 1 _ (omega arith) (λ e.
+    small-unless (layoutGood bytes) 2 _ (omega arith) (λ f.
+    small-unless (not (clockChangeIn (calendarOf bytes))) 3 _ (omega arith) (λ g.
+    small-unless (calendarGood (calendarSection bytes) && pairsGood (pairSection bytes)) 4 _ (omega arith) (λ k.
+    rows-small (calendarOf bytes) (pointCount bytes) (engagementCount bytes) (registerSection bytes) (readingSection bytes) (engagementSection bytes) (headed bytes e .points) (headed bytes e .rows)))))
+
+-- ---- 8 and 9
+
+number-small : (book : Book) (e : Engagement) (n : ℕ) → refusalNumber book e ≡ some n → n ≤ 9
+unfolding refusalNumber
+number-small book e n h = go (complete (needed book e)) (tooFew (pointOf book e .method) (yOf book e) (length (eligibleDays book e))) h
+  where
+    go : (a b : Bool) → cond a (cond b (some 9) none) (some 8) ≡ some n → n ≤ 9
+    go true true h = omega (arith, some-same h)
+    go true false h = none-some h
+    go false b h = omega (arith, some-same h)
+
+from-small : (book : Book) (row : ℕ) (es : List Engagement) → row + length es ≤ 512 → AllSmall (refusalFrom book row es)
+unfolding refusalFrom rowRefusal
+from-small book row [] h = tt
+from-small book row (e ∷ es) h = go (refusalNumber book e) refl (from-small book (suc row) es (omega arith))
+  where
+    go : (n : Option ℕ) → refusalNumber book e ≡ n → AllSmall (refusalFrom book (suc row) es) → AllSmall (rowRefusal row n (refusalFrom book (suc row) es))
+    go none p k = k
+    go (some n) p k = record { number = omega (arith, number-small book e n p); item = omega arith }
+
+engagements-few : (bytes : List ℕ) → refusalOf bytes ≡ none → length (bookOf bytes .engagements) ≤ 512
+unfolding bookOf
+engagements-few bytes e =
+    let n = length-map (range 0 (engagementCount bytes)) (engagementAt (engagementSection bytes)) in
+    omega (arith, n, length-range 0 (engagementCount bytes), headed bytes (passes bytes e .header) .rows)
+
+-- 1 to 9
+pub book-small : (bytes : List ℕ) → AllSmall (bookRefusal bytes)
+unfolding bookRefusal settlementRefusal
+book-small bytes = small-else (refusalOf bytes) (settlementRefusal (bookOf bytes)) (bytes-small bytes) (λ e. from-small (bookOf bytes) 0 (bookOf bytes .engagements) (omega (arith, engagements-few bytes e)))
+
+pub settling-small : (bytes : List ℕ) (lent : ℕ) → AllSmall (settlingRefusal bytes lent)
+unfolding settlingRefusal
+settling-small bytes lent = small-else (bookRefusal bytes) _ (book-small bytes) (λ e. small-unless (leb (rowWidth * rowCount (bookOf bytes)) lent) 10 none (omega arith) (λ f. tt))
+
+-- ---- the codes of the calls' answers
+
+module _ (bytes : List ℕ) (lent left : List ℤ) where
+  settle-by : (x : Option Refusal) → settlingRefusal bytes (length lent) ≡ x → (count : ℕ) → Rows count ≡ answerBy x (rowCount (bookOf bytes)) → count ≡ coded x (rowCount (bookOf bytes))
+  settle-by none e count h = cc
+  settle-by (some r) e count h = let z : _≡_ {A = ℕ} 0 1 = cc in absurd (omega arith)
+
+  pub settle-accepted : (count : ℕ) → SettleCall bytes lent (Rows count) left → SettleCoded bytes lent count left
+  settle-accepted count s = record { answered = settle-by (settlingRefusal bytes (length lent)) refl count (s .answered); filled = s .filled }
+
+  refused-by : (x : Option Refusal) → AllSmall x → (n i : ℕ) → Refused n i ≡ answerBy x (rowCount (bookOf bytes)) → (refusalCode n i ≡ coded x (rowCount (bookOf bytes))) × (n ≤ 13) × (i ≤ 512)
+  refused-by none k n i h = let z : _≡_ {A = ℕ} 0 1 = cc in absurd (omega arith)
+  refused-by (some r) k n i h = let f : n ≡ r .number = cc in let g : i ≡ r .item = cc in (rw (f, g), omega (arith, k .number), omega (arith, k .item))
+
+  module _ (n i : ℕ) (s : SettleCall bytes lent (Refused n i) left) where
+    pub settle-small : (n ≤ 13) × (i ≤ 512)
+    settle-small = let r = refused-by (settlingRefusal bytes (length lent)) (settling-small bytes (length lent)) n i (s .answered) in (r .1, r .2)
+
+    pub settle-refused : SettleCoded bytes lent (refusalCode n i) left
+    settle-refused = record { answered = refused-by (settlingRefusal bytes (length lent)) (settling-small bytes (length lent)) n i (s .answered) .0; filled = s .filled }
