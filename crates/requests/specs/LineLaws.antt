@@ -23,6 +23,7 @@ use Rattle.formats.specs.declared.Mark.{Mark}
 use Rattle.formats.specs.declared.Mark.the-variants.{At, No}
 use Rattle.moments.specs.MomentsLaws.{and-both}
 use Rattle.message.specs.Valid.{isMoment}
+use Rattle.requests.specs.declared.Asked.{Asked}
 use Rattle.requests.specs.declared.Request.the-variants.{Line, NoLine}
 use Rattle.requests.specs.Line.{isKind, Words, line, asked, requestBy, requestOf}
 
@@ -175,3 +176,26 @@ placed s w rest e =
       moment = ap (λ (l : List ℕ). take 29 (drop (15 + n) l)) (f .0 ∙ at-moment w rest) ∙ part (to-moment w) (w .1 .1 .1) _ (15 + n) 29 (moment-at w) (moment-long w (f .1));
       book = ap (drop (45 + n)) (f .0) ∙ drop-at (line .render w) rest (45 + n) (line-length w (f .1));
     }
+
+-- the words that a line's places are of, and what stands behind the line
+pub record Found (s : List ℕ) (a : Asked) : Type 0 where
+  pub words : Words
+  pub rest : List ℕ
+  pub parsed : line .parse s ≡ got words rest
+  pub is : a ≡ asked words
+
+pub found : (s : List ℕ) (a : Asked) → Line a ≡ requestOf s → Found s a
+unfolding requestOf
+found s a e = go (line .parse s) refl e
+  where
+    go : (r : Res Words) → line .parse s ≡ r → Line a ≡ requestBy r → Found s a
+    go (got w rest) p e = record { words = w; rest = rest; parsed = p; is = cc }
+    go bad p e = let z : _≡_ {A = ℕ} 0 1 = cc in absurd (omega arith)
+
+pub found-none : (s : List ℕ) → NoLine ≡ requestOf s → line .parse s ≡ bad
+unfolding requestOf
+found-none s e = go (line .parse s) e
+  where
+    go : (r : Res Words) → NoLine ≡ requestBy r → r ≡ bad
+    go (got w rest) e = let z : _≡_ {A = ℕ} 0 1 = cc in absurd (omega arith)
+    go bad e = refl
