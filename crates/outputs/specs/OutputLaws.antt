@@ -7,7 +7,7 @@ use Prim.Native.Nat.{ℕ, zero, suc, _+_, _-_, _/_, _^_, _≤_, _<_}
 use lib.Dec.{leb}
 use borrow.Author.Tests.{leb-true, leb-false, le-leb, lt-leb}
 use lib.IntN.{ℤ}
-use lib.ListN.{length, take, drop, length-drop}
+use lib.ListN.{length, take, drop, length-append, length-drop}
 use lib.Seq.{take-all}
 use native.Mathlib.Nat.{add-suc, add-zero, zero-add}
 use native.Mathlib.Omega.{arith}
@@ -69,6 +69,11 @@ module _ (input : List ℕ) where
   unfolding refusalFor
   too-long a rows before after q l h w =
       printed-refused (record { number = 2; item = 0 }) rows before after q (ap (judged (length input)) (found input a l .parsed) ∙ rw (lt-leb (length input) inputMost h)) w
+
+-- the output lies in the buffer
+pub printed-fits : {input : List ℕ} {rowsBefore rowsAfter : List ℤ} {before after : List ℕ} {count : ℕ} → Printed input rowsBefore rowsAfter before after count → count ≤ length after
+unfolding over
+printed-fits {input} {before = before} p = omega (arith, p .counted, ap length (p .file), length-append (output input) (drop (length (output input)) before))
 
 -- ---- the file call, of the parts of the input
 
