@@ -1,2 +1,3 @@
 pub mod Codes
-pub mod CodesLaws
+pub mod Small
+pub mod SmallLaws

@@ -26,32 +26,41 @@ use Rattle.book.specs.Book.{Book, bookOf}
 use Rattle.volumes.specs.SoundLaws.{passes}
 use Rattle.volumes.specs.Baseline.{pointOf, complete, eligibleDays, yOf}
 use Rattle.volumes.specs.Settlement.{needed, tooFew, rowWidth, rowCount, refusalNumber, rowRefusal, refusalFrom, settlementRefusal, orElse, bookRefusal, settlingRefusal}
-use Rattle.settlement.specs.declared.settle.Settled.the-variants.{Rows, Refused}
+use Rattle.settlement.specs.declared.settle.Settled.{Settled}
 use Rattle.settlement.specs.Settling.{answerBy, SettleCall}
-use Rattle.toe_c.specs.Codes.{refusalCode, coded, SettleCoded}
-
-pub record Small (r : Refusal) : Type 0 where
-  pub number : r .number ≤ 13
-  pub item : r .item ≤ 512
+use Rattle.moments.specs.Ids.{isTransactionId}
+use Rattle.message.specs.declared.Kind.{Kind}
+use Rattle.message.specs.declared.WriteAnswer.{WriteAnswer}
+use Rattle.message.specs.Valid.{isMoment}
+use Rattle.message.specs.FileLaws.{messageBytes}
+use Rattle.message.specs.Calls.{Verdict, accepted, refused as sent, unless as judge, kindNumbered, writeSays}
+use Rattle.writer.specs.WriterRows.{isRows, rowsMessage}
+use Rattle.writer.specs.WriteCalls.{fitting, writeVerdict, WriteCalled}
+use Rattle.toe_c.specs.Codes.{refusalCode}
+use Rattle.toe_c.specs.Small.{Small, SettledSmall, WrittenSmall}
 
 abbrev pub AllSmall : Option Refusal → Type 0
 AllSmall none = Unit {0}
-AllSmall (some r) = Small r
+AllSmall (some r) = Small (r .number) (r .item)
+
+abbrev pub VerdictSmall : {A : Type 0} → Verdict A → Type 0
+VerdictSmall (accepted a) = Unit {0}
+VerdictSmall (sent number item) = Small number item
 
 -- two refusals of one code are the same
-pub told-apart : (r q : Refusal) → Small r → Small q → refusalCode (r .number) (r .item) ≡ refusalCode (q .number) (q .item) → (r .number ≡ q .number) × (r .item ≡ q .item)
+pub told-apart : (m n i j : ℕ) → Small m i → Small n j → refusalCode m i ≡ refusalCode n j → (m ≡ n) × (i ≡ j)
 unfolding refusalCode
-told-apart r q h k e = (omega (arith, h .item, k .item), omega (arith, h .item, k .item))
+told-apart m n i j h k e = (omega (arith, h .item-few, k .item-few), omega (arith, h .item-few, k .item-few))
 
 -- ---- by the shape of what is refused
 
 small-unless : (t : Bool) (n : ℕ) (later : Option Refusal) → n ≤ 13 → (t ≡ true → AllSmall later) → AllSmall (unless t n later)
 small-unless true n later h k = k refl
-small-unless false n later h k = record { number = h; item = omega arith }
+small-unless false n later h k = record { number-few = h; item-few = omega arith }
 
 small-found : (f : Option ℕ) (n : ℕ) (later : Option Refusal) → n ≤ 13 → ((i : ℕ) → f ≡ some i → i ≤ 512) → AllSmall later → AllSmall (unlessFound f n later)
 small-found none n later h l k = k
-small-found (some i) n later h l k = record { number = h; item = l i refl }
+small-found (some i) n later h l k = record { number-few = h; item-few = l i refl }
 
 small-else : (a b : Option Refusal) → AllSmall a → (a ≡ none → AllSmall b) → AllSmall (orElse a b)
 unfolding orElse
@@ -121,7 +130,7 @@ from-small book row (e ∷ es) h = go (refusalNumber book e) refl (from-small bo
   where
     go : (n : Option ℕ) → refusalNumber book e ≡ n → AllSmall (refusalFrom book (suc row) es) → AllSmall (rowRefusal row n (refusalFrom book (suc row) es))
     go none p k = k
-    go (some n) p k = record { number = omega (arith, number-small book e n p); item = omega arith }
+    go (some n) p k = record { number-few = omega (arith, number-small book e n p); item-few = omega arith }
 
 engagements-few : (bytes : List ℕ) → refusalOf bytes ≡ none → length (bookOf bytes .engagements) ≤ 512
 unfolding bookOf
@@ -138,23 +147,38 @@ pub settling-small : (bytes : List ℕ) (lent : ℕ) → AllSmall (settlingRefus
 unfolding settlingRefusal
 settling-small bytes lent = small-else (bookRefusal bytes) _ (book-small bytes) (λ e. small-unless (leb (rowWidth * rowCount (bookOf bytes)) lent) 10 none (omega arith) (λ f. tt))
 
--- ---- the codes of the calls' answers
+-- ---- the calls' answers
 
-module _ (bytes : List ℕ) (lent left : List ℤ) where
-  settle-by : (x : Option Refusal) → settlingRefusal bytes (length lent) ≡ x → (count : ℕ) → Rows count ≡ answerBy x (rowCount (bookOf bytes)) → count ≡ coded x (rowCount (bookOf bytes))
-  settle-by none e count h = cc
-  settle-by (some r) e count h = let z : _≡_ {A = ℕ} 0 1 = cc in absurd (omega arith)
+settled-small : (x : Option Refusal) (count : ℕ) → AllSmall x → SettledSmall (answerBy x count)
+settled-small none count h = tt
+settled-small (some r) count h = h
 
-  pub settle-accepted : (count : ℕ) → SettleCall bytes lent (Rows count) left → SettleCoded bytes lent count left
-  settle-accepted count s = record { answered = settle-by (settlingRefusal bytes (length lent)) refl count (s .answered); filled = s .filled }
+pub settle-small : {bytes : List ℕ} {lent left : List ℤ} {answer : Settled} → SettleCall bytes lent answer left → SettledSmall answer
+settle-small {bytes} {lent} s = rw (s .answered) (settled-small (settlingRefusal bytes (length lent)) (rowCount (bookOf bytes)) (settling-small bytes (length lent)))
 
-  refused-by : (x : Option Refusal) → AllSmall x → (n i : ℕ) → Refused n i ≡ answerBy x (rowCount (bookOf bytes)) → (refusalCode n i ≡ coded x (rowCount (bookOf bytes))) × (n ≤ 13) × (i ≤ 512)
-  refused-by none k n i h = let z : _≡_ {A = ℕ} 0 1 = cc in absurd (omega arith)
-  refused-by (some r) k n i h = let f : n ≡ r .number = cc in let g : i ≡ r .item = cc in (rw (f, g), omega (arith, k .number), omega (arith, k .item))
+-- writing from rows: 12, 13, 12 and 10
+verdict-small : {A : Type 0} (t : Bool) (number item : ℕ) (later : Verdict A) → Small number item → VerdictSmall later → VerdictSmall (judge t number item later)
+verdict-small true number item later h k = k
+verdict-small false number item later h k = h
 
-  module _ (n i : ℕ) (s : SettleCall bytes lent (Refused n i) left) where
-    pub settle-small : (n ≤ 13) × (i ≤ 512)
-    settle-small = let r = refused-by (settlingRefusal bytes (length lent)) (settling-small bytes (length lent)) n i (s .answered) in (r .1, r .2)
+written-small : (v : Verdict (List ℕ)) → VerdictSmall v → WrittenSmall (writeSays v)
+unfolding writeSays
+written-small (accepted bytes) h = tt
+written-small (sent number item) h = h
 
-    pub settle-refused : SettleCoded bytes lent (refusalCode n i) left
-    settle-refused = record { answered = refused-by (settlingRefusal bytes (length lent)) (settling-small bytes (length lent)) n i (s .answered) .0; filled = s .filled }
+few : (number item : ℕ) → number ≤ 13 → item ≤ 512 → Small number item
+few number item h k = record { number-few = h; item-few = k }
+
+verdict-written : (kind : Option Kind) (receiver year month : ℕ) (rows id moment : List ℕ) (lent : ℕ) → VerdictSmall (writeVerdict kind receiver year month rows id moment lent)
+unfolding writeVerdict fitting
+verdict-written none receiver year month rows id moment lent = few 12 0 (omega arith) (omega arith)
+verdict-written (some kind) receiver year month rows id moment lent =
+    let bytes = messageBytes (rowsMessage kind receiver year month rows id moment) in
+    verdict-small (isRows kind receiver year month rows) 13 0 _ (few 13 0 (omega arith) (omega arith))
+    (verdict-small (isTransactionId id && isMoment moment) 12 0 _ (few 12 0 (omega arith) (omega arith))
+    (verdict-small (leb (length bytes) lent) 10 1 (accepted bytes) (few 10 1 (omega arith) (omega arith)) tt))
+
+pub write-small : {kind receiver year month : ℕ} {rows id moment before after : List ℕ} {r : WriteAnswer} → WriteCalled kind receiver year month rows id moment before after r → WrittenSmall r
+write-small {kind} {receiver} {year} {month} {rows} {id} {moment} {before} w =
+    let v = writeVerdict (kindNumbered kind) receiver year month rows id moment (length before) in
+    rw (w .answer) (written-small v (verdict-written (kindNumbered kind) receiver year month rows id moment (length before)))
