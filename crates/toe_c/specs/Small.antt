@@ -1,0 +1,19 @@
+-- Numbers and items so small that their code doesn't wrap and that no two refusals share one.
+use Prim.Native.Nat.{ℕ, _≤_}
+use Rattle.message.specs.declared.WriteAnswer.{WriteAnswer}
+use Rattle.message.specs.declared.WriteAnswer.the-variants.{Bytes, Refused as WriteRefused}
+use Rattle.settlement.specs.declared.settle.Settled.{Settled}
+use Rattle.settlement.specs.declared.settle.Settled.the-variants.{Rows, Refused as SettleRefused}
+
+-- "1" to "13"; rows and points are counted from 0 to 511
+pub record Small (number item : ℕ) : Type 0 where
+  pub number-few : number ≤ 13
+  pub item-few : item ≤ 512
+
+abbrev pub SettledSmall : Settled → Type 0
+SettledSmall (Rows count) = Unit {0}
+SettledSmall (SettleRefused number item) = Small number item
+
+abbrev pub WrittenSmall : WriteAnswer → Type 0
+WrittenSmall (Bytes count) = Unit {0}
+WrittenSmall (WriteRefused number item) = Small number item
