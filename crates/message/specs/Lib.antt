@@ -18,3 +18,4 @@ pub mod MessageForm
 pub mod FileLaws
 pub mod Calls
 pub mod CallsLaws
+pub mod CaseFRead

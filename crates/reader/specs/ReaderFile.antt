@@ -1,5 +1,5 @@
 -- How the judge reads a file: its root and moment, and what month and rows its partners give.
-use mathlib.Core.Path.{_≡_, refl, sym, ap, _∙_, subst}
+use mathlib.Core.Path.{_≡_, refl, sym, ap, _∙_}
 use mathlib.Core.Bool.{Bool, true, false}
 use mathlib.Core.List.{List, [], _∷_, _++_, map, flatMap}
 use Prim.Native.Nat.{ℕ, zero, suc, _+_, _≤_, _<_}
@@ -28,12 +28,15 @@ use Rattle.message.specs.Valid.{isMoment, monthOf, periods, firstOf, IsFile}
 use Rattle.message.specs.Group.{spread}
 use Rattle.message.specs.Rows.{Row, seriesRows, partnerRows, rowsOf}
 use Rattle.message.specs.SeriesListForm.{after}
-use Rattle.message.specs.FileForm.{roots, kindOf, kindForm, partnersForm, fileBody}
+use Rattle.message.specs.FileForm.{Parts, roots, kindOf, kindForm, partnersForm, fileBody}
 use Rattle.message.specs.ObservationForm.{plainNumber}
-use Rattle.reader.specs.Reading.{parsed-no}
-use Rattle.reader.specs.ReaderItems.{viewed, view-bad, folded}
+use Rattle.reader.specs.ReaderItems.{unview, folded}
 use Rattle.reader.specs.ReaderSeries.{counting}
 use Rattle.reader.specs.ReaderPartners.{adding}
+use Rattle.reader.specs.ReaderPlaces.{Placed, placed}
+use Rattle.reader.specs.Filling.{Fills, rowsOfPartner}
+use Rattle.reader.specs.FillingLaws.{began, fills-within}
+use Rattle.reader.specs.FillingParts.{rows-filled}
 
 -- ---- the root
 
@@ -97,23 +100,6 @@ module _ (s : List ℕ) (p : ℕ) where
 
 -- ---- the file
 
--- the contents behind what is kept of a reading; where it isn't there, any
-pub record Unviewed {A B : Type 0} (view : A → B) (f : List ℕ → Res A) (s : List ℕ) (m r : Mark) (b : B) : Type 0 where
-  pub value : A
-  pub parsed : Parsed f s m r value
-  pub is : (q : ℕ) → r ≡ At q → view value ≡ b
-
-no-at : (q : ℕ) → No ≡ At q → ⊥
-no-at q e = let z : _≡_ {A = ℕ} 0 1 = cc in omega arith
-
-pub unview : {A B : Type 0} (view : A → B) (none : A) (f : List ℕ → Res A) (s : List ℕ) (m r : Mark) (b : B) → Parsed (mapParse view f) s m r b → Unviewed view f s m r b
-unview view none f s No No b p = record { value = none; parsed = parsed-no f s none; is = λ q e. absurd (no-at q e) }
-unview view none f s No (At q) b p = absurd (got-bad (sym (p .run .run)))
-unview view none f s (At n) No b p = record { value = none; parsed = not-there f s n none (view-bad view f (drop n s) (p .run .run)); is = λ q e. absurd (no-at q e) }
-unview view none f s (At n) (At q) b p =
-    let a = viewed view f (drop n s) b (drop q s) (p .run .run) in
-    record { value = a .0; parsed = parsed f s n (a .0) q (a .1 .0) (p .within); is = λ k e. a .1 .1 }
-
 module _ (s : List ℕ) {m a b c d e f g h i j l o : Mark} {k : Kind} {id moment : List ℕ} {receiver n : ℕ} {partners : List Partner} where
   pub file-parsed : Parsed (kindForm .parse) s m a k → Parsed (strip (opening "TransactionID")) s a b tt → Parsed (nameParse nameByte 1 36 60) s b c id
       → Parsed (strip (ending "TransactionID" ++ opening "MessageCreateDateTime")) s c d tt → Parsed (exactlyParse 29 isMoment) s d e moment
@@ -129,17 +115,13 @@ module _ (s : List ℕ) {m a b c d e f g h i j l o : Mark} {k : Kind} {id moment
         within = q₁ .within;
       }
 
--- a file was read from the first byte to the mark o: of its kind and receiver, its ID at the mark b, its moment at d, its partners of the month and rows t
-pub record Filed (s : List ℕ) (o : Mark) (k : Kind) (receiver : ℕ) (t : (ℕ × ℕ) × ℕ) (b d : Mark) : Type 0 where
+-- a file was read from the first byte to the mark o: of its kind and receiver, its ID from the mark b to c, its moment at d, its partners of the month and rows t
+pub record Filed (s : List ℕ) (o : Mark) (k : Kind) (receiver : ℕ) (t : (ℕ × ℕ) × ℕ) (b c d : Mark) : Type 0 where
   pub count : ℕ
   pub partners : List Partner
   pub parsed : Parsed (fileBody .parse) s (At 0) o (k, (span nameByte (left s b), (take 29 (left s d), (receiver, (count, partners)))))
   pub is : (q : ℕ) → o ≡ At q → folded adding ((0, 0), 0) partners ≡ t
-
--- what stands behind a place that is missing is missing
-before-tag : (t s : List ℕ) (l : Mark) (q : ℕ) → Parsed (strip t) s l (At q) tt → (p : ℕ) × (l ≡ At p)
-before-tag t s No q p = absurd (got-bad (sym (p .run .run)))
-before-tag t s (At n) q p = (n, refl)
+  pub places : (q : ℕ) → o ≡ At q → Placed k (span nameByte (left s b)) b c d
 
 module _ (s : List ℕ) {a b c d e f g h i j l o : Mark} {k : Kind} {receiver n : ℕ} {t : (ℕ × ℕ) × ℕ} where
   pub filed : Parsed (kindForm .parse) s (At 0) a k → Parsed (strip (opening "TransactionID")) s a b tt → Parsed (nameParse nameByte 1 36 60) s b c (span nameByte (left s b))
@@ -147,7 +129,7 @@ module _ (s : List ℕ) {a b c d e f g h i j l o : Mark} {k : Kind} {receiver n 
       → Parsed (strip (closing "MessageCreateDateTime" ++ opening "ReceiverID")) s e f tt → Parsed (fixedDigits 10 .parse) s f g receiver
       → Parsed (strip (closing "ReceiverID" ++ opening (counter k))) s g h tt → Parsed (plainNumber .parse) s h i n → Parsed (strip (ending (counter k))) s i j tt
       → Parsed (mapParse (folded adding ((0, 0), 0)) (partnersForm k n .parse)) s j l t → Parsed (strip (closing (root k))) s l o tt
-      → Filed s o k receiver t b d
+      → Filed s o k receiver t b c d
   filed p₀ p₁ p₂ p₃ p₄ p₅ p₆ p₇ p₈ p₉ q₀ q₁ =
       let u = unview (folded adding ((0, 0), 0)) [] (partnersForm k n .parse) s j l t q₀ in
       record {
@@ -155,9 +137,26 @@ module _ (s : List ℕ) {a b c d e f g h i j l o : Mark} {k : Kind} {receiver n 
         partners = u .value;
         parsed = file-parsed s p₀ p₁ p₂ p₃ p₄ p₅ p₆ p₇ p₈ p₉ (u .parsed) q₁;
         is = λ q e.
-            let z = before-tag (closing (root k)) s l q (subst (λ (w : Mark). Parsed (strip (closing (root k))) s l w tt) e q₁) in
-            u .is (z .0) (z .1);
+            let z = began (strip (closing (root k))) s l o tt q q₁ e in
+            u .is (z .0) (z .1 .0);
+        places = placed s p₀ p₁ p₂ p₃ p₄ p₅ p₆ p₇ p₈ p₉ q₀ q₁;
       }
+
+-- the rows of the parts of a file
+abbrev pub rowsOfParts : Parts → List Row
+rowsOfParts p = rowsOf (p .1 .1 .1 .1 .1)
+
+module _ (s : List ℕ) {a b c d e f g h i j l o : Mark} {k : Kind} {receiver n : ℕ} {t : (ℕ × ℕ) × ℕ} {before after : List ℕ} where
+  pub filed-fills : Parsed (kindForm .parse) s (At 0) a k → Parsed (strip (opening "TransactionID")) s a b tt → Parsed (nameParse nameByte 1 36 60) s b c (span nameByte (left s b))
+      → Parsed (strip (ending "TransactionID" ++ opening "MessageCreateDateTime")) s c d tt → Parsed (exactlyParse 29 isMoment) s d e (take 29 (left s d))
+      → Parsed (strip (closing "MessageCreateDateTime" ++ opening "ReceiverID")) s e f tt → Parsed (fixedDigits 10 .parse) s f g receiver
+      → Parsed (strip (closing "ReceiverID" ++ opening (counter k))) s g h tt → Parsed (plainNumber .parse) s h i n → Parsed (strip (ending (counter k))) s i j tt
+      → Parsed (mapParse (folded adding ((0, 0), 0)) (partnersForm k n .parse)) s j l t → Parsed (strip (closing (root k))) s l o tt
+      → Fills (partnersForm k n .parse) (flatMap rowsOfPartner) s j 0 before after → Fills (fileBody .parse) rowsOfParts s (At 0) 0 before after
+  filed-fills p₀ p₁ p₂ p₃ p₄ p₅ p₆ p₇ p₈ p₉ q₀ q₁ fills =
+      let u = unview (folded adding ((0, 0), 0)) [] (partnersForm k n .parse) s j l t q₀ in
+      fills-within (partnersForm k n .parse) (fileBody .parse) rowsOfParts (closing (root k)) (u .value) (k, (span nameByte (left s b), (take 29 (left s d), (receiver, (n, u .value)))))
+      fills (file-parsed s p₀ p₁ p₂ p₃ p₄ p₅ p₆ p₇ p₈ p₉ (u .parsed) q₁) (u .parsed) q₁ (λ q e. sym (rows-filled (u .value)))
 
 -- ---- month and rows of the partners
 

@@ -1,12 +1,12 @@
 -- The sheet call and the file call: their answers, and every buffer afterwards (document 01, "What is sent back").
 use mathlib.Core.Path.{_≡_}
 use mathlib.Core.Bool.{Bool, cond, _&&_}
-use mathlib.Core.List.{List, [], _++_}
+use mathlib.Core.List.{List, []}
 use mathlib.Core.Option.{Option, none, some}
 use Prim.Native.Nat.{ℕ, zero, suc, _*_}
 use lib.Dec.{leb}
 use lib.IntN.{ℤ}
-use lib.ListN.{length, drop}
+use lib.ListN.{length}
 use Rattle.integers.specs.Counts.{times}
 use Rattle.moments.specs.Ids.{isTransactionId}
 use Rattle.book.specs.Book.{Book, bookOf}
@@ -16,6 +16,7 @@ use Rattle.volumes.specs.Settlement.{rowWidth, rows, rowCount, orElse, bookRefu
 use Rattle.volumes.specs.Sheets.{parties, sheet}
 use Rattle.volumes.specs.Series.{Kind, Toe01, Toe02, Toe03}
 use Rattle.message.specs.Valid.{isMoment}
+unfoldable pub use Rattle.message.specs.Calls.{over}
 use Rattle.reports.specs.FileRows.{fileText}
 use Rattle.reports.specs.Roles.{receivers}
 use Rattle.reports.specs.declared.SheetAnswer.{SheetAnswer}
@@ -28,9 +29,6 @@ unfoldable pub stands : ℕ → List ℕ → Bool
 stands x column = leb 1 (times x column)
 
 -- "A refusal changes no buffer; an acceptance changes only the places of its answer."
-unfoldable pub over : {A : Type 0} → List A → List A → List A
-over new old = new ++ drop (length new) old
-
 unfoldable pub afterwards : {A : Type 0} → Option Refusal → List A → List A → List A
 afterwards none new old = over new old
 afterwards (some r) new old = old

@@ -6,8 +6,7 @@ use mathlib.Core.Option.{Option, none, some}
 use Prim.Native.Nat.{ℕ, zero, suc, _*_, _≤_}
 use native.Mathlib.Omega.{arith}
 use lib.Dec.{leb}
-use lib.ListN.{length, take, drop}
-use lib.Seq.{take-at}
+use lib.ListN.{length}
 use borrow.Author.Tests.{leb-true, le-leb}
 use Rattle.integers.specs.Counts.{times, mem-times, times-mem}
 use Rattle.integers.specs.Tests.{both}
@@ -19,9 +18,10 @@ use Rattle.volumes.specs.Settlement.{rowWidth, rowCount, orElse, bookRefusal}
 use Rattle.volumes.specs.Sheets.{parties}
 use Rattle.volumes.specs.Series.{Kind, Toe01, Toe02, Toe03}
 use Rattle.message.specs.Valid.{isMoment}
+pub use Rattle.message.specs.CallsLaws.{over-first}
 use Rattle.reports.specs.FileRows.{fileText}
 use Rattle.reports.specs.Roles.{receivers}
-use Rattle.reports.specs.Calls.{stands, over, afterwards, sheetRefusal, sheetSays, sheetAnswer, kindOf, textOf, shortRefusal, askedRefusal, fileRefusal, fileSays, fileAnswer}
+use Rattle.reports.specs.Calls.{stands, afterwards, sheetRefusal, sheetSays, sheetAnswer, kindOf, textOf, shortRefusal, askedRefusal, fileRefusal, fileSays, fileAnswer}
 use Rattle.reports.specs.declared.SheetAnswer.the-variants.{Sheet}
 use Rattle.reports.specs.declared.FileAnswer.the-variants.{File}
 use Rattle.reports.specs.Demand3.{isSheet, isFile, kindNumber, written}
@@ -33,11 +33,6 @@ stands-mem x l e = times-mem x l (leb-true 1 (times x l) e)
 pub mem-stands : (x : ℕ) (l : List ℕ) → List·Memᴰ x l → stands x l ≡ true
 unfolding stands
 mem-stands x l m = le-leb 1 (times x l) (mem-times x l m)
-
--- the first places of a buffer that was written over
-pub over-first : {A : Type 0} (new old : List A) (n : ℕ) → length new ≡ n → take n (over new old) ≡ new
-unfolding over
-over-first new old n e = take-at new (drop (length new) old) n e
 
 -- a refusal that did not come
 never : (r : Refusal) → some r ≡ none → ⊥

@@ -5,6 +5,7 @@ pub mod WriteCalls
 pub mod WriteCallsLaws
 pub mod RoundTrip
 pub mod RoundTripLaws
+pub mod CaseFWritten
 pub mod WriterSteps
 pub mod WriterRuns
 pub mod WriterRunsLaws

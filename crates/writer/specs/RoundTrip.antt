@@ -7,7 +7,7 @@ use Rattle.message.specs.declared.FileFacts.{FileFacts}
 use Rattle.message.specs.declared.ReadAnswer.{ReadAnswer}
 use Rattle.message.specs.declared.ReadAnswer.the-variants.{File, Refused}
 use Rattle.message.specs.declared.WriteAnswer.{WriteAnswer}
-use Rattle.message.specs.declared.WriteAnswer.the-variants.{Bytes}
+use Rattle.message.specs.declared.WriteAnswer.the-variants.{Bytes, Refused as WriteRefused}
 use Rattle.message.specs.Calls.{kindNumber, ReadCalled}
 use Rattle.writer.specs.WriteCalls.{WriteCalled}
 
@@ -47,14 +47,21 @@ ReadIsWritten =
     → length file ≤ length before
     → (r ≡ Bytes (length file)) × (take (length file) after ≡ file)
 
--- what reading refuses as no file is never written
-abbrev pub NoFileIsWritten : Type 0
-NoFileIsWritten =
+-- "not a file": what reading refuses with 13 is never written
+abbrev pub NoFile : Type 0
+NoFile =
     (file lent filled : List ℕ) → ReadCalled file lent filled (Refused 13 0)
     → (kind receiver year month : ℕ) (rows id moment before after : List ℕ) (n : ℕ) → WriteCalled kind receiver year month rows id moment before after (Bytes n)
     → take n after ≡ file → ⊥
 
+-- "rows, receiver, year or month that no file has give 13": what writing refuses with 13 is never read, whatever the file's own ID and moment
+abbrev pub NoRows : Type 0
+NoRows =
+    (kind receiver year month : ℕ) (rows id moment before after : List ℕ) → WriteCalled kind receiver year month rows id moment before after (WriteRefused 13 0)
+    → (file lent filled ownId ownMoment : List ℕ) (r : ReadAnswer) → ReadCalled file lent filled r → GivesBack kind receiver year month rows ownId ownMoment file filled r → ⊥
+
 pub record RoundTrip : Type 0 where
   pub written : WrittenIsRead
   pub read : ReadIsWritten
-  pub never : NoFileIsWritten
+  pub no-file : NoFile
+  pub no-rows : NoRows

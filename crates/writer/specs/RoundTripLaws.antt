@@ -10,6 +10,7 @@ use native.Mathlib.Omega.{arith}
 use Rattle.formats.specs.Format.{got}
 use Rattle.formats.specs.FormatLaws.{got-bad}
 use Rattle.formats.specs.Rising.{and-left, and-right, and-both}
+use Rattle.text.specs.DecimalLaws.{true-false}
 use Rattle.message.specs.declared.Kind.{Kind}
 use Rattle.message.specs.declared.Kind.the-variants.{Toe01, Toe02, Toe03}
 use Rattle.message.specs.declared.FileFacts.{FileFacts}
@@ -25,8 +26,8 @@ use Rattle.message.specs.CallsLaws.{kind-numbered, over-first, called-file, Acc
 use Rattle.writer.specs.WriterRows.{isRows, ofMonth, rowsMessage}
 use Rattle.writer.specs.WriterRowsLaws.{rows-message, message-rows}
 use Rattle.writer.specs.WriteCalls.{WriteCalled}
-use Rattle.writer.specs.WriteCallsLaws.{WriteAccepted, write-accepted, wrote-file, one-write}
-use Rattle.writer.specs.RoundTrip.{idIn, momentIn, GivesBack, RoundTrip}
+use Rattle.writer.specs.WriteCallsLaws.{WriteAccepted, write-accepted, wrote-file, refused-rows, one-write}
+use Rattle.writer.specs.RoundTrip.{idIn, momentIn, GivesBack, NoRows, RoundTrip}
 
 -- a number's kind has that number
 number-kind : (n : ℕ) (k : Kind) → kindNumbered n ≡ some k → kindNumber k ≡ n
@@ -97,16 +98,22 @@ module _ (m : Message) (ok : IsMessage m) where
   again-judged =
       message-rows (m .kind) (m .receiver) (m .year) (m .month) (numbers (m .rows)) (m .id) (m .moment) (numbers-sixes (m .rows)) (subst IsMessage (sym again-is) ok)
 
+  pub message-written : (before : List ℕ) → length (messageBytes m) ≤ length before
+      → WriteCalled (kindNumber (m .kind)) (m .receiver) (m .year) (m .month) (numbers (m .rows)) (m .id) (m .moment) before (over (messageBytes m) before) (Bytes (length (messageBytes m)))
+  unfolding contents
+  message-written before h =
+      let e : messageBytes again ≡ messageBytes m = ap messageBytes again-is in
+      let w = wrote-file (kindNumber (m .kind)) (m .receiver) (m .year) (m .month) (numbers (m .rows)) (m .id) (m .moment) before (m .kind) (kind-numbered (m .kind)) again-judged
+      (and-both (ok .file .id) (ok .file .moment)) (omega (arith, ap length e)) in
+      subst
+      (λ (l : List ℕ). WriteCalled (kindNumber (m .kind)) (m .receiver) (m .year) (m .month) (numbers (m .rows)) (m .id) (m .moment) before (over l before) (Bytes (length l)))
+      e w
+
   again-written : (before after : List ℕ) (r : WriteAnswer) → WriteCalled (kindNumber (m .kind)) (m .receiver) (m .year) (m .month) (numbers (m .rows)) (m .id) (m .moment) before after r
       → length (messageBytes m) ≤ length before → (r ≡ Bytes (length (messageBytes m))) × (take (length (messageBytes m)) after ≡ messageBytes m)
-  unfolding contents
   again-written before after r c h =
-      let e : messageBytes again ≡ messageBytes m = ap messageBytes again-is in
-      let d = one-write c (wrote-file (kindNumber (m .kind)) (m .receiver) (m .year) (m .month) (numbers (m .rows)) (m .id) (m .moment) before (m .kind) (kind-numbered (m .kind)) again-judged
-      (and-both (ok .file .id) (ok .file .moment)) (omega (arith, ap length e))) in (
-        d .0 ∙ ap (λ (l : List ℕ). Bytes (length l)) e,
-        ap (take (length (messageBytes m))) (d .1 ∙ ap (λ (l : List ℕ). over l before) e) ∙ over-first (messageBytes m) before (length (messageBytes m)) refl,
-      )
+      let d = one-write c (message-written before h) in
+      (d .0, ap (take (length (messageBytes m))) (d .1) ∙ over-first (messageBytes m) before (length (messageBytes m)) refl)
 
 module _ (file lent filled : List ℕ) (facts : FileFacts) (a : Accepted file lent filled facts) where
   abbrev found : Message
@@ -144,7 +151,28 @@ module _ (file lent filled : List ℕ) (facts : FileFacts) (a : Accepted file le
       subst (λ (s : List ℕ). (r ≡ Bytes (length s)) × (take (length s) after ≡ s)) (sym (found-is .0))
       (again-written found (found-is .1) before after r e (omega (arith, ap length (found-is .0))))
 
+  -- such rows are never refused
+  found-judged : (number receiver year month : ℕ) (rows : List ℕ) → kindNumber (facts .kind) ≡ number → facts .receiver ≡ receiver → facts .year ≡ year → facts .month ≡ month
+      → take (6 * facts .rows) filled ≡ rows → (kindNumbered number ≡ some (found .kind)) × (isRows (found .kind) receiver year month rows ≡ true)
+  unfolding factsOf
+  found-judged number receiver year month rows k v y m l =
+      let says = a .says in
+      let k′ : kindNumber (found .kind) ≡ number = sym (ap (λ (f : FileFacts). kindNumber (f .kind)) says) ∙ k in
+      let v′ : found .receiver ≡ receiver = sym (ap (λ (f : FileFacts). f .receiver) says) ∙ v in
+      let y′ : found .year ≡ year = sym (ap (λ (f : FileFacts). f .year) says) ∙ y in
+      let m′ : found .month ≡ month = sym (ap (λ (f : FileFacts). f .month) says) ∙ m in
+      let l′ : numbers (found .rows) ≡ rows = sym found-rows ∙ l in (
+        sym (ap kindNumbered k′) ∙ kind-numbered (found .kind),
+        sym (λ i. isRows (found .kind) (v′ i) (y′ i) (m′ i) (l′ i)) ∙ again-judged found (found-is .1),
+      )
+
 -- ---- both ways
+
+never-read : NoRows
+never-read number receiver year month rows id moment before after w file lent filled ownId ownMoment r c g =
+    let d = subst (ReadCalled file lent filled) (g .answer) c in
+    let j = found-judged file lent filled (g .facts) (accepted-is file lent filled (g .facts) d) number receiver year month rows (g .same-kind) (g .same-receiver) (g .same-year) (g .same-month) (g .same-rows) in
+    true-false (sym (j .1) ∙ refused-rows number receiver year month rows id moment before after (accepted-is file lent filled (g .facts) d .message .kind) w (j .0))
 
 pub round-trip : RoundTrip
 round-trip =
@@ -152,7 +180,8 @@ round-trip =
       written = λ number receiver year month rows id moment before after n c lent filled r d h.
           gives-back number receiver year month rows id moment before after n (write-accepted number receiver year month rows id moment before after n c) lent filled r d h;
       read = λ file lent filled facts c before after r d h. found-written file lent filled facts (accepted-is file lent filled facts c) before after r d h;
-      never = λ file lent filled c number receiver year month rows id moment before after n d e.
+      no-file = λ file lent filled c number receiver year month rows id moment before after n d e.
           let a = write-accepted number receiver year month rows id moment before after n d in
           got-bad (sym (made-read number receiver year month rows id moment before after n a) ∙ ap readMessage e ∙ refused-is file lent filled c);
+      no-rows = never-read;
     }

@@ -1,5 +1,5 @@
 -- What each answer of writing from rows needs, and what the answer shows.
-use mathlib.Core.Path.{_≡_, refl, sym, _∙_}
+use mathlib.Core.Path.{_≡_, refl, sym, ap, _∙_}
 use mathlib.Core.Bool.{Bool, true, false, _&&_}
 use mathlib.Core.List.{List}
 use mathlib.Core.Option.{Option, none, some}
@@ -93,6 +93,22 @@ module _ (number receiver year month : ℕ) (rows id moment before after : List 
 
   pub write-accepted : WriteCalled number receiver year month rows id moment before after (Bytes n) → WriteAccepted number receiver year month rows id moment before after n
   write-accepted c = taken-call (kindNumbered number) refl (c .answer) (c .file)
+
+-- 13 is answered of rows that are no file's only
+module _ (number receiver year month : ℕ) (rows id moment before after : List ℕ) (kind : Kind) where
+  no-rows : (a b c : Bool) (bytes : List ℕ) → Refused 13 0 ≡ writeSays (unless a 13 0 (unless b 12 0 (unless c 10 1 (accepted bytes)))) → a ≡ false
+  unfolding writeSays
+  no-rows false b c bytes e = refl
+  no-rows true false c bytes e = let z : _≡_ {A = ℕ} 13 12 = cc in absurd (omega arith)
+  no-rows true true false bytes e = let z : _≡_ {A = ℕ} 13 10 = cc in absurd (omega arith)
+  no-rows true true true bytes e = let z : _≡_ {A = ℕ} 0 1 = cc in absurd (omega arith)
+
+  pub refused-rows : WriteCalled number receiver year month rows id moment before after (Refused 13 0) → kindNumbered number ≡ some kind → isRows kind receiver year month rows ≡ false
+  unfolding writeVerdict fitting
+  refused-rows c k =
+      let bytes = messageBytes (rowsMessage kind receiver year month rows id moment) in
+      no-rows (isRows kind receiver year month rows) (isTransactionId id && isMoment moment) (leb (length bytes) (length before)) bytes
+      (c .answer ∙ ap (λ (o : Option Kind). writeSays (writeVerdict o receiver year month rows id moment (length before))) k)
 
 -- ---- one call has one answer
 

@@ -1,7 +1,7 @@
--- The parts one after the other.
+-- The parts one after the other; the partners fill the rows.
 use Rattle.text.specs.Ascii.{bytes}
 use Rattle.message.specs.Bytes.{opening, ending, closing}
-use Rattle.reader.specs.ReaderFile.{filed}
+use Rattle.reader.specs.ReaderFile.{filed, filed-fills}
 use borrow.Author.Needs.{needs}
 use Rattle.reader.proofs.file.file_read.Statement.{statement}
 use Rattle.reader.proofs.file.file_read.Tie as tie
@@ -51,22 +51,15 @@ partners-requires c κs = search needs
 root-end-requires : tie.Need-root-end-requires
 root-end-requires c κs = search needs
 
+same-length : tie.Need-same-length
+same-length c = search needs
+
 returns : tie.Need-returns
 unfolding opening ending closing bytes
 returns c =
-    filed (c .before .before .before .before .before .before .before .before .before .before .before .before .before .before .before .before .args .s .now)
-    (c .before .before .before .before .before .before .before .before .before .before .before .before .before .before .file-root .ensures)
-    (c .before .before .before .before .before .before .before .before .before .before .before .before .tag .ensures)
-    (c .before .before .before .before .before .before .before .before .before .before .before .name .ensures)
-    (c .before .before .before .before .before .before .before .before .before .tag2 .ensures)
-    (c .before .before .before .before .before .before .before .before .file-moment .ensures)
-    (c .before .before .before .before .before .before .tag3 .ensures)
-    (c .before .before .before .before .before .fixed .ensures)
-    (c .before .before .before .before .receiver-end .ensures)
-    (c .before .before .before .number .ensures)
-    (c .before .before .counter-end .ensures)
-    (c .before .partners .ensures .0)
-    (c .root-end .ensures)
+    let s = c .before .before .before .before .before .before .before .before .before .before .before .before .before .before .before .before .before .before .before .before .args .s .now in
+    let n = c .before .before .before .partners .ensures in
+    (filed s (c .before .before .before .before .before .before .before .before .before .before .before .before .before .before .before .before .before .file-root .ensures) (c .before .before .before .before .before .before .before .before .before .before .before .before .before .before .before .tag .ensures) (c .before .before .before .before .before .before .before .before .before .before .before .before .before .before .name .ensures) (c .before .before .before .before .before .before .before .before .before .before .before .before .tag2 .ensures) (c .before .before .before .before .before .before .before .before .before .before .before .file-moment .ensures) (c .before .before .before .before .before .before .before .before .before .tag3 .ensures) (c .before .before .before .before .before .before .before .before .fixed .ensures) (c .before .before .before .before .before .before .before .receiver-end .ensures) (c .before .before .before .before .before .before .number .ensures) (c .before .before .before .before .before .counter-end .ensures) (n .0) (c .root-end .ensures), filed-fills s (c .before .before .before .before .before .before .before .before .before .before .before .before .before .before .before .before .before .file-root .ensures) (c .before .before .before .before .before .before .before .before .before .before .before .before .before .before .before .tag .ensures) (c .before .before .before .before .before .before .before .before .before .before .before .before .before .before .name .ensures) (c .before .before .before .before .before .before .before .before .before .before .before .before .tag2 .ensures) (c .before .before .before .before .before .before .before .before .before .before .before .file-moment .ensures) (c .before .before .before .before .before .before .before .before .before .tag3 .ensures) (c .before .before .before .before .before .before .before .before .fixed .ensures) (c .before .before .before .before .before .before .before .receiver-end .ensures) (c .before .before .before .before .before .before .number .ensures) (c .before .before .before .before .before .counter-end .ensures) (n .0) (c .root-end .ensures) (n .2))
 
 pub file-read-spec : {M : Type 1} → statement M
 file-read-spec =
@@ -87,4 +80,5 @@ file-read-spec =
     counter-end-requires
     partners-requires
     root-end-requires
+    same-length
     returns)
