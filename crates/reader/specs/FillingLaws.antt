@@ -1,7 +1,7 @@
 -- How the parts of a file fill the rows: one behind the other, and a part within another.
 use mathlib.Core.Path.{_≡_, refl, sym, ap, _∙_, subst}
 use mathlib.Core.Bool.{Bool, true, false}
-use mathlib.Core.List.{List, [], _∷_, _++_, append-assoc, append-nil, flatMap}
+use mathlib.Core.List.{List, [], _∷_, _++_, append-assoc, flatMap}
 use Prim.Native.Nat.{ℕ, suc, _+_, _-_, _*_, _/_, _≤_, _<_}
 use lib.ListN.{length, drop, set, length-append, length-set}
 use lib.Seq.{sets, sets-eq}
@@ -66,15 +66,6 @@ only-got test (got a q) v r e = go (test a) e
 module _ {A : Type 0} {f : List ℕ → Res A} {R : A → List Row} {s : List ℕ} {m : Mark} {k : ℕ} {d o : List ℕ} where
   pub fills-same : (g : List ℕ → Res A) → ((q : List ℕ) → g q ≡ f q) → Fills f R s m k d o → Fills g R s m k d o
   fills-same g h i = record { keeps = i .keeps; wrote = λ p v r e j. i .wrote p v r e (sym (h (drop p s)) ∙ j) }
-
-  -- other names of the same rows
-  pub fills-rows : (Q : A → List Row) → ((a : A) → Q a ≡ R a) → Fills f R s m k d o → Fills f Q s m k d o
-  fills-rows Q h i =
-      record {
-        keeps = i .keeps;
-        wrote = λ p v r e j room.
-            i .wrote p v r e j (subst (λ (l : List Row). 6 * (k + length l) ≤ length d) (h v) room) ∙ ap (λ (l : List Row). written d (6 * k) (numbers l)) (sym (h v));
-      }
 
   -- under a test
   pub fills-only : (test : A → Bool) → Fills f R s m k d o → Fills (onlyParse test f) R s m k d o

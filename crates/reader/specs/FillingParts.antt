@@ -20,7 +20,7 @@ use Rattle.message.specs.declared.Kind.{Kind}
 use Rattle.message.specs.Contents.{Observation, Series, Partner, place}
 use Rattle.message.specs.Bytes.{opening, ending, closing, element, group, supplies, deliveries}
 use Rattle.message.specs.Valid.{lastPosition, monthOf}
-use Rattle.message.specs.Rows.{Row, rowNumbers, numbers, rowsOf, seriesRows, partnerRows}
+use Rattle.message.specs.Rows.{Row, rowNumbers, numbers, rowsOf, seriesRows}
 use Rattle.message.specs.Group.{spread}
 use Rattle.message.specs.ObservationForm.{observation, observations, plainNumber, period}
 use Rattle.message.specs.SeriesForm.{Volume, volumeBody, ofVolume}

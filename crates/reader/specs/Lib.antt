@@ -9,3 +9,4 @@ pub mod FillingParts
 pub mod ReaderPlaces
 pub mod ReaderFile
 pub mod JudgedLaws
+pub mod ReaderFacts

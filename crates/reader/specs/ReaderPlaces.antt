@@ -4,7 +4,7 @@ use mathlib.Core.List.{List, [], _∷_, _++_}
 use Prim.Native.Nat.{ℕ, _+_}
 use lib.ListN.{length, take, length-append}
 use native.Mathlib.Omega.{arith}
-use Rattle.formats.specs.Format.{Res, got, Format}
+use Rattle.formats.specs.Format.{Res, Format}
 use Rattle.formats.specs.FormatLaws.{got-bad}
 use Rattle.formats.specs.Combine.{strip, mapParse}
 use Rattle.formats.specs.Exactly.{exactlyParse, fixedDigits}

@@ -504,20 +504,20 @@ fn root_end(s: &[u8], m: Mark, kind: Kind) -> Mark
 }
 
 // The parts of a file that were read, where its ID starts and ends and its moment starts, and the place behind it.
-struct FileRead {
-    kind: Kind,
-    receiver: u64,
-    year: u64,
-    month: u64,
-    rows: u64,
-    id: Mark,
-    id_end: Mark,
-    moment: Mark,
-    next: Mark,
+pub struct FileRead {
+    pub kind: Kind,
+    pub receiver: u64,
+    pub year: u64,
+    pub month: u64,
+    pub rows: u64,
+    pub id: Mark,
+    pub id_end: Mark,
+    pub moment: Mark,
+    pub next: Mark,
 }
 
 // A file from its first byte on; its rows are the first.
-fn file_read(s: &[u8], out: &mut [u64]) -> FileRead
+pub fn file_read(s: &[u8], out: &mut [u64]) -> FileRead
     ensures { λ r. ⌜ Filed (now (s .entry)) (r .next) (r .kind) (r .receiver) ((r .year, r .month), r .rows) (r .id) (r .«id_end») (r .moment) × Fills (fileBody .parse) rowsOfParts (now (s .entry)) (At 0) 0 (now (out .entry)) (now (out .exit)) ⌝ }
 {
     let r = file_root(s, Mark::At(0));
