@@ -1,6 +1,6 @@
 //! What the proved programs are run on and held to is what this crate makes.
 
-use reference::{book_cases, settle_cases};
+use reference::{book_cases, message_cases, settle_cases};
 
 fn stored(program: &str, name: &str) -> String {
     std::fs::read_to_string(format!("../crates/{program}/{name}")).unwrap()
@@ -18,4 +18,12 @@ fn settle_vectors() {
     let cases = settle_cases::cases_text(&settle_cases::cases());
     assert!(stored("settle_vectors", "stdin") == cases);
     assert!(stored("settle_vectors", "stdout") == settle_cases::answers(&cases));
+}
+
+#[test]
+fn message_vectors() {
+    let (writing, reading) = (message_cases::write_cases_text(), message_cases::read_cases_text());
+    assert!(stored("message_vectors", "stdin") == writing.clone() + &reading);
+    let answers = message_cases::write_answers(&writing) + &message_cases::read_answers(&reading);
+    assert!(stored("message_vectors", "stdout") == answers);
 }
