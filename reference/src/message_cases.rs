@@ -6,7 +6,7 @@ use crate::random::Random;
 
 const ID: &[u8] = b"T-1";
 const MOMENT: &[u8] = b"2021-08-02T09:00:00.000+02:00";
-const LONG_ENOUGH: usize = 100_000;
+const LONG_ENOUGH: usize = 16_000;
 
 /// IDs and moments at both sides of each edge of their forms.
 pub fn ids() -> Vec<Vec<u8>> {
@@ -104,6 +104,8 @@ pub fn moments() -> Vec<Vec<u8>> {
 #[derive(Clone)]
 pub struct WriteCase {
     pub what: String,
+    /// The bytes of the file that the answer shows, if not all.
+    pub part: Option<(usize, usize)>,
     pub kind: u8,
     pub receiver: u64,
     pub year: u64,
@@ -114,10 +116,15 @@ pub struct WriteCase {
     pub numbers: Vec<u64>,
 }
 
-/// One case a line: `KIND RECEIVER YEAR MONTH FILE ID MOMENT COUNT NUMBER ...`.
+/// One case a line: `write KIND RECEIVER YEAR MONTH FILE ID MOMENT COUNT NUMBER ...`, or `part FROM TO` and then the same
+/// words from KIND on.
 pub fn write_cases_text() -> String {
     let mut text = String::new();
     for case in write_cases() {
+        text += &match case.part {
+            None => "write ".to_string(),
+            Some((from, to)) => format!("part {from} {to} "),
+        };
         text += &format!("{} {} {} {}", case.kind, case.receiver, case.year, case.month);
         text += &format!(" {} {} {}", case.file_length, hex_word(&case.id), hex_word(&case.moment));
         text += &format!(" {}", case.numbers.len());
@@ -129,18 +136,25 @@ pub fn write_cases_text() -> String {
     text
 }
 
-/// One line a case: the file's bytes, or `refused NUMBER ITEM`.
+/// One line a case: the file's bytes, or those from byte FROM up to byte TO, or `refused NUMBER ITEM`.
 pub fn write_answers(text: &str) -> String {
     let mut output = String::new();
     for line in text.lines() {
-        let words: Vec<&str> = line.split(' ').collect();
+        let all: Vec<&str> = line.split(' ').collect();
+        let (words, part) = match all[0] {
+            "part" => (&all[3..], Some(all[1].parse().unwrap()..all[2].parse().unwrap())),
+            _ => (&all[1..], None),
+        };
         let number = |index: usize| words[index].parse::<u64>().unwrap();
         let numbers: Vec<u64> = (8..words.len()).map(number).collect();
         assert_eq!(numbers.len() as u64, number(7));
         let (id, moment) = (read_hex_word(words[5]), read_hex_word(words[6]));
         let (kind, file_length) = (number(0) as u8, number(4) as usize);
         output += &match write(kind, number(1), number(2), number(3), &numbers, &id, &moment, file_length) {
-            Ok(file) => String::from_utf8(file).unwrap(),
+            Ok(file) => {
+                let shown = part.map_or(&file[..], |part: std::ops::Range<usize>| &file[part]);
+                String::from_utf8(shown.to_vec()).unwrap()
+            }
             Err(refusal) => format!("refused {} {}", refusal.number, refusal.item),
         };
         output += "\n";
@@ -154,6 +168,7 @@ pub fn write_cases() -> Vec<WriteCase> {
     cases.row_fields();
     cases.row_order();
     cases.months();
+    cases.all_months();
     cases.ids_and_moments();
     cases.buffers();
     cases.order_of_refusals();
@@ -165,6 +180,7 @@ pub fn write_cases() -> Vec<WriteCase> {
 fn base() -> WriteCase {
     WriteCase {
         what: String::new(),
+        part: None,
         kind: 1,
         receiver: 7,
         year: 2021,
@@ -206,10 +222,10 @@ impl WriteCases {
                 case.numbers.clear();
             });
         }
-        for year in [0, 1, 2017, 2018, 2099, 2100, 65535] {
+        for year in [0, 1, 2017, 2018, 2099, 2100, 65535, 65536 + 2021, (1 << 32) + 2021, u64::MAX] {
             self.changed(format!("year {year}"), |case| case.year = year);
         }
-        for month in [0, 13, 255] {
+        for month in [0, 13, 255, 256 + 6, (1 << 32) + 6, u64::MAX] {
             self.changed(format!("month {month}"), |case| case.month = month);
         }
         self.changed("rows with year 0 and month 0", |case| (case.year, case.month) = (0, 0));
@@ -318,6 +334,24 @@ impl WriteCases {
         }
     }
 
+    /// The period of each month, in a file with its last position.
+    fn all_months(&mut self) {
+        for year in 2018..=2099 {
+            for month in 1..=12 {
+                let last = 96 * crate::calendar::month_length(year as i64, month as i64) as u64;
+                self.changed(format!("the period of a month of {year}"), |case| {
+                    case.kind = 1 + (month % 3) as u8;
+                    (case.year, case.month) = (year, month);
+                    case.numbers = vec![3, 0, 0, last, 1, 0];
+                    let file = write(case.kind, 7, year, month, &case.numbers, ID, MOMENT, LONG_ENOUGH).unwrap();
+                    let file = String::from_utf8(file).unwrap();
+                    let from = file.find("<PeriodStart>").unwrap() + "<PeriodStart>".len();
+                    case.part = Some((from, file.find("</PeriodEnd>").unwrap()));
+                });
+            }
+        }
+    }
+
     fn ids_and_moments(&mut self) {
         for id in ids() {
             self.changed(format!("ID {:?}", String::from_utf8_lossy(&id)), |case| {
@@ -336,7 +370,8 @@ impl WriteCases {
     }
 
     fn buffers(&mut self) {
-        for (what, kind, with_rows) in [("two rows", 1, true), ("two rows", 3, true), ("no rows", 2, false)] {
+        let kinds = [1, 2, 3].map(|kind| [("two rows", kind, true), ("no rows", kind, false)]);
+        for (what, kind, with_rows) in kinds.concat() {
             let mut case = base();
             case.kind = kind;
             if !with_rows {
@@ -355,15 +390,18 @@ impl WriteCases {
     }
 
     fn order_of_refusals(&mut self) {
-        let spoil: [(&str, fn(&mut WriteCase)); 4] = [
+        let spoil: [(&str, fn(&mut WriteCase)); 5] = [
             ("kind", |case| case.kind = 4),
             ("rows", |case| case.numbers[4] = 0),
+            ("ID", |case| case.id.clear()),
             ("moment", |case| case.moment[0] = b'3'),
             ("buffer", |case| case.file_length = 0),
         ];
-        for from in 0..4 {
-            self.changed(format!("all bad from {} on", spoil[from].0), |case| {
-                for (_, change) in &spoil[from..] {
+        for set in 0..32 {
+            let bad: Vec<_> = (0..5).filter(|index| set >> index & 1 == 1).map(|index| spoil[index]).collect();
+            let names: Vec<&str> = bad.iter().map(|(name, _)| *name).collect();
+            self.changed(format!("bad: {}", if names.is_empty() { "none".into() } else { names.join(", ") }), |case| {
+                for (_, change) in &bad {
                     change(case);
                 }
             });
@@ -460,6 +498,8 @@ pub struct Edit {
 pub struct ReadGroup {
     pub base: Vec<u8>,
     pub cases: Vec<ReadCase>,
+    /// Whether all changes of single bytes of the base are tried too.
+    pub changes: bool,
 }
 
 fn edited(base: &[u8], edits: &[Edit]) -> Vec<u8> {
@@ -475,18 +515,21 @@ fn edited(base: &[u8], edits: &[Edit]) -> Vec<u8> {
 }
 
 /// A line that starts with `<` is the base of the lines after it. A case is a line
-/// `ROWS START END HEX START END HEX ...`.
+/// `read ROWS START END HEX START END HEX ...`, or `changes`.
 pub fn read_cases_text() -> String {
     let mut text = String::new();
     for group in read_groups() {
         text += std::str::from_utf8(&group.base).unwrap();
         text += "\n";
         for case in group.cases {
-            text += &case.rows_length.to_string();
+            text += &format!("read {}", case.rows_length);
             for edit in case.edits {
                 text += &format!(" {} {} {}", edit.start, edit.end, hex_word(&edit.bytes));
             }
             text += "\n";
+        }
+        if group.changes {
+            text += "changes\n";
         }
     }
     text
@@ -498,51 +541,93 @@ pub fn read_whats() -> Vec<String> {
     for group in read_groups() {
         whats.push("a base".to_string());
         whats.extend(group.cases.into_iter().map(|case| case.what));
+        if group.changes {
+            whats.push("every byte of the base with each of the 256 values".to_string());
+        }
     }
     whats
 }
 
-/// The lengths of the lent rows and the files of a text of cases.
-pub fn read_case_files(text: &str) -> Vec<(usize, Vec<u8>)> {
-    let mut files = Vec::new();
+/// A line of the text of cases.
+enum ReadLine {
+    Case(usize, Vec<u8>),
+    Changes(Vec<u8>),
+}
+
+fn read_lines(text: &str) -> Vec<ReadLine> {
+    let mut lines = Vec::new();
     let mut base: &[u8] = &[];
     for line in text.lines() {
+        let words: Vec<&str> = line.split(' ').collect();
         if line.starts_with('<') {
             base = line.as_bytes();
-            continue;
-        }
-        let words: Vec<&str> = line.split(' ').collect();
-        let edits: Vec<Edit> = words[1..]
-            .chunks(3)
-            .map(|edit| Edit {
+        } else if words[0] == "changes" {
+            lines.push(ReadLine::Changes(base.to_vec()));
+        } else {
+            let edit = |edit: &[&str]| Edit {
                 start: edit[0].parse().unwrap(),
                 end: edit[1].parse().unwrap(),
                 bytes: read_hex_word(edit[2]),
-            })
-            .collect();
-        files.push((words[0].parse().unwrap(), edited(base, &edits)));
+            };
+            let edits: Vec<Edit> = words[2..].chunks(3).map(edit).collect();
+            lines.push(ReadLine::Case(words[1].parse().unwrap(), edited(base, &edits)));
+        }
     }
-    files
+    lines
+}
+
+/// The files of a text of cases.
+pub fn read_case_files(text: &str) -> Vec<Vec<u8>> {
+    let file = |line| match line {
+        ReadLine::Case(_, file) => file,
+        ReadLine::Changes(base) => base,
+    };
+    read_lines(text).into_iter().map(file).collect()
 }
 
 /// For each case `refused NUMBER ITEM`, or one line
 /// `file KIND RECEIVER YEAR MONTH ID-START ID-LENGTH MOMENT-START MOMENT-LENGTH ROWS` and a line of six numbers
-/// for each row.
+/// for each row. For `changes` a line `PLACE COUNT` for each byte of the base with which more values than its own are
+/// read, COUNT being how many of the 256 are.
 pub fn read_answers(text: &str) -> String {
     let mut output = String::new();
-    for (rows_length, file) in read_case_files(text) {
-        match read(&file, rows_length) {
-            Err(refusal) => output += &format!("refused {} {}\n", refusal.number, refusal.item),
-            Ok(read) => {
-                output += &format!("file {} {} {} {}", read.kind, read.receiver, read.year, read.month);
-                output += &format!(" {} {}", read.id.start, read.id.len());
-                output += &format!(" {} {}", read.moment.start, read.moment.len());
-                output += &format!(" {}\n", read.numbers.len() / 6);
-                for six in read.numbers.chunks(6) {
-                    let words: Vec<String> = six.iter().map(u64::to_string).collect();
-                    output += &(words.join(" ") + "\n");
-                }
-            }
+    for line in read_lines(text) {
+        output += &match line {
+            ReadLine::Case(rows_length, file) => read_answer(&file, rows_length),
+            ReadLine::Changes(base) => changes_answer(&base),
+        };
+    }
+    output
+}
+
+fn read_answer(file: &[u8], rows_length: usize) -> String {
+    let read = match read(file, rows_length) {
+        Err(refusal) => return format!("refused {} {}\n", refusal.number, refusal.item),
+        Ok(read) => read,
+    };
+    let mut output = format!("file {} {} {} {}", read.kind, read.receiver, read.year, read.month);
+    output += &format!(" {} {}", read.id.start, read.id.len());
+    output += &format!(" {} {}", read.moment.start, read.moment.len());
+    output += &format!(" {}\n", read.numbers.len() / 6);
+    for six in read.numbers.chunks(6) {
+        let words: Vec<String> = six.iter().map(u64::to_string).collect();
+        output += &(words.join(" ") + "\n");
+    }
+    output
+}
+
+fn changes_answer(base: &[u8]) -> String {
+    let mut output = String::new();
+    let mut file = base.to_vec();
+    for place in 0..base.len() {
+        let mut count = 0;
+        for value in 0..=255 {
+            file[place] = value;
+            count += read(&file, usize::MAX).is_ok() as usize;
+        }
+        file[place] = base[place];
+        if count > 1 {
+            output += &format!("{place} {count}\n");
         }
     }
     output
@@ -553,6 +638,7 @@ pub fn read_groups() -> Vec<ReadGroup> {
     let mut groups = vec![case_f_group(&mut random)];
     for kind in 1..=3 {
         groups.push(empty_group(kind));
+        groups.push(one_group(kind));
         groups.push(full_group(kind, &mut random));
         groups.push(many_group(kind));
     }
@@ -563,7 +649,7 @@ pub fn read_groups() -> Vec<ReadGroup> {
 
 impl ReadGroup {
     fn new(base: Vec<u8>) -> ReadGroup {
-        ReadGroup { base, cases: Vec::new() }
+        ReadGroup { base, cases: Vec::new(), changes: false }
     }
 
     fn of_rows(kind: u8, year: i64, month: i64, rows: &[[u64; 6]]) -> ReadGroup {
@@ -643,6 +729,23 @@ impl ReadGroup {
         }
     }
 
+    /// Every tag of the base left out, doubled, with a letter changed, or with its slash put in or taken out.
+    fn every_tag(&mut self) {
+        let places: Vec<usize> = (0..self.base.len()).filter(|&place| self.base[place] == b'<').collect();
+        for start in places {
+            let length = self.base[start..].iter().position(|&byte| byte == b'>').unwrap() + 1;
+            let end = start + length;
+            let tag = String::from_utf8(self.base[start..end].to_vec()).unwrap();
+            let misspelt = tag.replace('e', "f").replace('D', "d");
+            let turned = if tag.starts_with("</") { tag.replace("</", "<") } else { tag.replace('<', "</") };
+            for (what, new) in
+                [("left out", String::new()), ("doubled", tag.repeat(2)), ("misspelt", misspelt), ("turned", turned)]
+            {
+                self.case(format!("{tag} {what}"), vec![Edit { start, end, bytes: new.into_bytes() }]);
+            }
+        }
+    }
+
     fn cut(&mut self, step: usize) {
         let length = self.base.len();
         for start in (0..length).step_by(step).chain([length - 1]) {
@@ -680,6 +783,8 @@ const COUNTERS: &[&str] = &[
     "4294967297",
     "18446744073709551617",
     "36893488147419103234",
+    "0000000000000000000000001",
+    "1000000000000000000000001",
     "a",
 ];
 
@@ -758,6 +863,7 @@ fn case_f_group(random: &mut Random) -> ReadGroup {
     periods(&mut group);
     forms(&mut group);
     group.cut(100);
+    group.every_tag();
     group.every_byte(random, 1);
     group
 }
@@ -768,6 +874,7 @@ fn periods(group: &mut ReadGroup) {
         "2021-06-01T00:00:00.000+01:00",
         "2021-06-01T00:00:00.000+03:00",
         "2021-06-02T00:00:00.000+02:00",
+        "2021-06-16T00:00:00.000+02:00",
         "2021-06-01T00:00:00.001+02:00",
         "2021-06-01T00:00:01.000+02:00",
         "2021-06-01T01:00:00.000+02:00",
@@ -782,6 +889,7 @@ fn periods(group: &mut ReadGroup) {
     let ends = [
         "2021-07-01T00:00:00.000+01:00",
         "2021-06-30T00:00:00.000+02:00",
+        "2021-06-16T00:00:00.000+02:00",
         "2021-07-01T00:00:00.001+02:00",
         "2021-06-01T00:00:00.000+02:00",
         "2021-08-01T00:00:00.000+02:00",
@@ -949,6 +1057,28 @@ fn empty_group(kind: u8) -> ReadGroup {
     group.contents(counter, 0, COUNTERS);
     group.contents("ReceiverID", 0, &["", "9999999999", "00000000000"]);
     group.cut(60);
+    group.changes = true;
+    group
+}
+
+/// One partner, one series, one observation.
+fn one_group(kind: u8) -> ReadGroup {
+    let mut group = ReadGroup::of_rows(kind, 2021, 6, &[[3, 1, 1, 2880, 12_345, 0]]);
+    group.lent();
+    group.every_tag();
+    let names = crate::message::names(kind);
+    for name in [names.counter, "DirectionCounter", "ObservationCounter"] {
+        group.contents(name, 0, COUNTERS);
+    }
+    group.contents("SupplyDirection", 0, &["Off-take", "Injection", "injection", ""]);
+    group.contents("DeliveryDirection", 0, &["DeliveryUp", "DeliveryDown", "deliveryDown", ""]);
+    group.contents("Position", 0, &["0", "1", "2880", "2881", "02880", ""]);
+    group.contents(
+        "Quantity",
+        0,
+        &["0.000", "0.001", "12.34", "12.3456", "012.345", "999999999.999", "1000000000.000"],
+    );
+    group.changes = kind == 3;
     group
 }
 
@@ -1018,6 +1148,9 @@ fn full_group(kind: u8, random: &mut Random) -> ReadGroup {
         let second = group.find("<SDPSupply>000000000000000012", 0);
         let same = Edit { start: second + 11, end: second + 29, bytes: b"000000000000000003".to_vec() };
         group.case("an EAN twice, with two supply directions", vec![same]);
+        let same = Edit { start: second + 11, end: second + 29, bytes: b"000000000000000003".to_vec() };
+        let supply = group.replace("<SupplyDirection>Injection", 0, b"<SupplyDirection>Off-take");
+        group.case("an EAN twice, with one supply direction", vec![same, supply]);
     }
     group.every_byte(random, 13);
     group

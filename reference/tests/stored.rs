@@ -1,6 +1,6 @@
 //! What the proved programs are run on and held to is what this crate makes.
 
-use reference::{book_cases, report_cases, settle_cases};
+use reference::{book_cases, message_cases, report_cases, settle_cases};
 
 fn stored(program: &str, name: &str) -> String {
     std::fs::read_to_string(format!("../crates/{program}/{name}")).unwrap()
@@ -25,4 +25,12 @@ fn sheet_vectors() {
     let cases = report_cases::sheet_cases_text();
     assert!(stored("sheet_vectors", "stdin") == cases);
     assert!(stored("sheet_vectors", "stdout") == report_cases::sheet_answers(&cases));
+}
+
+#[test]
+fn message_vectors() {
+    let (writing, reading) = (message_cases::write_cases_text(), message_cases::read_cases_text());
+    assert!(stored("message_vectors", "stdin") == writing.clone() + &reading);
+    let answers = message_cases::write_answers(&writing) + &message_cases::read_answers(&reading);
+    assert!(stored("message_vectors", "stdout") == answers);
 }

@@ -10,7 +10,6 @@ use borrow.Author.Needs.{needs}
 use native.Mathlib.Omega.{arith}
 use Rattle.writer.proofs.runs.count_partners.Statement.{statement}
 use Rattle.writer.proofs.runs.count_partners.Tie as tie
-use Rattle.writer.proofs.runs.partner_run.Reads as partner-run-reads
 
 abbrev Inv-loop : tie.InvT-loop
 Inv-loop rows n count₀ at₀ left₀ count at left = (at + 6 * left ≤ length rows) × (count + left ≤ n) × (count + length (group numberKeys (rowsFrom rows at left)) ≡ length (group numberKeys (rowsFrom rows 0 n)))

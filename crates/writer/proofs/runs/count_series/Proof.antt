@@ -11,7 +11,6 @@ use borrow.Author.Needs.{needs}
 use native.Mathlib.Omega.{arith}
 use Rattle.writer.proofs.runs.count_series.Statement.{statement}
 use Rattle.writer.proofs.runs.count_series.Tie as tie
-use Rattle.writer.proofs.runs.pair_run.Reads as pair-run-reads
 
 abbrev Inv-loop : tie.InvT-loop
 Inv-loop rows at n count₀ next₀ left₀ count next left = (next + 6 * left ≤ length rows) × (count + left ≤ n) × (count + length (group pairKeys (map (λ x. x .1) (rowsFrom rows next left))) ≡ length (group pairKeys (map (λ x. x .1) (rowsFrom rows at n))))
