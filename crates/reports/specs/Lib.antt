@@ -20,3 +20,4 @@ pub mod PossibleLaws
 pub mod Small
 pub mod SmallLaws
 pub mod ScanLaws
+pub mod FileCallLaws

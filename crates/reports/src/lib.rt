@@ -13,7 +13,7 @@ pub enum SheetAnswer {
 // What a file call answers: the settlement rows and the bytes that it filled, or a number and an item.
 pub enum FileAnswer {
     File(usize, usize),
-    Refused(u8, usize),
+    Refused(u64, usize),
 }
 
 // Demand 3. It does nothing: what it ensures has to be proved.
