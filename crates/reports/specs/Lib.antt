@@ -21,3 +21,4 @@ pub mod Small
 pub mod SmallLaws
 pub mod ScanLaws
 pub mod FileCallLaws
+pub mod SeriesSums
