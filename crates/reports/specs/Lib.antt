@@ -22,3 +22,5 @@ pub mod SmallLaws
 pub mod ScanLaws
 pub mod FileCallLaws
 pub mod SeriesSums
+pub mod Partners
+pub mod PartnersLaws

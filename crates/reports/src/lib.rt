@@ -1,5 +1,6 @@
 // The sheets and files of a book: the calls' answers, and demand 3 of the calls' contracts. Definitions and laws stand in specs/.
 pub mod file;
+pub mod partners;
 pub mod series;
 
 ghost use Rattle.reports.specs.Demand3.{Demand3, Possible};
