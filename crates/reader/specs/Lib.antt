@@ -4,3 +4,4 @@ pub mod ReaderSeries
 pub mod ReaderPartner
 pub mod ReaderPartners
 pub mod ReaderFile
+pub mod JudgedLaws

@@ -1,4 +1,5 @@
 // The writer of a file.
-mod emitting;
+pub mod emitting;
 mod judging;
 mod laying;
+mod runs;
