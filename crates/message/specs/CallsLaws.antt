@@ -1,5 +1,5 @@
 -- What a reading's answer shows, what each answer needs, and that ID and moment stand at the places that are named.
-use mathlib.Core.Path.{_≡_, refl, ap, _∙_}
+use mathlib.Core.Path.{_≡_, refl, sym, ap, _∙_}
 use mathlib.Core.Bool.{Bool, true, false}
 use mathlib.Core.List.{List, _++_, append-assoc, flatMap}
 use mathlib.Core.Option.{some}
@@ -14,6 +14,7 @@ use Rattle.formats.specs.Format.{Res, got, bad}
 use Rattle.message.specs.declared.Kind.{Kind}
 use Rattle.message.specs.declared.Kind.the-variants.{Toe01, Toe02, Toe03}
 use Rattle.message.specs.declared.FileFacts.{FileFacts}
+use Rattle.message.specs.declared.ReadAnswer.{ReadAnswer}
 use Rattle.message.specs.declared.ReadAnswer.the-variants.{File, Refused}
 use Rattle.message.specs.Bytes.{opening, element, closing, root, counter, partnerBytes, fileBytes}
 use Rattle.message.specs.Rows.{numbers, partnersOf, Message, contents}
@@ -79,6 +80,25 @@ module _ (file before after : List ℕ) (facts : FileFacts) where
 
   pub accepted-is : ReadCalled file before after (File facts) → Accepted file before after facts
   accepted-is c = accepted-reading (readMessage file) refl (c .answer) (c .rows)
+
+-- 13 is answered of no file only
+module _ (file before after : List ℕ) where
+  refused-message : (m : Message) (b : Bool) → Refused 13 0 ≡ readSays (unless b 10 0 (accepted m)) → ⊥
+  unfolding readSays
+  refused-message m true e = let z : _≡_ {A = ℕ} 0 1 = cc in omega arith
+  refused-message m false e = let z : _≡_ {A = ℕ} 13 10 = cc in omega arith
+
+  refused-reading : (x : Res Message) → Refused 13 0 ≡ readSays (readVerdict x (length before)) → x ≡ bad
+  unfolding readVerdict
+  refused-reading bad e = refl
+  refused-reading (got m rest) e = absurd (refused-message m (leb (6 * length (m .rows)) (length before)) e)
+
+  pub refused-is : ReadCalled file before after (Refused 13 0) → readMessage file ≡ bad
+  refused-is c = refused-reading (readMessage file) (c .answer)
+
+-- one call has one answer
+pub one-reading : {file before a b : List ℕ} {r s : ReadAnswer} → ReadCalled file before a r → ReadCalled file before b s → (r ≡ s) × (a ≡ b)
+one-reading c d = (c .answer ∙ sym (d .answer), c .rows ∙ sym (d .rows))
 
 -- ---- the places of ID and moment
 

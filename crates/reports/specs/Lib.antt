@@ -24,3 +24,6 @@ pub mod FileCallLaws
 pub mod SeriesSums
 pub mod Partners
 pub mod PartnersLaws
+pub mod SeriesSumsLaws
+pub mod SeriesSumsWritten
+pub mod SeriesSumsWrittenLaws

@@ -1,15 +1,24 @@
--- A series of a file as the code names it: its kind by the file's form, its partner and directions apart.
-use mathlib.Core.Path.{_≡_, refl}
-use mathlib.Core.Bool.{false, not}
-use Rattle.book.specs.declared.Situation.the-variants.{OptOut, NetInjector}
-use Rattle.book.specs.declared.Supply.{Supply}
-use Rattle.book.specs.declared.Supply.the-variants.{OffTake, Injection}
-use Rattle.book.specs.declared.Direction.{Direction}
-use Rattle.book.specs.declared.Direction.the-variants.{Up, Down}
-use Rattle.volumes.specs.Series.{Kind, Toe01, Toe02, Toe03, takes, sameSupply, sameDirection}
+-- A series of a file as the code goes through it: its kind by the file's form, and its grains by the engagements passed.
+use mathlib.Core.Path.{_≡_}
+use mathlib.Core.List.{List, _++_, map}
+use mathlib.Core.Option.{none}
+use Prim.Native.Nat.{ℕ, zero, suc, pred, _+_, _*_, _^_, _≤_, _<_}
+use lib.IntN.{ℤ, pos}
+use lib.ListN.{length, getD, take, drop, set}
+use Rattle.integers.specs.Ranges.{range}
+use Rattle.integers.specs.Sums.{sumOf}
+use Rattle.integers.specs.Z.{up, dn}
+use Rattle.book.specs.declared.Calendar.{Calendar}
+use Rattle.book.specs.Register.{pointAt}
+use Rattle.book.specs.Engagements.{engagementAt}
+use Rattle.book.specs.Book.{Book, bookOf}
+use Rattle.volumes.specs.Baseline.{pointOf}
+use Rattle.volumes.specs.Settlement.{rowWidth, rows, bookRefusal}
+use Rattle.volumes.specs.Series.{Kind, Toe01, Toe02, Toe03, Series, grainsOf}
+use Rattle.volumes.specs.Sound.{Sound}
+use Rattle.settlement.specs.Sections.{engagementCountIn, engagementsIn}
 use Rattle.message.specs.declared.Kind.{Kind as Form}
 use Rattle.message.specs.declared.Kind.the-variants.{Toe01 as Form01, Toe02 as Form02, Toe03 as Form03}
-use Rattle.reports.specs.FileRows.{formOf}
 
 -- the kind that the file's form names
 unfoldable pub kindIn : Form → Kind
@@ -17,38 +26,49 @@ kindIn Form01 = Toe01
 kindIn Form02 = Toe02
 kindIn Form03 = Toe03
 
-pub kind-form : (kind : Kind) → kindIn (formOf kind) ≡ kind
-unfolding kindIn formOf
-kind-form Toe01 = refl
-kind-form Toe02 = refl
-kind-form Toe03 = refl
+-- numbers by position in a list's first n cells, and the rest as before
+abbrev pub byPosition : (ℕ → ℕ) → ℕ → List ℕ → List ℕ
+byPosition f n before = map f (range 1 n) ++ drop n before
 
-pub form-kind : (form : Form) → formOf (kindIn form) ≡ form
-unfolding kindIn formOf
-form-kind Form01 = refl
-form-kind Form02 = refl
-form-kind Form03 = refl
+-- the numbers of a list, by position
+abbrev pub cellAt : List ℕ → ℕ → ℕ
+cellAt l p = getD l (pred p) 0
 
--- "the rest appear in none"
-pub takes-no-opt-out : (kind : Kind) → takes kind OptOut ≡ false
-unfolding takes
-takes-no-opt-out Toe01 = refl
-takes-no-opt-out Toe02 = refl
-takes-no-opt-out Toe03 = refl
+-- a series' grains at a position, of the first i engagements
+unfoldable pub grainsTo : Book → Kind → ℕ → Series → ℕ → ℕ → ℕ
+grainsTo book kind receiver s i p = sumOf (grainsOf book kind receiver s p) (take i (book .engagements))
 
-pub takes-no-injector : (kind : Kind) → takes kind NetInjector ≡ false
-unfolding takes
-takes-no-injector Toe01 = refl
-takes-no-injector Toe02 = refl
-takes-no-injector Toe03 = refl
+-- "baseline, delivered, ..": the second number of the k-th of the rows that start at a place
+abbrev pub volumeIn : List ℤ → ℕ → ℕ → ℤ
+volumeIn settled at k = getD settled (at + rowWidth * k + 1) (pos 0)
 
--- what isn't the one direction is the other
-pub injection-is : (a : Supply) → sameSupply a Injection ≡ not (sameSupply a OffTake)
-unfolding sameSupply
-injection-is OffTake = refl
-injection-is Injection = refl
+-- n numbers added to the cells from a place on
+unfoldable pub added : List ℕ → ℕ → (ℕ → ℕ) → ℕ → List ℕ
+added l at v zero = l
+added l at v (suc k) = set (added l at v k) (at + k) (getD l (at + k) 0 + v k)
 
-pub down-is : (a : Direction) → sameDirection a Down ≡ not (sameDirection a Up)
-unfolding sameDirection
-down-is Up = refl
-down-is Down = refl
+-- the volumes of n rows can be added to the cells from a place on: none is negative, and no sum wraps
+pub record Addable (grains : List ℕ) (first : ℕ) (settled : List ℤ) (at n : ℕ) : Type 0 where
+  pub cells : first + n ≤ length grains
+  pub rows : at + rowWidth * n ≤ length settled
+  pub positive : (k : ℕ) → k < n → dn (volumeIn settled at k) ≡ 0
+  pub fits : (k : ℕ) → k < n → getD grains (first + k) 0 + up (volumeIn settled at k) < 2 ^ 64
+
+-- a calendar, a register, engagements and settlement rows are those of a book that passes refusals 1 to 7
+pub record Parts (c : Calendar) (register engagements : List ℕ) (settled : List ℤ) (book : Book) : Type 0 where
+  pub sound : Sound book
+  pub when : book .calendar ≡ c
+  pub listed : book .engagements ≡ engagementsIn engagements
+  pub registered : (i : ℕ) → i < engagementCountIn engagements → 64 * engagementAt engagements i .point + 64 ≤ length register
+  pub owner : (i : ℕ) → i < engagementCountIn engagements → pointOf book (engagementAt engagements i) ≡ pointAt register (engagementAt engagements i .point)
+  pub starts : take (length (rows book)) settled ≡ rows book
+
+-- there is such a book
+pub record Parted (c : Calendar) (register engagements : List ℕ) (settled : List ℤ) : Type 0 where
+  pub book : Book
+  pub parts : Parts c register engagements settled book
+
+-- the bytes of a book that refusals 1 to 9 pass, and numbers that start with its settlement rows
+pub record SettledIn (bytes : List ℕ) (settled : List ℤ) : Type 0 where
+  pub accepted : bookRefusal bytes ≡ none
+  pub starts : take (length (rows (bookOf bytes))) settled ≡ rows (bookOf bytes)

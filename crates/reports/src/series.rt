@@ -1,20 +1,39 @@
 // The watts of a series by position, from a book's settlement rows.
+use book::Calendar;
 use book::Direction;
 use book::Engagement;
 use book::Point;
 use book::Situation;
 use book::Supply;
+use formats::Mark;
+use grains::Grains;
 use message::Kind;
+use settlement::rows::ROW_WIDTH;
 ghost use mathlib.Core.Path.{_≡_};
+ghost use mathlib.Core.Bool.{cond};
+ghost use mathlib.Core.List.{flatMap};
+ghost use Prim.Native.Nat.{ℕ, _+_, _*_, _^_, _≤_, _<_};
+ghost use lib.IntN.{pos};
+ghost use lib.ListN.{length, getD};
+ghost use Rattle.integers.specs.Running.{floorAt};
+ghost use Rattle.integers.specs.Z.{up, dn};
+ghost use Rattle.grains.specs.Grains.{perWatt};
 ghost use Rattle.book.specs.declared.Supply.the-variants.{OffTake};
 ghost use Rattle.book.specs.declared.Direction.the-variants.{Up};
 ghost use Rattle.book.specs.declared.Situation.the-variants.{Transfer, PassThrough};
 ghost use Rattle.book.specs.declared.Direction.{Direction};
-ghost use Rattle.book.specs.Book.{Book};
+ghost use Rattle.book.specs.Calendars.{dayStart, Ranged};
+ghost use Rattle.book.specs.Register.{pointAt};
+ghost use Rattle.book.specs.Book.{Book, bookOf};
+ghost use Rattle.volumes.specs.Quarters.{monthQuarters};
+ghost use Rattle.volumes.specs.Sheets.{startPosition};
 ghost use Rattle.volumes.specs.Baseline.{pointOf};
-ghost use Rattle.volumes.specs.Series.{takes, receiverOf, partnerOf, sameSupply, sameDirection, isPoint, isEngagement};
+ghost use Rattle.volumes.specs.Series.{takes, receiverOf, partnerOf, sameSupply, sameDirection, isPoint, isEngagement, grainsAt, seriesWatts};
 ghost use Rattle.volumes.specs.SeriesLaws.{seriesOf};
-ghost use Rattle.reports.specs.SeriesSums.{kindIn};
+ghost use Rattle.message.specs.Bytes.{observationBytes};
+ghost use Rattle.writer.specs.WriterLaid.{Laid, Stands};
+ghost use Rattle.reports.specs.SeriesSumsWritten.{observationIf, observationsIn};
+ghost use Rattle.reports.specs.SeriesSums.{kindIn, byPosition, cellAt, volumeIn, added, Addable, Parts, Parted, SettledIn};
 
 // Whether a kind's files take transfer points, and pass-through points.
 fn takes_transfer(kind: Kind) -> bool
@@ -133,4 +152,239 @@ pub fn is_engagement(
 {
     let direction = e.direction;
     is_point(kind, receiver, partner, supply, point) & same_direction(direction, delivery)
+}
+
+// The quarter-hours of the lead days.
+fn lead_quarters(c: Calendar) -> usize
+    requires { ⌜ Ranged c ⌝ }
+    ensures { λ r. ⌜ r ≡ dayStart c (c .lead) ⌝ }
+{
+    let lead = c.lead;
+    book::header::day_start(c, lead) as usize
+}
+
+// The quarter-hours of the month, which are its last position.
+pub fn month_quarters(c: Calendar) -> usize
+    requires { ⌜ Ranged c ⌝ }
+    ensures { λ r. ⌜ r ≡ monthQuarters c ⌝ }
+{
+    (book::header::quarters_of(c) as usize) - lead_quarters(c)
+}
+
+// The cell of an engagement's first position.
+fn cell_of(c: Calendar, e: Engagement) -> usize
+    requires { ⌜ Ranged c × (c .lead ≤ e .day) × (e .day < 64) ⌝ }
+    ensures { λ r. ⌜ r + 1 ≡ startPosition c e ⌝ }
+{
+    baseline::judge::start_of(c, e) - lead_quarters(c)
+}
+
+// A delivered volume, which isn't negative.
+fn volume_at(settled: &[i64], i: usize) -> u64
+    requires { ⌜ (i < length (now settled)) × (dn (getD (now settled) i (pos 0)) ≡ 0) ⌝ }
+    ensures { λ r. ⌜ r ≡ up (getD (now (settled .entry)) i (pos 0)) ⌝ }
+{
+    settled[i] as u64
+}
+
+// Adds the delivered volumes of n rows, which start at a place, to the cells from `first` on.
+fn add_volumes(grains: &mut [u64], first: usize, settled: &[i64], at: usize, n: usize)
+    requires { ⌜ Addable (now grains) first (now settled) at n ⌝ }
+    ensures { λ r. ⌜ now (grains .exit) ≡ added (now (grains .entry)) first (λ k. up (volumeIn (now (settled .entry)) at k)) n ⌝ }
+{
+    let mut k = 0;
+    while k < n {
+        let volume = volume_at(settled, at + ROW_WIDTH * k + 1);
+        let cell = first + k;
+        grains[cell] = grains[cell] + volume;
+        k += 1;
+    }
+}
+
+// Zeros at the first n positions.
+fn clear(cells: &mut [u64], n: usize)
+    requires { ⌜ n ≤ length (now cells) ⌝ }
+    ensures { λ r. ⌜ now (cells .exit) ≡ byPosition (λ p. 0) n (now (cells .entry)) ⌝ }
+{
+    let mut i = 0;
+    while i < n {
+        cells[i] = 0;
+        i += 1;
+    }
+}
+
+// The rows that an engagement has in the series: all of its own, or none.
+fn series_rows(
+    register: &[u8],
+    e: Engagement,
+    kind: Kind,
+    receiver: u64,
+    partner: u64,
+    supply: Supply,
+    delivery: Direction,
+) -> usize
+    requires { ⌜ 64 * e .point + 64 ≤ length (now register) ⌝ }
+    ensures { λ r. ⌜ ((b : Book) → pointOf b e ≡ pointAt (now (register .entry)) (e .point) → r ≡ cond (isEngagement b (kindIn kind) receiver (seriesOf partner supply delivery) e) (e .count) 0) ⌝ }
+{
+    let point = book::register::point_at(register, e.point as usize);
+    if is_engagement(kind, receiver, partner, supply, delivery, point, e) {
+        e.count as usize
+    } else {
+        0
+    }
+}
+
+// Adds what the engagements deliver to a series, to cells that are 0.
+fn add_engagements(
+    c: Calendar,
+    register: &[u8],
+    engagements: &[u8],
+    settled: &[i64],
+    kind: Kind,
+    receiver: u64,
+    partner: u64,
+    supply: Supply,
+    delivery: Direction,
+    grains: &mut [u64],
+)
+    requires { ⌜ Parted c (now register) (now engagements) (now settled) × (monthQuarters c ≤ length (now grains)) × (now grains ≡ byPosition (λ p. 0) (monthQuarters c) (now grains)) ⌝ }
+    ensures { λ r. ⌜ ((b : Book) → Parts c (now (register .entry)) (now (engagements .entry)) (now (settled .entry)) b → now (grains .exit) ≡ byPosition (grainsAt b (kindIn kind) receiver (seriesOf partner supply delivery)) (monthQuarters c) (now (grains .entry))) ⌝ }
+{
+    let n = engagements.len() / 16;
+    let mut at = 0;
+    let mut i = 0;
+    while i < n {
+        let e = book::engagements::engagement_at(engagements, i);
+        let own = series_rows(register, e, kind, receiver, partner, supply, delivery);
+        let first = cell_of(c, e);
+        add_volumes(grains, first, settled, at, own);
+        at += ROW_WIDTH * (e.count as usize);
+        i += 1;
+    }
+}
+
+// The grains of a series by position, from the rows of a book that refusals 1 to 9 pass.
+pub fn fill_grains(
+    book: &[u8],
+    settled: &[i64],
+    kind: Kind,
+    receiver: u64,
+    partner: u64,
+    supply: Supply,
+    delivery: Direction,
+    grains: &mut [u64],
+)
+    requires { ⌜ SettledIn (now book) (now settled) × (monthQuarters (bookOf (now book) .calendar) ≤ length (now grains)) ⌝ }
+    ensures { λ r. ⌜ now (grains .exit) ≡ byPosition (grainsAt (bookOf (now (book .entry))) (kindIn kind) receiver (seriesOf partner supply delivery)) (monthQuarters (bookOf (now (book .entry)) .calendar)) (now (grains .entry)) ⌝ }
+{
+    let register = settlement::sections::section(book, 2);
+    let engagements = settlement::sections::section(book, 4);
+    let c = book::header::calendar_of(book);
+    clear(grains, month_quarters(c));
+    add_engagements(
+        c,
+        register,
+        engagements,
+        settled,
+        kind,
+        receiver,
+        partner,
+        supply,
+        delivery,
+        grains,
+    );
+}
+
+// Grains to watts at the first n positions: what doesn't complete a watt is carried on.
+pub fn fill_watts(cells: &mut [u64], n: usize)
+    requires { ⌜ (n ≤ length (now cells)) × ((k : ℕ) → k < n → getD (now cells) k 0 + perWatt ≤ 2 ^ 64) ⌝ }
+    ensures { λ r. ⌜ now (cells .exit) ≡ byPosition (floorAt perWatt (cellAt (now (cells .entry)))) n (now (cells .entry)) ⌝ }
+{
+    let mut carry: u64 = 0;
+    let mut i = 0;
+    while i < n {
+        let sum = carry + cells[i];
+        let grains = Grains { count: sum };
+        cells[i] = grains.down_to_watts();
+        carry = sum % Grains::PER_WATT;
+        i += 1;
+    }
+}
+
+// The watts of a series by position, from the rows of a book that refusals 1 to 9 pass.
+pub fn series_watts(
+    book: &[u8],
+    settled: &[i64],
+    kind: Kind,
+    receiver: u64,
+    partner: u64,
+    supply: Supply,
+    delivery: Direction,
+    watts: &mut [u64],
+)
+    requires { ⌜ SettledIn (now book) (now settled) × (monthQuarters (bookOf (now book) .calendar) ≤ length (now watts)) ⌝ }
+    ensures { λ r. ⌜ now (watts .exit) ≡ byPosition (seriesWatts (bookOf (now (book .entry))) (kindIn kind) receiver (seriesOf partner supply delivery)) (monthQuarters (bookOf (now (book .entry)) .calendar)) (now (watts .entry)) ⌝ }
+{
+    fill_grains(
+        book,
+        settled,
+        kind,
+        receiver,
+        partner,
+        supply,
+        delivery,
+        watts,
+    );
+    let c = book::header::calendar_of(book);
+    fill_watts(watts, month_quarters(c));
+}
+
+// 1 for watts that are written, 0 for none.
+fn written(watts: u64) -> u64
+    ensures { λ r. ⌜ ((p : ℕ) → r ≡ length (observationIf p watts)) × (r ≤ 1) ⌝ }
+{
+    if watts == 0 {
+        return 0;
+    }
+    1
+}
+
+// How many of the first n positions are written.
+pub fn count_written(watts: &[u64], n: usize) -> u64
+    requires { ⌜ n ≤ length (now watts) ⌝ }
+    ensures { λ r. ⌜ r ≡ length (observationsIn (now (watts .entry)) n) ⌝ }
+{
+    let mut count: u64 = 0;
+    let mut i = 0;
+    while i < n {
+        count += written(watts[i]);
+        i += 1;
+    }
+    count
+}
+
+// A position's observation, if it has watts.
+fn emit_position(out: &mut [u8], m: Mark, position: u64, watts: u64, live: bool) -> Mark
+    requires { ⌜ Stands (length (now out)) m ⌝ }
+    ensures { λ r. ⌜ Laid live (now (out .entry)) m (flatMap observationBytes (observationIf position watts)) (now (out .exit)) r ⌝ }
+{
+    if watts == 0 {
+        return m;
+    }
+    writer::emitting::emit_observation(out, m, position, watts, live)
+}
+
+// The observations of the first n positions.
+pub fn emit_watts(out: &mut [u8], m: Mark, watts: &[u64], n: usize, live: bool) -> Mark
+    requires { ⌜ (n ≤ length (now watts)) × Stands (length (now out)) m ⌝ }
+    ensures { λ r. ⌜ Laid live (now (out .entry)) m (flatMap observationBytes (observationsIn (now (watts .entry)) n)) (now (out .exit)) r ⌝ }
+{
+    let mut a = m;
+    let mut i = 0;
+    while i < n {
+        let position = i + 1;
+        a = emit_position(out, a, position as u64, watts[i], live);
+        i += 1;
+    }
+    a
 }

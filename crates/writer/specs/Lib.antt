@@ -2,9 +2,15 @@ pub mod WriterOrder
 pub mod WriterRows
 pub mod WriterRowsLaws
 pub mod WriteCalls
+pub mod WriteCallsLaws
+pub mod RoundTrip
+pub mod RoundTripLaws
 pub mod WriterSteps
 pub mod WriterRuns
 pub mod WriterRunsLaws
 pub mod WriterLaid
 pub mod WriterParts
 pub mod WriterPartsLaws
+pub mod WriterContents
+pub mod WriterContentsLaws
+pub mod WriterCalled

@@ -1,17 +1,18 @@
 -- Bytes laid behind each other into a list, or only measured: what has no room ends at no place.
 use mathlib.Core.Path.{_≡_, refl, sym, ap, _∙_}
 use mathlib.Core.Bool.{Bool, true, false, cond}
-use mathlib.Core.List.{List, [], _++_}
-use Prim.Native.Nat.{ℕ, _+_, _≤_}
+use mathlib.Core.List.{List, [], _++_, append-assoc, append-nil}
+use Prim.Native.Nat.{ℕ, _+_, _≤_, _<_}
 use lib.Dec.{leb}
-use lib.ListN.{length, length-append}
+use lib.ListN.{length, drop, length-append}
 use native.Mathlib.Omega.{arith}
-use native.Mathlib.Nat.{add-assoc, add-zero}
+use native.Mathlib.Nat.{add-assoc, add-zero, zero-add}
 use borrow.Author.Tests.{leb-true, leb-false, le-leb, lt-leb}
 use Rattle.text.specs.Written.{written, Wrote}
 use Rattle.text.specs.WrittenLaws.{written-nil, written-both, wrote-length}
 use Rattle.formats.specs.declared.Mark.{Mark}
 use Rattle.formats.specs.declared.Mark.the-variants.{At, No}
+use Rattle.message.specs.Calls.{over}
 
 -- the place n further on, in a list of that length
 unfoldable pub ahead : ℕ → Mark → ℕ → Mark
@@ -137,3 +138,53 @@ laid-stands {live} {d} {m} {a} {out} {n} v =
 pub laid-none : (live : Bool) (d : List ℕ) (m : Mark) → Stands (length d) m → Laid live d m [] d m
 laid-none live d m s =
     record { keeps = refl; behind = sym (s .still); dry = λ e. refl; wrote = λ e p q f g. sym (written-nil d p) }
+
+-- ---- part by part
+
+-- what is laid so far, and the rest, are the whole
+pub record Laying (live : Bool) (before : List ℕ) (m : Mark) (whole rest after : List ℕ) (next : Mark) : Type 0 where
+  pub done : List ℕ
+  pub laid : Laid live before m done after next
+  pub both : done ++ rest ≡ whole
+
+pub laying-none : (live : Bool) (d : List ℕ) (m : Mark) (whole : List ℕ) → Stands (length d) m → Laying live d m whole whole d m
+laying-none live d m whole s = record { done = []; laid = laid-none live d m s; both = refl }
+
+pub laying-then : {live : Bool} {d : List ℕ} {m : Mark} {whole rest b out out′ : List ℕ} {n n′ : Mark} (rest′ : List ℕ)
+    → Laying live d m whole rest out n → Laid live out n b out′ n′ → rest ≡ b ++ rest′ → Laying live d m whole rest′ out′ n′
+laying-then {b = b} rest′ v w e =
+    record { done = v .done ++ b; laid = laid-then (v .laid) w; both = append-assoc (v .done) b rest′ ∙ ap (λ (l : List ℕ). v .done ++ l) (sym e) ∙ v .both }
+
+pub laying-all : {live : Bool} {d : List ℕ} {m : Mark} {whole rest out : List ℕ} {n : Mark} → Laying live d m whole rest out n → rest ≡ [] → Laid live d m whole out n
+laying-all {whole = whole} v e = laid-is whole (sym (append-nil (v .done)) ∙ ap (λ (l : List ℕ). v .done ++ l) (sym e) ∙ v .both) (v .laid)
+
+-- ---- measured from the first place on, then written
+
+-- what has room is written over the list's first places
+pub record LaidOver (d bs out : List ℕ) (n : ℕ) : Type 0 where
+  pub count : n ≡ length bs
+  pub room : length bs ≤ length d
+  pub list : out ≡ over bs d
+
+pub laid-over : {d bs d′ out : List ℕ} {n : ℕ} {r : Mark} → Laid false d (At 0) bs d′ (At n) → Laid true d′ (At 0) bs out r → LaidOver d bs out n
+unfolding over written
+laid-over {d} {bs} {d′} {out} {n} {r} v w =
+    let x = reached (length d) 0 (length bs) n (sym (v .behind)) in
+    let next : r ≡ At n = w .behind ∙ ap (λ (k : ℕ). ahead k (At 0) (length bs)) (v .keeps) ∙ sym (v .behind) in
+    record {
+      count = omega (arith, x .is);
+      room = omega (arith, x .room);
+      list = w .wrote refl 0 n refl next ∙ ap (λ (l : List ℕ). written l 0 bs) (v .dry refl) ∙ ap (λ (k : ℕ). bs ++ drop k d) (zero-add (length bs));
+    }
+
+-- what has none is longer than the list
+pub record NoRoom (d bs d′ : List ℕ) : Type 0 where
+  pub short : length d < length bs
+  pub same : d′ ≡ d
+
+pub laid-no-room : {d bs d′ : List ℕ} → Laid false d (At 0) bs d′ No → NoRoom d bs d′
+laid-no-room {d} {bs} {d′} v = record { short = go (leb (length bs) (length d)) refl; same = v .dry refl }
+  where
+    go : (b : Bool) → leb (length bs) (length d) ≡ b → length d < length bs
+    go true e = absurd (no-place (0 + length bs) (v .behind ∙ ahead-fits (length d) 0 (length bs) (omega (arith, leb-true (length bs) (length d) e))))
+    go false e = leb-false (length bs) (length d) e

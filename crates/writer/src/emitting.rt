@@ -7,7 +7,7 @@ use message::Kind;
 ghost use mathlib.Core.Path.{_≡_};
 ghost use mathlib.Core.List.{_++_};
 ghost use Prim.Native.Nat.{_<_};
-ghost use Rattle.text.specs.Decimal.{fixed, plain};
+ghost use Rattle.text.specs.Decimal.{fixed};
 ghost use Rattle.message.specs.Bytes.{opening, closing, element, root, counter, group, partner, digits};
 ghost use Rattle.message.specs.Bytes.{quantityBytes, observationBytes, periodBytes, supplyBytes, inSeries, withPartner};
 ghost use Rattle.message.specs.Valid.{IsPeriod};

@@ -2,4 +2,6 @@
 pub mod emitting;
 mod judging;
 mod laying;
+pub mod round_trip;
 mod runs;
+pub mod writing;

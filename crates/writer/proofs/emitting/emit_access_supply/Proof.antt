@@ -1,8 +1,8 @@
 -- Three parts, one behind the other.
 use borrow.Author.Needs.{needs}
-use Rattle.writer.specs.WriterLaid.{laid-then}
 use Rattle.text.specs.Ascii.{bytes}
 use Rattle.message.specs.Bytes.{opening, ending, closing}
+use Rattle.writer.specs.WriterLaid.{laid-then}
 use Rattle.writer.proofs.emitting.emit_access_supply.Statement.{statement}
 use Rattle.writer.proofs.emitting.emit_access_supply.Tie as tie
 

@@ -1,7 +1,7 @@
 -- Each kind has its own tags.
 use borrow.Author.Needs.{needs}
-use Rattle.message.specs.Bytes.{ending, closing, counter}
 use Rattle.text.specs.Ascii.{bytes}
+use Rattle.message.specs.Bytes.{ending, closing, counter}
 use Rattle.writer.proofs.emitting.emit_counter_end.Statement.{statement}
 use Rattle.writer.proofs.emitting.emit_counter_end.Tie as tie
 

@@ -1,7 +1,7 @@
 -- Each kind has its own tags.
 use borrow.Author.Needs.{needs}
-use Rattle.message.specs.Bytes.{ending, closing, root}
 use Rattle.text.specs.Ascii.{bytes}
+use Rattle.message.specs.Bytes.{ending, closing, root}
 use Rattle.writer.specs.WriterParts.{fileEnd}
 use Rattle.writer.proofs.emitting.emit_file_end.Statement.{statement}
 use Rattle.writer.proofs.emitting.emit_file_end.Tie as tie

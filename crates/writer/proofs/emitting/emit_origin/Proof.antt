@@ -1,8 +1,8 @@
 -- Five parts, one behind the other.
 use borrow.Author.Needs.{needs}
-use Rattle.writer.specs.WriterLaid.{laid-then, laid-is}
 use Rattle.text.specs.Ascii.{bytes}
 use Rattle.message.specs.Bytes.{opening, ending, closing}
+use Rattle.writer.specs.WriterLaid.{laid-then, laid-is}
 use Rattle.writer.specs.WriterParts.{originBytes}
 use Rattle.writer.specs.WriterPartsLaws.{origin-parts}
 use Rattle.writer.proofs.emitting.emit_origin.Statement.{statement}

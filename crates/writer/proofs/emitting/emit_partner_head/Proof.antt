@@ -1,11 +1,11 @@
 -- Five parts, one behind the other; the number has as many digits as its kind asks.
-use borrow.Author.Needs.{needs}
-use Rattle.writer.specs.WriterLaid.{laid-then, laid-is}
 use mathlib.Core.Path.{ap}
 use Prim.Native.Nat.{ℕ}
+use borrow.Author.Needs.{needs}
 use Rattle.text.specs.Decimal.{fixed}
 use Rattle.text.specs.Ascii.{bytes}
 use Rattle.message.specs.Bytes.{opening, ending, closing, digits}
+use Rattle.writer.specs.WriterLaid.{laid-then, laid-is}
 use Rattle.writer.specs.WriterParts.{partnerHead}
 use Rattle.writer.specs.WriterPartsLaws.{partner-head-parts}
 use Rattle.writer.proofs.emitting.emit_partner_head.Statement.{statement}

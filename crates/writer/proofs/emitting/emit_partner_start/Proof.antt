@@ -1,7 +1,7 @@
 -- Each kind has its own tags.
 use borrow.Author.Needs.{needs}
-use Rattle.message.specs.Bytes.{opening, group, partner}
 use Rattle.text.specs.Ascii.{bytes}
+use Rattle.message.specs.Bytes.{opening, group, partner}
 use Rattle.writer.proofs.emitting.emit_partner_start.Statement.{statement}
 use Rattle.writer.proofs.emitting.emit_partner_start.Tie as tie
 

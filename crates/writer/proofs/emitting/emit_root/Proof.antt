@@ -1,7 +1,7 @@
 -- Each kind has its own tags.
 use borrow.Author.Needs.{needs}
-use Rattle.message.specs.Bytes.{opening, root}
 use Rattle.text.specs.Ascii.{bytes}
+use Rattle.message.specs.Bytes.{opening, root}
 use Rattle.writer.proofs.emitting.emit_root.Statement.{statement}
 use Rattle.writer.proofs.emitting.emit_root.Tie as tie
 

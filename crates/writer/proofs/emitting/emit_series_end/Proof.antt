@@ -1,7 +1,7 @@
 -- Two tags laid as one.
 use borrow.Author.Needs.{needs}
-use Rattle.message.specs.Bytes.{opening, ending, closing}
 use Rattle.text.specs.Ascii.{bytes}
+use Rattle.message.specs.Bytes.{opening, ending, closing}
 use Rattle.writer.specs.WriterParts.{seriesEnd}
 use Rattle.writer.proofs.emitting.emit_series_end.Statement.{statement}
 use Rattle.writer.proofs.emitting.emit_series_end.Tie as tie

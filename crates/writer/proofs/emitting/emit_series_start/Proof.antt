@@ -1,8 +1,8 @@
 -- The supply direction stands in the time series of TOE01 and TOE02.
 use borrow.Author.Needs.{needs}
-use Rattle.writer.specs.WriterLaid.{laid-then}
 use Rattle.text.specs.Ascii.{bytes}
 use Rattle.message.specs.Bytes.{opening}
+use Rattle.writer.specs.WriterLaid.{laid-then}
 use Rattle.writer.proofs.emitting.emit_series_start.Statement.{statement}
 use Rattle.writer.proofs.emitting.emit_series_start.Tie as tie
 
