@@ -6,20 +6,29 @@ use Prim.Native.Nat.{ℕ, suc, _+_, _<_, _≤_}
 use native.Mathlib.Numerals.{add-one}
 use native.Mathlib.Omega.{arith}
 use lib.Dec.{ltb}
+use lib.IntN.{ℤ}
 use lib.ListN.{length, getD, length-append}
 use borrow.Author.Tests.{le-ltb, lt-ltb}
 use Rattle.integers.specs.Ranges.{range, range-more}
-use Rattle.book.specs.Book.{Book}
+use Rattle.calendar.specs.Dates.{calendarDays}
+use Rattle.calendar.specs.DatesLaws.{month-length}
+use Rattle.book.specs.declared.Calendar.{Calendar}
+use Rattle.book.specs.Calendars.{dayStart, Ranged}
+use Rattle.book.specs.Header.{calendarOf}
+use Rattle.book.specs.Book.{Book, bookOf}
 use Rattle.volumes.specs.Quarters.{monthQuarters}
 use Rattle.volumes.specs.QuartersLaws.{map-range-cong, flatMap-append}
+use Rattle.volumes.specs.SettlementLaws.{passing}
 use Rattle.volumes.specs.Series.{Kind, Series, seriesWatts}
+use Rattle.settlement.specs.SectionsLaws.{bytes-long}
 use Rattle.message.specs.Contents.{Observation}
+use Rattle.message.specs.Valid.{IsPeriod}
 use Rattle.message.specs.Bytes.{observationBytes}
 use Rattle.message.specs.ObservationForm.{observed}
 use Rattle.reports.specs.Keep.{keep}
 use Rattle.reports.specs.FileRows.{positions, observationAt, isWritten, observationsOf}
-use Rattle.reports.specs.SeriesSums.{byPosition, cellAt}
-use Rattle.reports.specs.SeriesSumsLaws.{cell-is}
+use Rattle.reports.specs.SeriesSums.{byPosition, cellAt, SettledIn}
+use Rattle.reports.specs.SeriesSumsLaws.{parts-of, cell-is}
 use Rattle.reports.specs.SeriesSumsWritten.{observationIf, observationsIn}
 
 -- what is kept of two lists
@@ -82,3 +91,26 @@ observations-are book kind receiver s before l n month e =
     rw (← month)
     (ap (keep isWritten) (map-range-cong (λ p. observed (p, cellAt l p)) (λ p. observed (p, seriesWatts book kind receiver s p)) 1 n (λ p low high.
     ap (λ (w : ℕ). observed (p, w)) (ap (λ (t : List ℕ). cellAt t p) e ∙ cell-is (seriesWatts book kind receiver s) n before p low (omega arith)))))
+
+-- ---- the month
+
+-- no month has more positions
+pub month-most : (c : Calendar) → Ranged c → monthQuarters c ≤ 2976
+unfolding monthQuarters dayStart calendarDays
+month-most c h = omega (arith, month-length (c .year) (c .month) (h .january) (h .december))
+
+pub period-of : (c : Calendar) → Ranged c → IsPeriod (c .year) (c .month)
+period-of c h = record { from = h .from; to = h .to; january = h .january; december = h .december }
+
+-- what a book that refusals 1 to 9 pass says of its calendar
+pub record Opened (bytes : List ℕ) : Type 0 where
+  pub long : 56 ≤ length bytes
+  pub ranged : Ranged (calendarOf bytes)
+  pub own : calendarOf bytes ≡ bookOf bytes .calendar
+  pub few : monthQuarters (bookOf bytes .calendar) ≤ 2976
+
+pub opened : (bytes : List ℕ) (settled : List ℤ) → SettledIn bytes settled → Opened bytes
+opened bytes settled h =
+    let p = parts-of bytes settled h in
+    let r = rw (p .when) at (p .sound .ranged) in
+    record { long = bytes-long bytes (passing bytes (h .accepted) .passed); ranged = r; own = sym (p .when); few = rw (p .when) (month-most (calendarOf bytes) r) }
