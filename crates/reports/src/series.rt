@@ -33,7 +33,7 @@ ghost use Rattle.volumes.specs.SeriesLaws.{seriesOf};
 ghost use Rattle.message.specs.Bytes.{observationBytes, seriesBytes};
 ghost use Rattle.writer.specs.WriterLaid.{Laid, Stands};
 ghost use Rattle.reports.specs.FileRows.{supplyNumber, deliveryNumber, observationsOf};
-ghost use Rattle.reports.specs.SeriesSumsWritten.{observationIf, observationsIn, seriesIn};
+ghost use Rattle.reports.specs.SeriesSumsWritten.{observationIf, observationsIn, seriesIn, seriesIf};
 ghost use Rattle.reports.specs.SeriesSums.{kindIn, byPosition, cellAt, volumeIn, added, Addable, Parts, Parted, SettledIn};
 
 // Whether a kind's files take transfer points, and pass-through points.
@@ -466,4 +466,42 @@ fn emit_counted(
     );
     let b = emit_watts(out, a, watts, n, live);
     writer::emitting::emit_series_end(out, b, live)
+}
+
+// A series of a book, if it has observations.
+pub fn emit_series(
+    out: &mut [u8],
+    m: Mark,
+    book: &[u8],
+    settled: &[i64],
+    kind: Kind,
+    receiver: u64,
+    partner: u64,
+    supply: Supply,
+    delivery: Direction,
+    live: bool,
+) -> Mark
+    requires { ⌜ SettledIn (now book) (now settled) × Stands (length (now out)) m ⌝ }
+    ensures { λ r. ⌜ Laid live (now (out .entry)) m (flatMap (seriesBytes kind) (seriesIf (bookOf (now (book .entry))) (kindIn kind) receiver partner (supply, delivery))) (now (out .exit)) r ⌝ }
+{
+    let mut watts = [0u64; 2976];
+    series_watts(
+        book,
+        settled,
+        kind,
+        receiver,
+        partner,
+        supply,
+        delivery,
+        &mut watts,
+    );
+    let c = book::header::calendar_of(book);
+    let n = month_quarters(c);
+    let count = count_written(&watts, n);
+    if count == 0 {
+        return m;
+    }
+    let s = supply_number(supply);
+    let d = delivery_number(delivery);
+    emit_counted(out, m, &watts, n, count, kind, s, d, c, live)
 }
