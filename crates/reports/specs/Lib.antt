@@ -27,3 +27,5 @@ pub mod PartnersLaws
 pub mod SeriesSumsLaws
 pub mod SeriesSumsWritten
 pub mod SeriesSumsWrittenLaws
+pub mod Emission
+pub mod EmissionLaws

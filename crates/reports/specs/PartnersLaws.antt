@@ -28,6 +28,7 @@ use Rattle.reports.specs.KeepLaws.{mem-keep, keep-mem}
 use Rattle.reports.specs.FileRows.{isTaken, partnerNumbers, partnerAt, partnersOf}
 use Rattle.reports.specs.Registered.{Numbered, Registered}
 use Rattle.reports.specs.ScanLaws.{next-least, all-from, no-next}
+use Rattle.reports.specs.Roles.{receivers}
 use Rattle.reports.specs.Calls.{stands, kindOf}
 use Rattle.reports.specs.CallsLaws.{stands-mem, mem-stands}
 use Rattle.reports.specs.Partners.{pointsIn, partnerColumn, noPartner, Next, partnerIf, partnersFrom}
@@ -78,6 +79,11 @@ module _ (register : List ℕ) (kind : Kind) (receiver : ℕ) where
       go : (b : Bool) → stands receiver (map (receiverOf kind) (pointsIn register)) ≡ b → b ≡ false
       go true e = absurd (at (Memᴰ·of-map (receiverOf kind) (pointsIn register) (stands-mem receiver (map (receiverOf kind) (pointsIn register)) e)))
       go false e = refl
+
+-- the register's points are the book's
+pub role-in : (bytes register : List ℕ) (kind : Kind) (receiver : ℕ) → refusalOf bytes ≡ none → register ≡ registerSection bytes → stands receiver (map (receiverOf kind) (pointsIn register)) ≡ stands receiver (receivers (bookOf bytes) kind)
+unfolding receivers
+role-in bytes register kind receiver h e = rw (e, points-in bytes h)
 
 -- ---- the least partner from a number on
 

@@ -1,4 +1,5 @@
 // The sheets and files of a book: the calls' answers, and demand 3 of the calls' contracts. Definitions and laws stand in specs/.
+mod emission;
 pub mod file;
 pub mod partners;
 pub mod series;
