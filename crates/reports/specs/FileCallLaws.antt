@@ -8,8 +8,11 @@ use native.Mathlib.Omega.{arith}
 use lib.Dec.{leb}
 use lib.IntN.{ℤ}
 use lib.ListN.{length, take, drop}
-use lib.Seq.{sets, sets-eq, take-at}
-use borrow.Author.Tests.{le-leb, lt-leb}
+use native.Mathlib.Nat.{zero-add}
+use borrow.Author.Tests.{leb-true, leb-false, le-leb, lt-leb}
+use Rattle.text.specs.Written.{written}
+use Rattle.formats.specs.declared.Mark.{Mark}
+use Rattle.formats.specs.declared.Mark.the-variants.{At, No}
 use Rattle.moments.specs.Ids.{isTransactionId}
 use Rattle.book.specs.Refusals.{Refusal, refused, unless}
 use Rattle.book.specs.Book.{Book, bookOf}
@@ -17,6 +20,7 @@ use Rattle.volumes.specs.Settlement.{rowWidth, rows, rowCount, orElse, bookRefu
 use Rattle.volumes.specs.SettlementLaws.{rows-length}
 use Rattle.volumes.specs.Series.{Kind}
 use Rattle.message.specs.Valid.{isMoment}
+use Rattle.writer.specs.WriterLaid.{ahead, ahead-fits, reached, Laid}
 use Rattle.reports.specs.declared.FileAnswer.{FileAnswer}
 use Rattle.reports.specs.declared.FileAnswer.the-variants.{File, Refused}
 use Rattle.reports.specs.FileRows.{fileText}
@@ -31,6 +35,37 @@ askedVerdict book kind receiver id moment lent =
     unless (stands receiver (receivers book kind)) 11
     (unless (isTransactionId id && isMoment moment) 12
     (unless (leb (rowWidth * rowCount book) lent) 10 none))
+
+module _ (book : Book) (kind : Kind) (receiver : ℕ) (id moment : List ℕ) (lent : ℕ) where
+  pub asked-other : stands receiver (receivers book kind) ≡ false → refused 11 0 ≡ askedVerdict book kind receiver id moment lent
+  unfolding askedVerdict
+  asked-other e = rw e
+
+  pub asked-malformed : stands receiver (receivers book kind) ≡ true → (isTransactionId id && isMoment moment) ≡ false → refused 12 0 ≡ askedVerdict book kind receiver id moment lent
+  unfolding askedVerdict
+  asked-malformed e f = rw (e, f)
+
+  pub asked-short : stands receiver (receivers book kind) ≡ true → (isTransactionId id && isMoment moment) ≡ true → lent < rowWidth * rowCount book → refused 10 0 ≡ askedVerdict book kind receiver id moment lent
+  unfolding askedVerdict
+  asked-short e f h = rw (e, f, lt-leb (rowWidth * rowCount book) lent h)
+
+  pub asked-well : stands receiver (receivers book kind) ≡ true → (isTransactionId id && isMoment moment) ≡ true → rowWidth * rowCount book ≤ lent → none ≡ askedVerdict book kind receiver id moment lent
+  unfolding askedVerdict
+  asked-well e f h = rw (e, f, le-leb (rowWidth * rowCount book) lent h)
+
+  -- the rows have room where nothing is refused
+  pub asked-room : askedVerdict book kind receiver id moment lent ≡ none → rowWidth * rowCount book ≤ lent
+  unfolding askedVerdict
+  asked-room e = go (stands receiver (receivers book kind)) (isTransactionId id && isMoment moment) (leb (rowWidth * rowCount book) lent) refl e
+    where
+      never : (r : Refusal) → some r ≡ none → ⊥
+      never r e = let z : _≡_ {A = ℕ} 0 1 = cc in omega arith
+
+      go : (s f b : Bool) → leb (rowWidth * rowCount book) lent ≡ b → unless s 11 (unless f 12 (unless b 10 none)) ≡ none → rowWidth * rowCount book ≤ lent
+      go true true true t e = leb-true (rowWidth * rowCount book) lent t
+      go true true false t e = absurd (never _ e)
+      go true false b t e = absurd (never _ e)
+      go false f b t e = absurd (never _ e)
 
 -- and then 10 with item 1
 unfoldable pub roomFor : List ℕ → List ℕ → Option Refusal
@@ -110,18 +145,36 @@ module _ (bytes : List ℕ) (kind receiver : ℕ) (id moment : List ℕ) (lent :
 -- ---- the file and the rows, where they have room or not
 
 module _ (book : Book) (text : List ℕ) (lent : List ℤ) (before : List ℕ) where
-  pub file-short : length before < length text → FileFilled book text lent lent before before (Refused 10 1)
+  -- measured, the file found no place behind it
+  pub file-short : (dry : List ℕ) (m : Mark) → m ≡ No → Laid false before (At 0) text dry m → FileFilled book text lent lent before dry (Refused 10 1)
   unfolding fileSays afterwards roomFor
-  file-short h = let e = lt-leb (length text) (length before) h in record { answer = rw e; rows = rw e; file = rw e }
+  file-short dry m e v =
+      let over-long : length before < length text = no-room (length before) (length text) (sym e ∙ v .behind) in
+      let h = lt-leb (length text) (length before) over-long in
+      record { answer = rw h; rows = rw h; file = rw h (v .dry refl) }
+    where
+      no-room : (len n : ℕ) → No ≡ ahead len (At 0) n → len < n
+      no-room len n e = go (leb n len) refl
+        where
+          go : (b : Bool) → leb n len ≡ b → len < n
+          go true t = let z : _≡_ {A = ℕ} 0 1 = cc (ahead-fits len 0 n (omega (arith, leb-true n len t))) in absurd (omega arith)
+          go false t = leb-false n len t
 
-  -- the rows that stand in the first places of a longer list are copied
-  pub file-fits : (count n : ℕ) (settled rowsAfter : List ℤ) (after : List ℕ) → length text ≤ length before → count ≡ rowCount book → n ≡ length text
-      → rowWidth * count ≤ length settled → rowsAfter ≡ take (rowWidth * count) (sets settled 0 (rows book)) ++ drop (rowWidth * count) lent
-      → after ≡ over text before → FileFilled book text lent rowsAfter before after (File count n)
+  -- laid over what stood there
+  laid-over : (after : List ℕ) (r : Mark) → length text ≤ length before → Laid true before (At 0) text after r → after ≡ over text before
+  unfolding over written
+  laid-over after r h v = v .wrote refl 0 (0 + length text) refl (v .behind ∙ ahead-fits (length before) 0 (length text) (omega arith)) ∙ rw zero-add
+
+  -- the rows that stand in the first places of a list are copied, and the file written
+  pub file-fits : (count n : ℕ) (settled rowsAfter : List ℤ) (dry after : List ℕ) (m r : Mark) → take (length (rows book)) settled ≡ rows book → count ≡ rowCount book → m ≡ At n
+      → Laid false before (At 0) text dry m → rowsAfter ≡ take (rowWidth * count) settled ++ drop (rowWidth * count) lent → Laid true dry (At 0) text after r
+      → FileFilled book text lent rowsAfter before after (File count n)
   unfolding fileSays afterwards roomFor over
-  file-fits count n settled rowsAfter after h c e k f g =
-      let r = le-leb (length text) (length before) h in
-      let w : length (rows book) ≡ rowWidth * count = rows-length book ∙ ap (λ j. rowWidth * j) (sym c) in
-      let first : take (rowWidth * count) (sets settled 0 (rows book)) ≡ rows book =
-      ap (take (rowWidth * count)) (sets-eq (rows book) settled 0 (omega arith)) ∙ take-at (rows book) (drop (0 + length (rows book)) settled) (rowWidth * count) w in
-      record { answer = rw (r, c, e); rows = rw r (f ∙ rw (first, w)); file = rw r g }
+  file-fits count n settled rowsAfter dry after m r s c e v f w =
+      let k = reached (length before) 0 (length text) n (sym (v .behind) ∙ e) in
+      let h : length text ≤ length before = omega (arith, k .room) in
+      let t : n ≡ length text = omega (arith, k .is) in
+      let b = le-leb (length text) (length before) h in
+      let j : length (rows book) ≡ rowWidth * count = rows-length book ∙ ap (λ i. rowWidth * i) (sym c) in
+      let same : dry ≡ before = v .dry refl in
+      record { answer = rw (b, c, t); rows = rw b (f ∙ rw (← j, s)); file = rw b (laid-over after r h (rw same at w)) }
