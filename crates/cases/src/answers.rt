@@ -36,3 +36,8 @@ pub fn refused(number: u64, item: u64) {
     io::print_decimal(1, item);
     io::write_all(1, b"\n");
 }
+
+// What is said of a line that is no case.
+pub fn no_case() {
+    io::write_all(1, b"no case\n");
+}

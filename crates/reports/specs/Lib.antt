@@ -15,6 +15,7 @@ pub mod ReadLaws
 pub mod Calls
 pub mod Demand3
 pub mod CallsLaws
+pub mod SheetLaws
 pub mod Demand3Laws
 pub mod PossibleLaws
 pub mod Small

@@ -7,10 +7,12 @@ pub mod series;
 ghost use Rattle.reports.specs.Demand3.{Demand3, Possible};
 ghost use Rattle.reports.specs.Small.{Shown};
 
+pub mod sheet;
+
 // What a sheet call answers: the sums that it filled, or a number and an item of document 01.
 pub enum SheetAnswer {
     Sheet(usize),
-    Refused(u8, usize),
+    Refused(u64, usize),
 }
 
 // What a file call answers: the settlement rows and the bytes that it filled, or a number and an item.

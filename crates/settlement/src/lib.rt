@@ -1,7 +1,6 @@
-// Settling: judging a book to the end, the rows of its engagements, and the cells of a sheet.
+// Settling: judging a book to the end, and the rows of its engagements.
 pub mod fill;
 pub mod judge;
 pub mod rows;
 pub mod sections;
 pub mod settle;
-pub mod sheets;

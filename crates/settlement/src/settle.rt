@@ -45,7 +45,7 @@ pub fn row_count(book: &[u8]) -> usize
 }
 
 // The rows of engagement i, from `at` on; the place after them.
-fn fill_row(
+pub fn fill_row(
     c: Calendar,
     calendar: &[u8],
     pairs: &[u8],

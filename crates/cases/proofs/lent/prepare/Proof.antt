@@ -3,8 +3,8 @@ use mathlib.Core.Path.{_≡_}
 use Prim.Native.Nat.{_-_}
 use lib.ListN.{length}
 use borrow.Author.Needs.{needs}
-use Rattle.settle_vectors.proofs.prepare.Statement.{statement}
-use Rattle.settle_vectors.proofs.prepare.Tie as tie
+use Rattle.cases.proofs.lent.prepare.Statement.{statement}
+use Rattle.cases.proofs.lent.prepare.Tie as tie
 
 abbrev Inv-loop : tie.InvT-loop
 Inv-loop rows₀ i₀ rows i = length rows ≡ length rows₀

@@ -2,8 +2,8 @@
 use Prim.Native.Nat.{_-_}
 use lib.ListN.{length}
 use borrow.Author.Needs.{needs}
-use Rattle.settle_vectors.proofs.kept.Statement.{statement}
-use Rattle.settle_vectors.proofs.kept.Tie as tie
+use Rattle.cases.proofs.lent.kept.Statement.{statement}
+use Rattle.cases.proofs.lent.kept.Tie as tie
 
 abbrev Inv-loop : tie.InvT-loop
 Inv-loop rows i₀ t3 i = Unit {0}

@@ -1,0 +1,11 @@
+pub mod Adds
+pub mod AddsLaws
+pub mod Shares
+pub mod SharesLaws
+pub mod Parties
+pub mod PartiesLaws
+pub mod RowsLaws
+pub mod CellsLaws
+pub mod Parts
+pub mod SheetLaws
+pub mod EngagementLaws

@@ -1,0 +1,59 @@
+-- What a party gets of two corrections, by the columns in which it stands.
+use mathlib.Core.Path.{_≡_, ap, _∙_}
+use mathlib.Core.Bool.{cond}
+use mathlib.Core.List.{List, [], _∷_, zip, zipWith}
+use Prim.Native.Nat.{ℕ, _+_, _<_}
+use native.Mathlib.Omega.{arith}
+use lib.Dec.{eqb}
+use lib.IntN.{ℤ, pos, _+ℤ_, +ℤ-idl, +ℤ-idr}
+use lib.ListN.{length, getD, length-map}
+use mir.Syntax.{w64}
+use mir.Val.{SFits}
+use borrow.Author.Tests.{eq-eqb, ne-eqb}
+use Rattle.integers.specs.Ranges.{range, length-range}
+use Rattle.integers.specs.Sums.{sumBy}
+use Rattle.book.specs.declared.Point.{Point}
+use Rattle.volumes.specs.Sheets.{partiesOf, shareOf}
+use Rattle.settlement.specs.EngagedLaws.{getD-made}
+use Rattle.sheets.specs.Adds.{adds, Addable}
+use Rattle.sheets.specs.AddsLaws.{adds-next, adds-behind}
+use Rattle.sheets.specs.Shares.{gets, sourceIn, fspIn, getsOf}
+
+gets-is : (party : ℕ) (point : Point) (source fsp : ℤ) → gets party point source fsp ≡ cond (eqb (point .sourceparty) party) source (pos 0) +ℤ cond (eqb (point .fspparty) party) fsp (pos 0)
+unfolding gets shareOf partiesOf zip zipWith sumBy
+gets-is party point source fsp =
+    ap (λ (z : ℤ). cond (eqb (point .sourceparty) party) source (pos 0) +ℤ z) (+ℤ-idr (cond (eqb (point .fspparty) party) fsp (pos 0)))
+
+module _ (party : ℕ) (point : Point) (source fsp : ℤ) where
+  pub gets-both : point .sourceparty ≡ party → point .fspparty ≡ party → gets party point source fsp ≡ source +ℤ fsp
+  gets-both p q = gets-is party point source fsp ∙ rw (eq-eqb (point .sourceparty) party p, eq-eqb (point .fspparty) party q)
+
+  pub gets-source : point .sourceparty ≡ party → (point .fspparty ≡ party → ⊥) → gets party point source fsp ≡ source
+  gets-source p q = gets-is party point source fsp ∙ rw (eq-eqb (point .sourceparty) party p, ne-eqb (point .fspparty) party q) (+ℤ-idr source)
+
+  pub gets-fsp : (point .sourceparty ≡ party → ⊥) → point .fspparty ≡ party → gets party point source fsp ≡ fsp
+  gets-fsp p q = gets-is party point source fsp ∙ rw (ne-eqb (point .sourceparty) party p, eq-eqb (point .fspparty) party q) (+ℤ-idl fsp)
+
+  pub gets-none : (point .sourceparty ≡ party → ⊥) → (point .fspparty ≡ party → ⊥) → gets party point source fsp ≡ pos 0
+  gets-none p q = gets-is party point source fsp ∙ rw (ne-eqb (point .sourceparty) party p, ne-eqb (point .fspparty) party q)
+
+module _ (party : ℕ) (point : Point) (rows : List ℤ) where
+  -- of so many rows so many shares, and the k-th of them
+  pub gets-length : (count : ℕ) → length (getsOf party point rows count) ≡ count
+  unfolding getsOf
+  gets-length count = length-map (range 0 count) _ ∙ length-range 0 count
+
+  -- one row more
+  pub gets-next : (l : List ℤ) (at k : ℕ) → adds (adds l at (getsOf party point rows k)) (at + k) (gets party point (sourceIn rows k) (fspIn rows k) ∷ []) ≡ adds l at (getsOf party point rows (k + 1))
+  unfolding getsOf
+  gets-next l at k = adds-next l at (λ k. gets party point (sourceIn rows k) (fspIn rows k)) k
+
+  -- the next cell is as it was
+  pub gets-fits : (l : List ℤ) (at count k : ℕ) → Addable l at (getsOf party point rows count) → k < count → SFits w64 (getD (adds l at (getsOf party point rows k)) (at + k) (pos 0) +ℤ gets party point (sourceIn rows k) (fspIn rows k))
+  unfolding getsOf
+  gets-fits l at count k h q =
+      let f : ℕ → ℤ = λ k. gets party point (sourceIn rows k) (fspIn rows k) in
+      let n : length (getsOf party point rows k) ≡ k = gets-length k in
+      let m : length (getsOf party point rows count) ≡ count = gets-length count in
+      rw (adds-behind l at (getsOf party point rows k) (at + k) (omega arith), ← getD-made f count k (pos 0) q)
+      (h .fits k (omega arith))

@@ -1,0 +1,65 @@
+// The cells of a sheet, one for each quarter-hour of the month, and what settlement rows add to them.
+use book::Point;
+ghost use mathlib.Core.Path.{_≡_};
+ghost use mathlib.Core.List.{_++_};
+ghost use Prim.Native.Nat.{_+_, _*_, _≤_, _<_};
+ghost use lib.IntN.{pos, _+ℤ_};
+ghost use lib.ListN.{length, getD, drop, replicate};
+ghost use mir.Syntax.{w64};
+ghost use mir.Val.{SFits};
+ghost use Rattle.volumes.specs.Settlement.{rowWidth};
+ghost use Rattle.sheets.specs.Adds.{addAt, adds, Addable};
+ghost use Rattle.sheets.specs.Shares.{gets, getsOf, Both};
+
+// The first n cells are 0.
+pub fn clear(sums: &mut [i64], n: usize)
+    requires { ⌜ n ≤ length (now sums) ⌝ }
+    ensures { λ r. ⌜ now (sums .exit) ≡ replicate n (pos 0) ++ drop n (now (sums .entry)) ⌝ }
+{
+    let mut i = 0;
+    while i < n {
+        sums[i] = 0;
+        i += 1;
+    }
+}
+
+// Adds a correction to cell i.
+pub fn add_at(sums: &mut [i64], i: usize, correction: i64)
+    requires { ⌜ (i < length (now sums)) × SFits w64 (getD (now sums) i (pos 0) +ℤ correction) ⌝ }
+    ensures { λ r. ⌜ now (sums .exit) ≡ addAt (now (sums .entry)) i correction ⌝ }
+{
+    sums[i] += correction;
+}
+
+// What a party gets of the two corrections of a quarter-hour: "One party in both columns gets both."
+fn share(party: u16, point: Point, source: i64, fsp: i64) -> i64
+    requires { ⌜ SFits w64 (source +ℤ fsp) ⌝ }
+    ensures { λ r. ⌜ r ≡ gets party point source fsp ⌝ }
+{
+    if point.sourceparty == party {
+        if point.fspparty == party {
+            return source + fsp;
+        }
+        return source;
+    }
+    if point.fspparty == party {
+        return fsp;
+    }
+    0
+}
+
+// Adds what a party gets of `count` rows, from cell `at` on.
+pub fn add_rows(sums: &mut [i64], at: usize, party: u16, point: Point, rows: &[i64], count: usize)
+    requires { ⌜ (rowWidth * count ≤ length (now rows)) × Both (now rows) count × Addable (now sums) at (getsOf party point (now rows) count) ⌝ }
+    ensures { λ r. ⌜ now (sums .exit) ≡ adds (now (sums .entry)) at (getsOf party point (now (rows .entry)) count) ⌝ }
+{
+    let mut k = 0;
+    while k < count {
+        let row = settlement::rows::ROW_WIDTH * k;
+        let source = rows[row + 2];
+        let fsp = rows[row + 3];
+        let correction = share(party, point, source, fsp);
+        add_at(sums, at + k, correction);
+        k += 1;
+    }
+}
