@@ -4,6 +4,7 @@ use Prim.Native.Nat.{ℕ}
 use Rattle.integers.specs.Ranges.{range}
 use Rattle.book.specs.declared.Supply.{Supply}
 use Rattle.book.specs.declared.Direction.{Direction}
+use Rattle.book.specs.declared.Calendar.{Calendar}
 use Rattle.book.specs.Book.{Book}
 use Rattle.volumes.specs.Series.{Kind}
 use Rattle.message.specs.Contents.{Observation, Series as TimeSeries}
@@ -19,6 +20,10 @@ observationIf p watts = keep isWritten (observed (p, watts) ∷ [])
 -- the observations of the first n positions
 unfoldable pub observationsIn : List ℕ → ℕ → List Observation
 observationsIn watts n = keep isWritten (map (λ p. observed (p, cellAt watts p)) (range 1 n))
+
+-- "A series is one partner, supply and delivery direction", by their numbers, with a calendar's month
+abbrev pub seriesIn : ℕ → ℕ → Calendar → List Observation → TimeSeries
+seriesIn supply delivery c observations = record { supply = supply; delivery = delivery; year = c .year; month = c .month; observations = observations }
 
 -- "nor empty series": the series of a partner and its directions, or none
 unfoldable pub seriesIf : Book → Kind → ℕ → ℕ → Supply × Direction → List TimeSeries

@@ -6,21 +6,34 @@ use Prim.Native.Nat.{ℕ, suc, _+_, _<_, _≤_}
 use native.Mathlib.Numerals.{add-one}
 use native.Mathlib.Omega.{arith}
 use lib.Dec.{ltb}
+use lib.IntN.{ℤ}
 use lib.ListN.{length, getD, length-append}
 use borrow.Author.Tests.{le-ltb, lt-ltb}
 use Rattle.integers.specs.Ranges.{range, range-more}
-use Rattle.book.specs.Book.{Book}
+use Rattle.calendar.specs.Dates.{calendarDays}
+use Rattle.calendar.specs.DatesLaws.{month-length}
+use Rattle.book.specs.declared.Supply.{Supply}
+use Rattle.book.specs.declared.Direction.{Direction}
+use Rattle.book.specs.declared.Calendar.{Calendar}
+use Rattle.book.specs.Calendars.{dayStart, Ranged}
+use Rattle.book.specs.Header.{calendarOf}
+use Rattle.book.specs.Book.{Book, bookOf}
 use Rattle.volumes.specs.Quarters.{monthQuarters}
 use Rattle.volumes.specs.QuartersLaws.{map-range-cong, flatMap-append}
+use Rattle.volumes.specs.SettlementLaws.{passing}
 use Rattle.volumes.specs.Series.{Kind, Series, seriesWatts}
+use Rattle.volumes.specs.SeriesLaws.{seriesOf}
+use Rattle.settlement.specs.SectionsLaws.{bytes-long}
+use Rattle.message.specs.declared.Kind.{Kind as Form}
 use Rattle.message.specs.Contents.{Observation}
-use Rattle.message.specs.Bytes.{observationBytes}
+use Rattle.message.specs.Valid.{IsPeriod}
+use Rattle.message.specs.Bytes.{observationBytes, seriesBytes}
 use Rattle.message.specs.ObservationForm.{observed}
-use Rattle.reports.specs.Keep.{keep}
-use Rattle.reports.specs.FileRows.{positions, observationAt, isWritten, observationsOf}
-use Rattle.reports.specs.SeriesSums.{byPosition, cellAt}
-use Rattle.reports.specs.SeriesSumsLaws.{cell-is}
-use Rattle.reports.specs.SeriesSumsWritten.{observationIf, observationsIn}
+use Rattle.reports.specs.Keep.{keep, isSome}
+use Rattle.reports.specs.FileRows.{positions, observationAt, isWritten, observationsOf, supplyNumber, deliveryNumber, timeSeries}
+use Rattle.reports.specs.SeriesSums.{kindIn, byPosition, cellAt, SettledIn}
+use Rattle.reports.specs.SeriesSumsLaws.{parts-of, cell-is}
+use Rattle.reports.specs.SeriesSumsWritten.{observationIf, observationsIn, seriesIn, seriesIf}
 
 -- what is kept of two lists
 keep-append : {A : Type 0} (test : A → Bool) (l m : List A) → keep test (l ++ m) ≡ keep test l ++ keep test m
@@ -82,3 +95,50 @@ observations-are book kind receiver s before l n month e =
     rw (← month)
     (ap (keep isWritten) (map-range-cong (λ p. observed (p, cellAt l p)) (λ p. observed (p, seriesWatts book kind receiver s p)) 1 n (λ p low high.
     ap (λ (w : ℕ). observed (p, w)) (ap (λ (t : List ℕ). cellAt t p) e ∙ cell-is (seriesWatts book kind receiver s) n before p low (omega arith)))))
+
+no-length : {A : Type 0} (l : List A) → length l ≡ 0 → isSome l ≡ false
+unfolding isSome
+no-length [] e = refl
+no-length (a ∷ l) e = absurd (omega arith)
+
+some-length : {A : Type 0} (l : List A) → 0 < length l → isSome l ≡ true
+unfolding isSome
+some-length [] h = absurd (omega arith)
+some-length (a ∷ l) h = refl
+
+-- a series without observations isn't written, one with some is
+module _ (form : Form) (book : Book) (receiver partner : ℕ) (u : Supply) (v : Direction) (l : List Observation)
+    (own : l ≡ observationsOf book (kindIn form) receiver (seriesOf partner u v)) where
+  pub series-none : length l ≡ 0 → [] ≡ flatMap (seriesBytes form) (seriesIf book (kindIn form) receiver partner (u, v))
+  unfolding seriesIf timeSeries keep flatMap
+  series-none e = rw (ap isSome (sym own) ∙ no-length l e)
+
+  pub series-some : (supply delivery : ℕ) (c : Calendar) → supply ≡ supplyNumber u → delivery ≡ deliveryNumber v → c ≡ book .calendar → 0 < length l
+      → seriesBytes form (seriesIn supply delivery c l) ≡ flatMap (seriesBytes form) (seriesIf book (kindIn form) receiver partner (u, v))
+  unfolding seriesIf timeSeries keep flatMap
+  series-some supply delivery c e f g h =
+      let is : seriesIn supply delivery c l ≡ timeSeries book (kindIn form) receiver partner (u, v) = λ i. seriesIn (e i) (f i) (g i) (own i) in
+      rw (ap isSome (sym own) ∙ some-length l h) (ap (seriesBytes form) is ∙ sym (append-nil (seriesBytes form (timeSeries book (kindIn form) receiver partner (u, v)))))
+
+-- ---- the month
+
+-- no month has more positions
+pub month-most : (c : Calendar) → Ranged c → monthQuarters c ≤ 2976
+unfolding monthQuarters dayStart calendarDays
+month-most c h = omega (arith, month-length (c .year) (c .month) (h .january) (h .december))
+
+pub period-of : (c : Calendar) → Ranged c → IsPeriod (c .year) (c .month)
+period-of c h = record { from = h .from; to = h .to; january = h .january; december = h .december }
+
+-- what a book that refusals 1 to 9 pass says of its calendar
+pub record Opened (bytes : List ℕ) : Type 0 where
+  pub long : 56 ≤ length bytes
+  pub ranged : Ranged (calendarOf bytes)
+  pub own : calendarOf bytes ≡ bookOf bytes .calendar
+  pub few : monthQuarters (bookOf bytes .calendar) ≤ 2976
+
+pub opened : (bytes : List ℕ) (settled : List ℤ) → SettledIn bytes settled → Opened bytes
+opened bytes settled h =
+    let p = parts-of bytes settled h in
+    let r = rw (p .when) at (p .sound .ranged) in
+    record { long = bytes-long bytes (passing bytes (h .accepted) .passed); ranged = r; own = sym (p .when); few = rw (p .when) (month-most (calendarOf bytes) r) }

@@ -30,9 +30,10 @@ ghost use Rattle.volumes.specs.Sheets.{startPosition};
 ghost use Rattle.volumes.specs.Baseline.{pointOf};
 ghost use Rattle.volumes.specs.Series.{takes, receiverOf, partnerOf, sameSupply, sameDirection, isPoint, isEngagement, grainsAt, seriesWatts};
 ghost use Rattle.volumes.specs.SeriesLaws.{seriesOf};
-ghost use Rattle.message.specs.Bytes.{observationBytes};
+ghost use Rattle.message.specs.Bytes.{observationBytes, seriesBytes};
 ghost use Rattle.writer.specs.WriterLaid.{Laid, Stands};
-ghost use Rattle.reports.specs.SeriesSumsWritten.{observationIf, observationsIn};
+ghost use Rattle.reports.specs.FileRows.{supplyNumber, deliveryNumber, observationsOf};
+ghost use Rattle.reports.specs.SeriesSumsWritten.{observationIf, observationsIn, seriesIn, seriesIf};
 ghost use Rattle.reports.specs.SeriesSums.{kindIn, byPosition, cellAt, volumeIn, added, Addable, Parts, Parted, SettledIn};
 
 // Whether a kind's files take transfer points, and pass-through points.
@@ -387,4 +388,120 @@ pub fn emit_watts(out: &mut [u8], m: Mark, watts: &[u64], n: usize, live: bool) 
         i += 1;
     }
     a
+}
+
+// How many observations a series has.
+pub fn count_observations(
+    book: &[u8],
+    settled: &[i64],
+    kind: Kind,
+    receiver: u64,
+    partner: u64,
+    supply: Supply,
+    delivery: Direction,
+) -> u64
+    requires { ⌜ SettledIn (now book) (now settled) ⌝ }
+    ensures { λ r. ⌜ r ≡ length (observationsOf (bookOf (now (book .entry))) (kindIn kind) receiver (seriesOf partner supply delivery)) ⌝ }
+{
+    let mut watts = [0u64; 2976];
+    series_watts(
+        book,
+        settled,
+        kind,
+        receiver,
+        partner,
+        supply,
+        delivery,
+        &mut watts,
+    );
+    let c = book::header::calendar_of(book);
+    count_written(&watts, month_quarters(c))
+}
+
+// The directions as a file's rows have them.
+fn supply_number(supply: Supply) -> u64
+    ensures { λ r. ⌜ (r ≡ supplyNumber supply) × (r < 2) ⌝ }
+{
+    match supply {
+        Supply::OffTake => 0,
+        Supply::Injection => 1,
+    }
+}
+
+fn delivery_number(delivery: Direction) -> u64
+    ensures { λ r. ⌜ (r ≡ deliveryNumber delivery) × (r < 2) ⌝ }
+{
+    match delivery {
+        Direction::Up => 0,
+        Direction::Down => 1,
+    }
+}
+
+// A series whose watts stand at the first n positions, `count` of which are written.
+fn emit_counted(
+    out: &mut [u8],
+    m: Mark,
+    watts: &[u64],
+    n: usize,
+    count: u64,
+    kind: Kind,
+    supply: u64,
+    delivery: u64,
+    c: Calendar,
+    live: bool,
+) -> Mark
+    requires { ⌜ (supply < 2) × (delivery < 2) × Ranged c × (n ≤ length (now watts)) × (count ≡ length (observationsIn (now watts) n)) ⌝ }
+    ensures { λ r. ⌜ Laid live (now (out .entry)) m (seriesBytes kind (seriesIn supply delivery c (observationsIn (now (watts .entry)) n))) (now (out .exit)) r ⌝ }
+{
+    let a = writer::emitting::emit_series_head(
+        out,
+        m,
+        kind,
+        supply,
+        delivery,
+        count,
+        c.year,
+        c.month,
+        live,
+    );
+    let b = emit_watts(out, a, watts, n, live);
+    writer::emitting::emit_series_end(out, b, live)
+}
+
+// A series of a book, if it has observations.
+pub fn emit_series(
+    out: &mut [u8],
+    m: Mark,
+    book: &[u8],
+    settled: &[i64],
+    kind: Kind,
+    receiver: u64,
+    partner: u64,
+    supply: Supply,
+    delivery: Direction,
+    live: bool,
+) -> Mark
+    requires { ⌜ SettledIn (now book) (now settled) × Stands (length (now out)) m ⌝ }
+    ensures { λ r. ⌜ Laid live (now (out .entry)) m (flatMap (seriesBytes kind) (seriesIf (bookOf (now (book .entry))) (kindIn kind) receiver partner (supply, delivery))) (now (out .exit)) r ⌝ }
+{
+    let mut watts = [0u64; 2976];
+    series_watts(
+        book,
+        settled,
+        kind,
+        receiver,
+        partner,
+        supply,
+        delivery,
+        &mut watts,
+    );
+    let c = book::header::calendar_of(book);
+    let n = month_quarters(c);
+    let count = count_written(&watts, n);
+    if count == 0 {
+        return m;
+    }
+    let s = supply_number(supply);
+    let d = delivery_number(delivery);
+    emit_counted(out, m, &watts, n, count, kind, s, d, c, live)
 }
