@@ -1,11 +1,9 @@
 -- The sections and the calendar are the book's own, and its month's cells are cleared first.
 use mathlib.Core.Path.{_≡_, sym, ap, _∙_}
 use mathlib.Core.Option.{none}
-use mathlib.Core.List.{List}
-use Prim.Native.Nat.{ℕ, _≤_}
-use lib.ListN.{length}
+use Prim.Native.Nat.{ℕ}
 use native.Mathlib.Omega.{arith}
-use Rattle.book.specs.declared.Calendar.{Calendar}
+use borrow.Author.Needs.{needs}
 use Rattle.book.specs.Header.{calendarOf, registerSection, engagementSection}
 use Rattle.book.specs.Judged.{refusalOf}
 use Rattle.book.specs.Book.{bookOf}
@@ -16,7 +14,6 @@ use Rattle.volumes.specs.SeriesLaws.{seriesOf}
 use Rattle.settlement.specs.SectionsLaws.{bytes-long}
 use Rattle.reports.specs.SeriesSums.{kindIn, byPosition, Parts}
 use Rattle.reports.specs.SeriesSumsLaws.{by-again, by-own, parts-of}
-use borrow.Author.Needs.{needs}
 use Rattle.reports.proofs.series.fill_grains.Statement.{statement}
 use Rattle.reports.proofs.series.fill_grains.Tie as tie
 
