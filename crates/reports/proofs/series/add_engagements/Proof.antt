@@ -28,9 +28,11 @@ Inv-loop c register engagements settled kind receiver partner supply delivery gr
 abbrev μ-loop : tie.MeasureT-loop
 μ-loop c register engagements settled kind receiver partner supply delivery grains₀ n at₀ i₀ grains at i = n - i
 
+-- an engagement of the section
 inside : (c : tie.In-loop Inv-loop μ-loop) → c .before .loop .i < engagementCountIn (c .before .before .before .before .before .args .engagements .now)
 inside c = search needs
 
+-- what was read of it: its rows in the series, and the cell of its first position
 rows-are : (c : tie.After-cell-of Inv-loop μ-loop) → let a = c .before .before .before .before .before .before .before .before .args in
     let i = c .before .before .before .before .loop .i in
     (b : Book) → Parts (a .c) (a .register .now) (a .engagements .now) (a .settled .now) b

@@ -13,6 +13,7 @@ use Rattle.reports.specs.SeriesSumsWrittenLaws.{observations-are, Opened
 use Rattle.reports.proofs.series.count_observations.Statement.{statement}
 use Rattle.reports.proofs.series.count_observations.Tie as tie
 
+-- the book's calendar, and the positions of its month
 calendar : (c : tie.Start) → Opened (c .args .book .now)
 calendar c = opened (c .args .book .now) (c .args .settled .now) (c .pre)
 
