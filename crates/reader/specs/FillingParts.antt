@@ -27,7 +27,7 @@ use Rattle.message.specs.SeriesForm.{Volume, volumeBody, ofVolume}
 use Rattle.message.specs.SeriesListForm.{follows, seriesList}
 use Rattle.message.specs.PartnerForm.{partnerForm}
 use Rattle.message.specs.FileForm.{partnersForm}
-use Rattle.reader.specs.Reading.{keep, parsed-no, observing, Passed, observationsOf, observationItem, observationOnto, VolumeRead, volume-parsed, ownParse, own-body, sharedParse, shared-body, Outline, outline}
+use Rattle.reader.specs.Reading.{keep, parsed-no, observing, Passed, observationsOf, observationItem, observationOnto, VolumeRead, volume-parsed, ownParse, own-body, own-read, sharedParse, shared-body, shared-read, Outline, outline}
 use Rattle.reader.specs.ReaderItems.{viewed, view-bad, unview, folded}
 use Rattle.reader.specs.ReaderSeries.{seriesForm, item, onto, placeIn, counting, listForm}
 use Rattle.reader.specs.ReaderPartner.{Head, headParse, numbered, partnerKept, partner-seen}
@@ -91,37 +91,49 @@ module _ (year month : ℕ) where
 -- ---- a time series
 
 module _ (s : List ℕ) {m a b c d e f g h : Mark} {x n year month : ℕ} (partner supply : ℕ) {k : ℕ} {before after : List ℕ} where
-  pub volume-fills : Parsed (strip (opening "DeliveryDirection")) s m a tt → Parsed (wordsParse deliveries) s a b x
+  pub volume-filled : Parsed (strip (opening "DeliveryDirection")) s m a tt → Parsed (wordsParse deliveries) s a b x
       → Parsed (strip (closing "DeliveryDirection" ++ element "UnitType" (bytes "KWT") ++ opening "ObservationCounter")) s b c tt → Parsed (plainNumber .parse) s c d n
       → Parsed (strip (ending "ObservationCounter" ++ opening "TimeSeriesPeriod")) s (keep (ltb 0 n) d) e tt → Parsed (period .parse) s e f (year, month)
-      → Passed (observationsOf year month n) s f g → Parsed (strip (closing "TimeSeriesPeriod")) s g h tt
-      → Fills (observationsOf year month n) (flatMap (rowsOfObservation partner (supply, x))) s f k before after
-      → Fills (volumeBody .parse) (λ v. rowsOfSeries partner (ofVolume supply v)) s m k before after
+      → Passed (observationsOf year month n) s f g × Fills (observationsOf year month n) (flatMap (rowsOfObservation partner (supply, x))) s f k before after
+      → Parsed (strip (closing "TimeSeriesPeriod")) s g h tt
+      → VolumeRead s m h x year month n × Fills (volumeBody .parse) (λ v. rowsOfSeries partner (ofVolume supply v)) s m k before after
   unfolding ofVolume
-  volume-fills i j l o p q r t fills =
-      fills-within (observationsOf year month n) (volumeBody .parse) (λ v. rowsOfSeries partner (ofVolume supply v)) (closing "TimeSeriesPeriod") (r .ran .value) (x, (n, ((year, month), r .ran .value)))
-      fills (volume-parsed s i j l o p q r t) (record { run = r .ran .ran; within = r .within }) t (λ q e. refl)
+  volume-filled i j l o p q w t =
+      let r = w .0 in
+      let whole = volume-parsed s i j l o p q r t in (
+        record { observations = r .ran .value; parsed = whole },
+        fills-within (observationsOf year month n) (volumeBody .parse) (λ v. rowsOfSeries partner (ofVolume supply v)) (closing "TimeSeriesPeriod") (r .ran .value) (x, (n, ((year, month), r .ran .value)))
+            (w .1) whole (record { run = r .ran .ran; within = r .within }) t (λ q e. refl),
+      )
 
 -- ---- a series
 
 module _ (s : List ℕ) {m a b c d e : Mark} {x delivery year month rows : ℕ} (partner : ℕ) {k : ℕ} {before after : List ℕ} where
-  pub own-fills : Parsed (strip (opening "ToETimeSeries" ++ opening "SupplyDirection")) s m a tt → Parsed (wordsParse supplies) s a b x → Parsed (strip (closing "SupplyDirection")) s b c tt
-      → VolumeRead s c d delivery year month rows → Parsed (strip (closing "ToETimeSeries")) s d e tt
-      → Fills (volumeBody .parse) (λ v. rowsOfSeries partner (ofVolume x v)) s c k before after → Fills ownParse (rowsOfSeries partner) s m k before after
-  own-fills i j l v r fills =
+  pub own-filled : Parsed (strip (opening "ToETimeSeries" ++ opening "SupplyDirection")) s m a tt → Parsed (wordsParse supplies) s a b x → Parsed (strip (closing "SupplyDirection")) s b c tt
+      → VolumeRead s c d delivery year month rows × Fills (volumeBody .parse) (λ v. rowsOfSeries partner (ofVolume x v)) s c k before after
+      → Parsed (strip (closing "ToETimeSeries")) s d e tt
+      → Parsed (mapParse outline ownParse) s m e ((x, delivery), ((year, month), rows)) × Fills ownParse (rowsOfSeries partner) s m k before after
+  own-filled i j l z r =
+      let v = z .0 in
       let w : Volume = (delivery, (rows, ((year, month), v .observations))) in
-      let whole = own-body s i j l v r in
-      fills-within (volumeBody .parse) ownParse (rowsOfSeries partner) (closing "ToETimeSeries") w (ofVolume x w)
-      fills (record { run = run-map (λ p. ofVolume (p .0) (p .1)) (whole .run); within = whole .within }) (v .parsed) r (λ q e. refl)
+      let whole = own-body s i j l v r in (
+        own-read s i j l v r,
+        fills-within (volumeBody .parse) ownParse (rowsOfSeries partner) (closing "ToETimeSeries") w (ofVolume x w)
+            (z .1) (record { run = run-map (λ p. ofVolume (p .0) (p .1)) (whole .run); within = whole .within }) (v .parsed) r (λ q e. refl),
+      )
 
 module _ (s : List ℕ) {m a b c : Mark} (x : ℕ) {delivery year month rows : ℕ} (partner : ℕ) {k : ℕ} {before after : List ℕ} where
-  pub shared-fills : Parsed (strip (opening "ToETimeSeries")) s m a tt → VolumeRead s a b delivery year month rows → Parsed (strip (closing "ToETimeSeries")) s b c tt
-      → Fills (volumeBody .parse) (λ v. rowsOfSeries partner (ofVolume x v)) s a k before after → Fills (sharedParse x) (rowsOfSeries partner) s m k before after
-  shared-fills i v r fills =
+  pub shared-filled : Parsed (strip (opening "ToETimeSeries")) s m a tt
+      → VolumeRead s a b delivery year month rows × Fills (volumeBody .parse) (λ v. rowsOfSeries partner (ofVolume x v)) s a k before after → Parsed (strip (closing "ToETimeSeries")) s b c tt
+      → Parsed (mapParse outline (sharedParse x)) s m c ((x, delivery), ((year, month), rows)) × Fills (sharedParse x) (rowsOfSeries partner) s m k before after
+  shared-filled i z r =
+      let v = z .0 in
       let w : Volume = (delivery, (rows, ((year, month), v .observations))) in
-      let whole = shared-body s x i v r in
-      fills-within (volumeBody .parse) (sharedParse x) (rowsOfSeries partner) (closing "ToETimeSeries") w (ofVolume x w)
-      fills (record { run = run-map (ofVolume x) (whole .run); within = whole .within }) (v .parsed) r (λ q e. refl)
+      let whole = shared-body s x i v r in (
+        shared-read s x i v r,
+        fills-within (volumeBody .parse) (sharedParse x) (rowsOfSeries partner) (closing "ToETimeSeries") w (ofVolume x w)
+            (z .1) (record { run = run-map (ofVolume x) (whole .run); within = whole .within }) (v .parsed) r (λ q e. refl),
+      )
 
 -- the next one of a partner
 pub next-fills : (kind : Kind) (x low : ℕ) (seen : ℕ × ℕ) {R : Series → List Row} {s : List ℕ} {m : Mark} {k : ℕ} {d o : List ℕ} → Fills (seriesForm kind x .parse) R s m k d o

@@ -10,10 +10,10 @@ use native.Mathlib.Omega.{arith}
 use borrow.Author.Tests.{le-leb, lt-leb}
 use Rattle.formats.specs.Format.{Res, got, bad, pick}
 use Rattle.formats.specs.FormatLaws.{got-bad}
-use Rattle.formats.specs.Combine.{strip, mapParse}
+use Rattle.formats.specs.Combine.{strip}
 use Rattle.formats.specs.Words.{wordsParse}
-use Rattle.formats.specs.Exactly.{exactlyParse, fixedDigits}
-use Rattle.formats.specs.Name.{nameByte, span, nameParse}
+use Rattle.formats.specs.Exactly.{exactlyParse}
+use Rattle.formats.specs.Name.{nameByte, span}
 use Rattle.formats.specs.Rising.{All}
 use Rattle.formats.specs.Run.{run-map, run-seq, run-pre, run-post}
 use Rattle.formats.specs.Place.{Parsed, left}
@@ -23,17 +23,16 @@ use Rattle.formats.specs.declared.Mark.the-variants.{At, No}
 use Rattle.message.specs.declared.Kind.{Kind}
 use Rattle.message.specs.declared.Kind.the-variants.{Toe01, Toe02, Toe03}
 use Rattle.message.specs.Contents.{Observation, Series, Partner, File}
-use Rattle.message.specs.Bytes.{opening, ending, closing, root, counter}
+use Rattle.message.specs.Bytes.{opening, closing, root}
 use Rattle.message.specs.Valid.{isMoment, monthOf, periods, firstOf, IsFile}
 use Rattle.message.specs.Group.{spread}
 use Rattle.message.specs.Rows.{Row, seriesRows, partnerRows, rowsOf}
 use Rattle.message.specs.SeriesListForm.{after}
 use Rattle.message.specs.FileForm.{Parts, roots, kindOf, kindForm, partnersForm, fileBody}
-use Rattle.message.specs.ObservationForm.{plainNumber}
 use Rattle.reader.specs.ReaderItems.{unview, folded}
 use Rattle.reader.specs.ReaderSeries.{counting}
 use Rattle.reader.specs.ReaderPartners.{adding}
-use Rattle.reader.specs.ReaderPlaces.{Placed, placed}
+use Rattle.reader.specs.ReaderPlaces.{Steps, Placed, placed}
 use Rattle.reader.specs.Filling.{Fills, rowsOfPartner}
 use Rattle.reader.specs.FillingLaws.{began, fills-within}
 use Rattle.reader.specs.FillingParts.{rows-filled}
@@ -100,20 +99,16 @@ module _ (s : List ℕ) (p : ℕ) where
 
 -- ---- the file
 
-module _ (s : List ℕ) {m a b c d e f g h i j l o : Mark} {k : Kind} {id moment : List ℕ} {receiver n : ℕ} {partners : List Partner} where
-  pub file-parsed : Parsed (kindForm .parse) s m a k → Parsed (strip (opening "TransactionID")) s a b tt → Parsed (nameParse nameByte 1 36 60) s b c id
-      → Parsed (strip (ending "TransactionID" ++ opening "MessageCreateDateTime")) s c d tt → Parsed (exactlyParse 29 isMoment) s d e moment
-      → Parsed (strip (closing "MessageCreateDateTime" ++ opening "ReceiverID")) s e f tt → Parsed (fixedDigits 10 .parse) s f g receiver
-      → Parsed (strip (closing "ReceiverID" ++ opening (counter k))) s g h tt → Parsed (plainNumber .parse) s h i n → Parsed (strip (ending (counter k))) s i j tt
-      → Parsed (partnersForm k n .parse) s j l partners → Parsed (strip (closing (root k))) s l o tt
-      → Parsed (fileBody .parse) s m o (k, (id, (moment, (receiver, (n, partners)))))
-  unfolding fileBody
-  file-parsed p₀ p₁ p₂ p₃ p₄ p₅ p₆ p₇ p₈ p₉ q₀ q₁ =
-      record {
-        run = run-seq _ (p₀ .run) (run-pre (opening "TransactionID") (p₁ .run) (run-seq _ (run-post _ (p₂ .run) (p₃ .run)) (run-seq _ (run-post _ (p₄ .run) (p₅ .run))
-            (run-seq _ (run-post _ (p₆ .run) (p₇ .run)) (run-seq _ (run-post _ (p₈ .run) (p₉ .run)) (run-post _ (q₀ .run) (q₁ .run)))))));
-        within = q₁ .within;
-      }
+file-parsed : {s : List ℕ} {a b c d e f g h i j l o : Mark} {k : Kind} {receiver n : ℕ} {t : (ℕ × ℕ) × ℕ} {partners : List Partner} → Steps s a b c d e f g h i j l o k receiver n t
+    → Parsed (partnersForm k n .parse) s j l partners → Parsed (fileBody .parse) s (At 0) o (k, (span nameByte (left s b), (take 29 (left s d), (receiver, (n, partners)))))
+unfolding fileBody
+file-parsed p q =
+    record {
+      run = run-seq _ (p .kind .run) (run-pre (opening "TransactionID") (p .before-id .run)
+          (run-seq _ (run-post _ (p .id .run) (p .before-moment .run)) (run-seq _ (run-post _ (p .moment .run) (p .before-receiver .run))
+          (run-seq _ (run-post _ (p .receiver .run) (p .before-count .run)) (run-seq _ (run-post _ (p .count .run) (p .behind-count .run)) (run-post _ (q .run) (p .end .run)))))));
+      within = p .end .within;
+    }
 
 -- a file was read from the first byte to the mark o: of its kind and receiver, its ID from the mark b to c, its moment at d, its partners of the month and rows t
 pub record Filed (s : List ℕ) (o : Mark) (k : Kind) (receiver : ℕ) (t : (ℕ × ℕ) × ℕ) (b c d : Mark) : Type 0 where
@@ -123,40 +118,29 @@ pub record Filed (s : List ℕ) (o : Mark) (k : Kind) (receiver : ℕ) (t : (ℕ
   pub is : (q : ℕ) → o ≡ At q → folded adding ((0, 0), 0) partners ≡ t
   pub places : (q : ℕ) → o ≡ At q → Placed k (span nameByte (left s b)) b c d
 
-module _ (s : List ℕ) {a b c d e f g h i j l o : Mark} {k : Kind} {receiver n : ℕ} {t : (ℕ × ℕ) × ℕ} where
-  pub filed : Parsed (kindForm .parse) s (At 0) a k → Parsed (strip (opening "TransactionID")) s a b tt → Parsed (nameParse nameByte 1 36 60) s b c (span nameByte (left s b))
-      → Parsed (strip (ending "TransactionID" ++ opening "MessageCreateDateTime")) s c d tt → Parsed (exactlyParse 29 isMoment) s d e (take 29 (left s d))
-      → Parsed (strip (closing "MessageCreateDateTime" ++ opening "ReceiverID")) s e f tt → Parsed (fixedDigits 10 .parse) s f g receiver
-      → Parsed (strip (closing "ReceiverID" ++ opening (counter k))) s g h tt → Parsed (plainNumber .parse) s h i n → Parsed (strip (ending (counter k))) s i j tt
-      → Parsed (mapParse (folded adding ((0, 0), 0)) (partnersForm k n .parse)) s j l t → Parsed (strip (closing (root k))) s l o tt
-      → Filed s o k receiver t b c d
-  filed p₀ p₁ p₂ p₃ p₄ p₅ p₆ p₇ p₈ p₉ q₀ q₁ =
-      let u = unview (folded adding ((0, 0), 0)) [] (partnersForm k n .parse) s j l t q₀ in
-      record {
-        count = n;
-        partners = u .value;
-        parsed = file-parsed s p₀ p₁ p₂ p₃ p₄ p₅ p₆ p₇ p₈ p₉ (u .parsed) q₁;
-        is = λ q e.
-            let z = began (strip (closing (root k))) s l o tt q q₁ e in
-            u .is (z .0) (z .1 .0);
-        places = placed s p₀ p₁ p₂ p₃ p₄ p₅ p₆ p₇ p₈ p₉ q₀ q₁;
-      }
-
 -- the rows of the parts of a file
 abbrev pub rowsOfParts : Parts → List Row
 rowsOfParts p = rowsOf (p .1 .1 .1 .1 .1)
 
-module _ (s : List ℕ) {a b c d e f g h i j l o : Mark} {k : Kind} {receiver n : ℕ} {t : (ℕ × ℕ) × ℕ} {before after : List ℕ} where
-  pub filed-fills : Parsed (kindForm .parse) s (At 0) a k → Parsed (strip (opening "TransactionID")) s a b tt → Parsed (nameParse nameByte 1 36 60) s b c (span nameByte (left s b))
-      → Parsed (strip (ending "TransactionID" ++ opening "MessageCreateDateTime")) s c d tt → Parsed (exactlyParse 29 isMoment) s d e (take 29 (left s d))
-      → Parsed (strip (closing "MessageCreateDateTime" ++ opening "ReceiverID")) s e f tt → Parsed (fixedDigits 10 .parse) s f g receiver
-      → Parsed (strip (closing "ReceiverID" ++ opening (counter k))) s g h tt → Parsed (plainNumber .parse) s h i n → Parsed (strip (ending (counter k))) s i j tt
-      → Parsed (mapParse (folded adding ((0, 0), 0)) (partnersForm k n .parse)) s j l t → Parsed (strip (closing (root k))) s l o tt
-      → Fills (partnersForm k n .parse) (flatMap rowsOfPartner) s j 0 before after → Fills (fileBody .parse) rowsOfParts s (At 0) 0 before after
-  filed-fills p₀ p₁ p₂ p₃ p₄ p₅ p₆ p₇ p₈ p₉ q₀ q₁ fills =
-      let u = unview (folded adding ((0, 0), 0)) [] (partnersForm k n .parse) s j l t q₀ in
+module _ {s : List ℕ} {a b c d e f g h i j l o : Mark} {k : Kind} {receiver n : ℕ} {t : (ℕ × ℕ) × ℕ} (p : Steps s a b c d e f g h i j l o k receiver n t) where
+  pub filed : Filed s o k receiver t b c d
+  filed =
+      let u = unview (folded adding ((0, 0), 0)) [] (partnersForm k n .parse) s j l t (p .partners) in
+      record {
+        count = n;
+        partners = u .value;
+        parsed = file-parsed p (u .parsed);
+        is = λ q e.
+            let z = began (strip (closing (root k))) s l o tt q (p .end) e in
+            u .is (z .0) (z .1 .0);
+        places = placed p;
+      }
+
+  pub filed-fills : {before after : List ℕ} → Fills (partnersForm k n .parse) (flatMap rowsOfPartner) s j 0 before after → Fills (fileBody .parse) rowsOfParts s (At 0) 0 before after
+  filed-fills fills =
+      let u = unview (folded adding ((0, 0), 0)) [] (partnersForm k n .parse) s j l t (p .partners) in
       fills-within (partnersForm k n .parse) (fileBody .parse) rowsOfParts (closing (root k)) (u .value) (k, (span nameByte (left s b), (take 29 (left s d), (receiver, (n, u .value)))))
-      fills (file-parsed s p₀ p₁ p₂ p₃ p₄ p₅ p₆ p₇ p₈ p₉ (u .parsed) q₁) (u .parsed) q₁ (λ q e. sym (rows-filled (u .value)))
+      fills (file-parsed p (u .parsed)) (u .parsed) (p .end) (λ q e. sym (rows-filled (u .value)))
 
 -- ---- month and rows of the partners
 

@@ -45,22 +45,32 @@ kind-bytes : (k : Kind) → kindForm .render k ≡ opening (root k)
 unfolding kindForm
 kind-bytes k = refl
 
-module _ (s : List ℕ) {a b c d e f g h i j l o : Mark} {k : Kind} {receiver n : ℕ} {t : (ℕ × ℕ) × ℕ} where
-  pub placed : Parsed (kindForm .parse) s (At 0) a k → Parsed (strip (opening "TransactionID")) s a b tt → Parsed (nameParse nameByte 1 36 60) s b c (span nameByte (left s b))
-      → Parsed (strip (ending "TransactionID" ++ opening "MessageCreateDateTime")) s c d tt → Parsed (exactlyParse 29 isMoment) s d e (take 29 (left s d))
-      → Parsed (strip (closing "MessageCreateDateTime" ++ opening "ReceiverID")) s e f tt → Parsed (fixedDigits 10 .parse) s f g receiver
-      → Parsed (strip (closing "ReceiverID" ++ opening (counter k))) s g h tt → Parsed (plainNumber .parse) s h i n → Parsed (strip (ending (counter k))) s i j tt
-      → Parsed (mapParse (folded adding ((0, 0), 0)) (partnersForm k n .parse)) s j l t → Parsed (strip (closing (root k))) s l o tt
-      → (q : ℕ) → o ≡ At q → Placed k (span nameByte (left s b)) b c d
-  placed p₀ p₁ p₂ p₃ p₄ p₅ p₆ p₇ p₈ p₉ q₀ q₁ q z =
-      let id = span nameByte (left s b) in
-      let tags = ending "TransactionID" ++ opening "MessageCreateDateTime" in
-      let at = there p₄ (there p₅ (there p₆ (there p₇ (there p₈ (there p₉ (there q₀ (there q₁ (q, z)))))))) in
-      let x = back (tagForm tags) s c d tt (at .0) (p₂ .within) p₃ (at .1) in
-      let y = back (name nameByte 1 36 60 refl) s b c id (x .0) (p₁ .within) p₂ (x .1 .0) in
-      let w = back (tagForm (opening "TransactionID")) s a b tt (y .0) (p₀ .within) p₁ (y .1 .0) in
-      let v = back kindForm s (At 0) a k (w .0) (omega arith) p₀ (w .1 .0) in
-      let zero = same-at (v .1 .0) in
-      let start : y .0 ≡ idStart k = omega (arith, zero, v .1 .1, w .1 .1, ap length (kind-bytes k), length-append (opening (root k)) (opening "TransactionID")) in
-      let end : x .0 ≡ idStart k + length id + 1 = omega (arith, start, y .1 .1, length-append id (60 ∷ [])) in
-      record { start = y .1 .0 ∙ ap At start; end = x .1 .0 ∙ ap At end; moment = at .1 ∙ ap At (omega (arith, end, x .1 .1)) }
+-- the parts of a file, read one behind the other
+pub record Steps (s : List ℕ) (a b c d e f g h i j l o : Mark) (k : Kind) (company n : ℕ) (t : (ℕ × ℕ) × ℕ) : Type 0 where
+  pub kind : Parsed (kindForm .parse) s (At 0) a k
+  pub before-id : Parsed (strip (opening "TransactionID")) s a b tt
+  pub id : Parsed (nameParse nameByte 1 36 60) s b c (span nameByte (left s b))
+  pub before-moment : Parsed (strip (ending "TransactionID" ++ opening "MessageCreateDateTime")) s c d tt
+  pub moment : Parsed (exactlyParse 29 isMoment) s d e (take 29 (left s d))
+  pub before-receiver : Parsed (strip (closing "MessageCreateDateTime" ++ opening "ReceiverID")) s e f tt
+  pub receiver : Parsed (fixedDigits 10 .parse) s f g company
+  pub before-count : Parsed (strip (closing "ReceiverID" ++ opening (counter k))) s g h tt
+  pub count : Parsed (plainNumber .parse) s h i n
+  pub behind-count : Parsed (strip (ending (counter k))) s i j tt
+  pub partners : Parsed (mapParse (folded adding ((0, 0), 0)) (partnersForm k n .parse)) s j l t
+  pub end : Parsed (strip (closing (root k))) s l o tt
+
+pub placed : {s : List ℕ} {a b c d e f g h i j l o : Mark} {k : Kind} {receiver n : ℕ} {t : (ℕ × ℕ) × ℕ} → Steps s a b c d e f g h i j l o k receiver n t
+    → (q : ℕ) → o ≡ At q → Placed k (span nameByte (left s b)) b c d
+placed {s} {a} {b} {c} {d} {k = k} p q z =
+    let id = span nameByte (left s b) in
+    let tags = ending "TransactionID" ++ opening "MessageCreateDateTime" in
+    let at = there (p .moment) (there (p .before-receiver) (there (p .receiver) (there (p .before-count) (there (p .count) (there (p .behind-count) (there (p .partners) (there (p .end) (q, z)))))))) in
+    let x = back (tagForm tags) s c d tt (at .0) (p .id .within) (p .before-moment) (at .1) in
+    let y = back (name nameByte 1 36 60 refl) s b c id (x .0) (p .before-id .within) (p .id) (x .1 .0) in
+    let w = back (tagForm (opening "TransactionID")) s a b tt (y .0) (p .kind .within) (p .before-id) (y .1 .0) in
+    let v = back kindForm s (At 0) a k (w .0) (omega arith) (p .kind) (w .1 .0) in
+    let zero = same-at (v .1 .0) in
+    let start : y .0 ≡ idStart k = omega (arith, zero, v .1 .1, w .1 .1, ap length (kind-bytes k), length-append (opening (root k)) (opening "TransactionID")) in
+    let end : x .0 ≡ idStart k + length id + 1 = omega (arith, start, y .1 .1, length-append id (60 ∷ [])) in
+    record { start = y .1 .0 ∙ ap At start; end = x .1 .0 ∙ ap At end; moment = at .1 ∙ ap At (omega (arith, end, x .1 .1)) }

@@ -228,12 +228,6 @@ module _ (s : List ℕ) {m a b c d e f g h : Mark} {x n year month : ℕ} where
         within = r .within;
       }
 
-  pub volume-read : Parsed (strip (opening "DeliveryDirection")) s m a tt → Parsed (wordsParse deliveries) s a b x
-      → Parsed (strip (closing "DeliveryDirection" ++ element "UnitType" (bytes "KWT") ++ opening "ObservationCounter")) s b c tt → Parsed (plainNumber .parse) s c d n
-      → Parsed (strip (ending "ObservationCounter" ++ opening "TimeSeriesPeriod")) s (keep (ltb 0 n) d) e tt → Parsed (period .parse) s e f (year, month)
-      → Passed (observationsOf year month n) s f g → Parsed (strip (closing "TimeSeriesPeriod")) s g h tt → VolumeRead s m h x year month n
-  volume-read i j k l o p q r = record { observations = q .ran .value; parsed = volume-parsed i j k l o p q r }
-
 -- ---- a series
 
 -- what is kept of a series: its directions, its month and how many rows it has

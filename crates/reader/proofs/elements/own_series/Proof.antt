@@ -1,8 +1,7 @@
 -- The parts one after the other; the time series fills the rows.
 use Rattle.text.specs.Ascii.{bytes}
 use Rattle.message.specs.Bytes.{opening, ending, closing, supplies}
-use Rattle.reader.specs.Reading.{own-read}
-use Rattle.reader.specs.FillingParts.{own-fills}
+use Rattle.reader.specs.FillingParts.{own-filled}
 use borrow.Author.Needs.{needs}
 use Rattle.reader.proofs.elements.own_series.Statement.{statement}
 use Rattle.reader.proofs.elements.own_series.Tie as tie
@@ -44,10 +43,7 @@ returns : tie.Need-returns
 unfolding opening ending closing supplies bytes
 returns c =
     let a = c .before .before .before .before .before .before .before .before .before .before .before .before .before .before .before .args in
-    let v = c .before .before .before .before .volume .ensures in (
-      own-read (a .s .now) (c .before .before .before .before .before .before .before .before .before .before .before .tag .ensures) (c .before .before .before .before .before .before .before .before .word .ensures) (c .before .before .before .before .before .before .tag2 .ensures) (v .0) (c .tag3 .ensures),
-      own-fills (a .s .now) (a .partner) (c .before .before .before .before .before .before .before .before .before .before .before .tag .ensures) (c .before .before .before .before .before .before .before .before .word .ensures) (c .before .before .before .before .before .before .tag2 .ensures) (v .0) (c .tag3 .ensures) (v .1),
-    )
+    own-filled (a .s .now) (a .partner) (c .before .before .before .before .before .before .before .before .before .before .before .tag .ensures) (c .before .before .before .before .before .before .before .before .word .ensures) (c .before .before .before .before .before .before .tag2 .ensures) (c .before .before .before .before .volume .ensures) (c .tag3 .ensures)
 
 pub own-series-spec : {M : Type 1} → statement M
 own-series-spec =

@@ -1,8 +1,7 @@
 -- The parts one after the other; the time series fills the rows.
 use Rattle.text.specs.Ascii.{bytes}
 use Rattle.message.specs.Bytes.{opening, ending, closing}
-use Rattle.reader.specs.Reading.{shared-read}
-use Rattle.reader.specs.FillingParts.{shared-fills}
+use Rattle.reader.specs.FillingParts.{shared-filled}
 use borrow.Author.Needs.{needs}
 use Rattle.reader.proofs.elements.shared_series.Statement.{statement}
 use Rattle.reader.proofs.elements.shared_series.Tie as tie
@@ -29,8 +28,7 @@ returns : tie.Need-returns
 unfolding opening ending closing bytes
 returns c =
     let a = c .before .before .before .before .before .before .before .before .before .before .args in
-    let v = c .before .before .before .before .volume .ensures in
-    (shared-read (a .s .now) (a .supply) (c .before .before .before .before .before .before .tag .ensures) (v .0) (c .tag2 .ensures), shared-fills (a .s .now) (a .supply) (a .partner) (c .before .before .before .before .before .before .tag .ensures) (v .0) (c .tag2 .ensures) (v .1))
+    shared-filled (a .s .now) (a .supply) (a .partner) (c .before .before .before .before .before .before .tag .ensures) (c .before .before .before .before .volume .ensures) (c .tag2 .ensures)
 
 pub shared-series-spec : {M : Type 1} → statement M
 shared-series-spec =

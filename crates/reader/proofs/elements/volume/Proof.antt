@@ -7,8 +7,8 @@ use Rattle.formats.specs.Combine.{strip}
 use Rattle.formats.specs.Place.{Parsed}
 use Rattle.formats.specs.declared.Mark.{Mark}
 use Rattle.message.specs.Bytes.{opening, ending, closing, deliveries}
-use Rattle.reader.specs.Reading.{within-keep, volume-read}
-use Rattle.reader.specs.FillingParts.{volume-fills}
+use Rattle.reader.specs.Reading.{within-keep}
+use Rattle.reader.specs.FillingParts.{volume-filled}
 use borrow.Author.Needs.{needs}
 use Rattle.reader.proofs.elements.volume.Statement.{statement}
 use Rattle.reader.proofs.elements.volume.Tie as tie
@@ -68,10 +68,7 @@ returns c =
     let s = a .s .now in
     let t = c .before .before .before .before .before .before .before .tag3 in
     let kept = subst (λ (k : Mark). Parsed (strip (ending "ObservationCounter" ++ opening "TimeSeriesPeriod")) s k (t .result) tt) (c .before .before .before .before .before .before .before .before .before .kept .ensures) (t .ensures) in
-    let o = c .before .before .before .before .observations .ensures in (
-      volume-read s (c .before .before .before .before .before .before .before .before .before .before .before .before .before .before .before .before .before .tag .ensures) (c .before .before .before .before .before .before .before .before .before .before .before .before .before .before .word .ensures) (c .before .before .before .before .before .before .before .before .before .before .before .before .tag2 .ensures) (c .before .before .before .before .before .before .before .before .before .before .before .number .ensures) kept (c .before .before .before .before .before .before .period .ensures) (o .0) (c .tag4 .ensures),
-      volume-fills s (a .partner) (a .supply) (c .before .before .before .before .before .before .before .before .before .before .before .before .before .before .before .before .before .tag .ensures) (c .before .before .before .before .before .before .before .before .before .before .before .before .before .before .word .ensures) (c .before .before .before .before .before .before .before .before .before .before .before .before .tag2 .ensures) (c .before .before .before .before .before .before .before .before .before .before .before .number .ensures) kept (c .before .before .before .before .before .before .period .ensures) (o .0) (c .tag4 .ensures) (o .1),
-    )
+    volume-filled s (a .partner) (a .supply) (c .before .before .before .before .before .before .before .before .before .before .before .before .before .before .before .before .before .tag .ensures) (c .before .before .before .before .before .before .before .before .before .before .before .before .before .before .word .ensures) (c .before .before .before .before .before .before .before .before .before .before .before .before .tag2 .ensures) (c .before .before .before .before .before .before .before .before .before .before .before .number .ensures) kept (c .before .before .before .before .before .before .period .ensures) (c .before .before .before .before .observations .ensures) (c .tag4 .ensures)
 
 pub volume-spec : {M : Type 1} → statement M
 volume-spec =
