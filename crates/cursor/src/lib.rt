@@ -108,3 +108,44 @@ pub fn name_by(c: Cursor, s: &[u8], least: usize, most: usize, stop: u8) -> Curs
     let next = formats::name(s, m, least, most, stop);
     at_mark(next)
 }
+
+// Past a tag.
+pub fn past_tag(c: &mut Cursor, s: &[u8], t: &[u8])
+    ensures { λ _. ⌜ now (c .exit) ≡ pastTag (now (s .entry)) (now (t .entry)) (now (c .entry)) ⌝ }
+{
+    *c = tag_by(*c, s, t);
+}
+
+// Past a number without leading zeros, at most max, and the byte that ends it.
+pub fn past_number(c: &mut Cursor, s: &[u8], stop: u8, max: u64) -> u64
+    ensures { λ r. ⌜ (now (c .exit) ≡ pastNumber (now (s .entry)) stop max (now (c .entry)) .to) × (r ≡ pastNumber (now (s .entry)) stop max (now (c .entry)) .value) ⌝ }
+{
+    let n = number_by(*c, s, stop, max);
+    *c = n.to;
+    n.value
+}
+
+// Past a number of n digits.
+pub fn past_fixed(c: &mut Cursor, s: &[u8], n: usize) -> u64
+    ensures { λ r. ⌜ (now (c .exit) ≡ pastFixed (now (s .entry)) n (now (c .entry)) .to) × (r ≡ pastFixed (now (s .entry)) n (now (c .entry)) .value) ⌝ }
+{
+    let f = fixed_by(*c, s, n);
+    *c = f.to;
+    f.value
+}
+
+// Past one of two words, as 0 or 1.
+pub fn past_word(c: &mut Cursor, s: &[u8], v: &[u8], w: &[u8]) -> u64
+    ensures { λ r. ⌜ (now (c .exit) ≡ pastWord (now (s .entry)) (now (v .entry)) (now (w .entry)) (now (c .entry)) .to) × (r ≡ pastWord (now (s .entry)) (now (v .entry)) (now (w .entry)) (now (c .entry)) .value) ⌝ }
+{
+    let x = word_by(*c, s, v, w);
+    *c = x.to;
+    x.value
+}
+
+// Past a name of `least` to `most` bytes, and the byte that ends it.
+pub fn past_name(c: &mut Cursor, s: &[u8], least: usize, most: usize, stop: u8)
+    ensures { λ _. ⌜ now (c .exit) ≡ pastName (now (s .entry)) least most stop (now (c .entry)) ⌝ }
+{
+    *c = name_by(*c, s, least, most, stop);
+}
