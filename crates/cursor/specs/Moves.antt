@@ -42,9 +42,13 @@ abbrev pub behind : {A : Type 0} → List ℕ → Res A → Cursor
 behind s (got v rest) = record { at = length s - length rest; good = true }
 behind s bad = lost
 
+-- the value that was found, 0 for none
+abbrev pub valueIn : Res ℕ → ℕ
+valueIn (got v rest) = v
+valueIn bad = 0
+
 abbrev pub taken : List ℕ → Res ℕ → Read
-taken s (got v rest) = record { to = record { at = length s - length rest; good = true }; value = v }
-taken s bad = record { to = lost; value = 0 }
+taken s x = record { to = behind s x; value = valueIn x }
 
 -- what f finds where the cursor stands
 abbrev pub readAt : {A : Type 0} → (List ℕ → Res A) → List ℕ → Cursor → Res A
