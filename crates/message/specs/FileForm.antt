@@ -127,7 +127,7 @@ id-from s e =
       short = leb-true (length s) 36 (and-right (leb 1 (length s)) (leb (length s) 36) l);
     }
 
-moment-length : (s : List ℕ) → isMoment s ≡ true → length s ≡ 29
+pub moment-length : (s : List ℕ) → isMoment s ≡ true → length s ≡ 29
 moment-length s e = go (momentOf s) refl e
   where
     go : (j : Judged) → momentOf s ≡ j → isReal j ≡ true → length s ≡ 29

@@ -9,9 +9,13 @@ pub mod Months
 pub mod FileForm
 pub mod CaseF
 pub mod Group
+pub mod GroupLaws
 pub mod Keys
 pub mod Rows
 pub mod RowsLaws
 pub mod SixesLaws
 pub mod MessageForm
 pub mod FileLaws
+pub mod Calls
+pub mod CallsLaws
+pub mod CaseFRead

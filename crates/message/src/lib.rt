@@ -1,4 +1,4 @@
-// The file of document 01: its kinds, and what its reader and its writer share. Its form and its laws stand in specs/.
+// The file of document 01: its kinds, the answers of its two calls, and what its reader and its writer share. Its form and its laws stand in specs/.
 ghost use mathlib.Core.Path.{_≡_};
 ghost use Rattle.moments.specs.Moments.{momentBytes};
 ghost use Rattle.message.specs.Valid.{lastPosition};
@@ -9,6 +9,30 @@ pub enum Kind {
     Toe01,
     Toe02,
     Toe03,
+}
+
+// What a file says beside its rows, their number, and where in the file its ID and its moment stand.
+pub struct FileFacts {
+    pub kind: Kind,
+    pub receiver: u64,
+    pub year: u64,
+    pub month: u64,
+    pub rows: usize,
+    pub id: usize,
+    pub id_length: usize,
+    pub moment: usize,
+}
+
+// What reading a file answers: what it says, or a number and an item of document 01.
+pub enum ReadAnswer {
+    File(FileFacts),
+    Refused(u8, usize),
+}
+
+// What writing from rows answers: the bytes that it filled, or a number and an item.
+pub enum WriteAnswer {
+    Bytes(usize),
+    Refused(u8, usize),
 }
 
 // The last position of a month.

@@ -1,7 +1,13 @@
 pub mod Rows
 pub mod Reading
 pub mod ReaderItems
+pub mod Filling
+pub mod FillingLaws
 pub mod ReaderSeries
 pub mod ReaderPartner
 pub mod ReaderPartners
+pub mod FillingParts
+pub mod ReaderPlaces
 pub mod ReaderFile
+pub mod JudgedLaws
+pub mod ReaderFacts

@@ -1,5 +1,5 @@
 -- How the judge reads a file: its root and moment, and what month and rows its partners give.
-use mathlib.Core.Path.{_≡_, refl, sym, ap, _∙_, subst}
+use mathlib.Core.Path.{_≡_, refl, sym, ap, _∙_}
 use mathlib.Core.Bool.{Bool, true, false}
 use mathlib.Core.List.{List, [], _∷_, _++_, map, flatMap}
 use Prim.Native.Nat.{ℕ, zero, suc, _+_, _≤_, _<_}
@@ -10,10 +10,10 @@ use native.Mathlib.Omega.{arith}
 use borrow.Author.Tests.{le-leb, lt-leb}
 use Rattle.formats.specs.Format.{Res, got, bad, pick}
 use Rattle.formats.specs.FormatLaws.{got-bad}
-use Rattle.formats.specs.Combine.{strip, mapParse}
+use Rattle.formats.specs.Combine.{strip}
 use Rattle.formats.specs.Words.{wordsParse}
-use Rattle.formats.specs.Exactly.{exactlyParse, fixedDigits}
-use Rattle.formats.specs.Name.{nameByte, span, nameParse}
+use Rattle.formats.specs.Exactly.{exactlyParse}
+use Rattle.formats.specs.Name.{nameByte, span}
 use Rattle.formats.specs.Rising.{All}
 use Rattle.formats.specs.Run.{run-map, run-seq, run-pre, run-post}
 use Rattle.formats.specs.Place.{Parsed, left}
@@ -23,17 +23,19 @@ use Rattle.formats.specs.declared.Mark.the-variants.{At, No}
 use Rattle.message.specs.declared.Kind.{Kind}
 use Rattle.message.specs.declared.Kind.the-variants.{Toe01, Toe02, Toe03}
 use Rattle.message.specs.Contents.{Observation, Series, Partner, File}
-use Rattle.message.specs.Bytes.{opening, ending, closing, root, counter}
+use Rattle.message.specs.Bytes.{opening, closing, root}
 use Rattle.message.specs.Valid.{isMoment, monthOf, periods, firstOf, IsFile}
 use Rattle.message.specs.Group.{spread}
 use Rattle.message.specs.Rows.{Row, seriesRows, partnerRows, rowsOf}
 use Rattle.message.specs.SeriesListForm.{after}
-use Rattle.message.specs.FileForm.{roots, kindOf, kindForm, partnersForm, fileBody}
-use Rattle.message.specs.ObservationForm.{plainNumber}
-use Rattle.reader.specs.Reading.{parsed-no}
-use Rattle.reader.specs.ReaderItems.{viewed, view-bad, folded}
+use Rattle.message.specs.FileForm.{Parts, roots, kindOf, kindForm, partnersForm, fileBody}
+use Rattle.reader.specs.ReaderItems.{unview, folded}
 use Rattle.reader.specs.ReaderSeries.{counting}
 use Rattle.reader.specs.ReaderPartners.{adding}
+use Rattle.reader.specs.ReaderPlaces.{Steps, Placed, placed}
+use Rattle.reader.specs.Filling.{Fills, rowsOfPartner}
+use Rattle.reader.specs.FillingLaws.{began, fills-within}
+use Rattle.reader.specs.FillingParts.{rows-filled}
 
 -- ---- the root
 
@@ -97,67 +99,48 @@ module _ (s : List ℕ) (p : ℕ) where
 
 -- ---- the file
 
--- the contents behind what is kept of a reading; where it isn't there, any
-pub record Unviewed {A B : Type 0} (view : A → B) (f : List ℕ → Res A) (s : List ℕ) (m r : Mark) (b : B) : Type 0 where
-  pub value : A
-  pub parsed : Parsed f s m r value
-  pub is : (q : ℕ) → r ≡ At q → view value ≡ b
+file-parsed : {s : List ℕ} {a b c d e f g h i j l o : Mark} {k : Kind} {receiver n : ℕ} {t : (ℕ × ℕ) × ℕ} {partners : List Partner} → Steps s a b c d e f g h i j l o k receiver n t
+    → Parsed (partnersForm k n .parse) s j l partners → Parsed (fileBody .parse) s (At 0) o (k, (span nameByte (left s b), (take 29 (left s d), (receiver, (n, partners)))))
+unfolding fileBody
+file-parsed p q =
+    record {
+      run = run-seq _ (p .kind .run) (run-pre (opening "TransactionID") (p .before-id .run)
+          (run-seq _ (run-post _ (p .id .run) (p .before-moment .run)) (run-seq _ (run-post _ (p .moment .run) (p .before-receiver .run))
+          (run-seq _ (run-post _ (p .receiver .run) (p .before-count .run)) (run-seq _ (run-post _ (p .count .run) (p .behind-count .run)) (run-post _ (q .run) (p .end .run)))))));
+      within = p .end .within;
+    }
 
-no-at : (q : ℕ) → No ≡ At q → ⊥
-no-at q e = let z : _≡_ {A = ℕ} 0 1 = cc in omega arith
-
-pub unview : {A B : Type 0} (view : A → B) (none : A) (f : List ℕ → Res A) (s : List ℕ) (m r : Mark) (b : B) → Parsed (mapParse view f) s m r b → Unviewed view f s m r b
-unview view none f s No No b p = record { value = none; parsed = parsed-no f s none; is = λ q e. absurd (no-at q e) }
-unview view none f s No (At q) b p = absurd (got-bad (sym (p .run .run)))
-unview view none f s (At n) No b p = record { value = none; parsed = not-there f s n none (view-bad view f (drop n s) (p .run .run)); is = λ q e. absurd (no-at q e) }
-unview view none f s (At n) (At q) b p =
-    let a = viewed view f (drop n s) b (drop q s) (p .run .run) in
-    record { value = a .0; parsed = parsed f s n (a .0) q (a .1 .0) (p .within); is = λ k e. a .1 .1 }
-
-module _ (s : List ℕ) {m a b c d e f g h i j l o : Mark} {k : Kind} {id moment : List ℕ} {receiver n : ℕ} {partners : List Partner} where
-  pub file-parsed : Parsed (kindForm .parse) s m a k → Parsed (strip (opening "TransactionID")) s a b tt → Parsed (nameParse nameByte 1 36 60) s b c id
-      → Parsed (strip (ending "TransactionID" ++ opening "MessageCreateDateTime")) s c d tt → Parsed (exactlyParse 29 isMoment) s d e moment
-      → Parsed (strip (closing "MessageCreateDateTime" ++ opening "ReceiverID")) s e f tt → Parsed (fixedDigits 10 .parse) s f g receiver
-      → Parsed (strip (closing "ReceiverID" ++ opening (counter k))) s g h tt → Parsed (plainNumber .parse) s h i n → Parsed (strip (ending (counter k))) s i j tt
-      → Parsed (partnersForm k n .parse) s j l partners → Parsed (strip (closing (root k))) s l o tt
-      → Parsed (fileBody .parse) s m o (k, (id, (moment, (receiver, (n, partners)))))
-  unfolding fileBody
-  file-parsed p₀ p₁ p₂ p₃ p₄ p₅ p₆ p₇ p₈ p₉ q₀ q₁ =
-      record {
-        run = run-seq _ (p₀ .run) (run-pre (opening "TransactionID") (p₁ .run) (run-seq _ (run-post _ (p₂ .run) (p₃ .run)) (run-seq _ (run-post _ (p₄ .run) (p₅ .run))
-            (run-seq _ (run-post _ (p₆ .run) (p₇ .run)) (run-seq _ (run-post _ (p₈ .run) (p₉ .run)) (run-post _ (q₀ .run) (q₁ .run)))))));
-        within = q₁ .within;
-      }
-
--- a file was read from the first byte to the mark o: of its kind and receiver, its ID at the mark b, its moment at d, its partners of the month and rows t
-pub record Filed (s : List ℕ) (o : Mark) (k : Kind) (receiver : ℕ) (t : (ℕ × ℕ) × ℕ) (b d : Mark) : Type 0 where
+-- a file was read from the first byte to the mark o: of its kind and receiver, its ID from the mark b to c, its moment at d, its partners of the month and rows t
+pub record Filed (s : List ℕ) (o : Mark) (k : Kind) (receiver : ℕ) (t : (ℕ × ℕ) × ℕ) (b c d : Mark) : Type 0 where
   pub count : ℕ
   pub partners : List Partner
   pub parsed : Parsed (fileBody .parse) s (At 0) o (k, (span nameByte (left s b), (take 29 (left s d), (receiver, (count, partners)))))
   pub is : (q : ℕ) → o ≡ At q → folded adding ((0, 0), 0) partners ≡ t
+  pub places : (q : ℕ) → o ≡ At q → Placed k (span nameByte (left s b)) b c d
 
--- what stands behind a place that is missing is missing
-before-tag : (t s : List ℕ) (l : Mark) (q : ℕ) → Parsed (strip t) s l (At q) tt → (p : ℕ) × (l ≡ At p)
-before-tag t s No q p = absurd (got-bad (sym (p .run .run)))
-before-tag t s (At n) q p = (n, refl)
+-- the rows of the parts of a file
+abbrev pub rowsOfParts : Parts → List Row
+rowsOfParts p = rowsOf (p .1 .1 .1 .1 .1)
 
-module _ (s : List ℕ) {a b c d e f g h i j l o : Mark} {k : Kind} {receiver n : ℕ} {t : (ℕ × ℕ) × ℕ} where
-  pub filed : Parsed (kindForm .parse) s (At 0) a k → Parsed (strip (opening "TransactionID")) s a b tt → Parsed (nameParse nameByte 1 36 60) s b c (span nameByte (left s b))
-      → Parsed (strip (ending "TransactionID" ++ opening "MessageCreateDateTime")) s c d tt → Parsed (exactlyParse 29 isMoment) s d e (take 29 (left s d))
-      → Parsed (strip (closing "MessageCreateDateTime" ++ opening "ReceiverID")) s e f tt → Parsed (fixedDigits 10 .parse) s f g receiver
-      → Parsed (strip (closing "ReceiverID" ++ opening (counter k))) s g h tt → Parsed (plainNumber .parse) s h i n → Parsed (strip (ending (counter k))) s i j tt
-      → Parsed (mapParse (folded adding ((0, 0), 0)) (partnersForm k n .parse)) s j l t → Parsed (strip (closing (root k))) s l o tt
-      → Filed s o k receiver t b d
-  filed p₀ p₁ p₂ p₃ p₄ p₅ p₆ p₇ p₈ p₉ q₀ q₁ =
-      let u = unview (folded adding ((0, 0), 0)) [] (partnersForm k n .parse) s j l t q₀ in
+module _ {s : List ℕ} {a b c d e f g h i j l o : Mark} {k : Kind} {receiver n : ℕ} {t : (ℕ × ℕ) × ℕ} (p : Steps s a b c d e f g h i j l o k receiver n t) where
+  pub filed : Filed s o k receiver t b c d
+  filed =
+      let u = unview (folded adding ((0, 0), 0)) [] (partnersForm k n .parse) s j l t (p .partners) in
       record {
         count = n;
         partners = u .value;
-        parsed = file-parsed s p₀ p₁ p₂ p₃ p₄ p₅ p₆ p₇ p₈ p₉ (u .parsed) q₁;
+        parsed = file-parsed p (u .parsed);
         is = λ q e.
-            let z = before-tag (closing (root k)) s l q (subst (λ (w : Mark). Parsed (strip (closing (root k))) s l w tt) e q₁) in
-            u .is (z .0) (z .1);
+            let z = began (strip (closing (root k))) s l o tt q (p .end) e in
+            u .is (z .0) (z .1 .0);
+        places = placed p;
       }
+
+  pub filed-fills : {before after : List ℕ} → Fills (partnersForm k n .parse) (flatMap rowsOfPartner) s j 0 before after → Fills (fileBody .parse) rowsOfParts s (At 0) 0 before after
+  filed-fills fills =
+      let u = unview (folded adding ((0, 0), 0)) [] (partnersForm k n .parse) s j l t (p .partners) in
+      fills-within (partnersForm k n .parse) (fileBody .parse) rowsOfParts (closing (root k)) (u .value) (k, (span nameByte (left s b), (take 29 (left s d), (receiver, (n, u .value)))))
+      fills (file-parsed p (u .parsed)) (u .parsed) (p .end) (λ q e. sym (rows-filled (u .value)))
 
 -- ---- month and rows of the partners
 

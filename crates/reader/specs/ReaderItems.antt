@@ -10,6 +10,11 @@ use Rattle.formats.specs.FormatLaws.{got-bad, sound-of}
 use Rattle.formats.specs.Combine.{mapParse, onlyParse}
 use Rattle.formats.specs.Items.{itemsParse, items-end, items-bad, items-step}
 use Rattle.formats.specs.Run.{Run}
+use Rattle.formats.specs.Place.{Parsed}
+use Rattle.formats.specs.PlaceLaws.{parsed, not-there}
+use Rattle.formats.specs.declared.Mark.{Mark}
+use Rattle.formats.specs.declared.Mark.the-variants.{At, No}
+use Rattle.reader.specs.Reading.{parsed-no}
 
 -- ---- readings that find the same
 
@@ -55,6 +60,23 @@ module _ {A B : Type 0} (view : A → B) (f : List ℕ → Res A) (s : List ℕ)
       go : (x : Res A) → bind (bind x (λ a q. got (view a) q)) (λ b q. pick (test b) (got b q)) ≡ bind (bind x (λ a q. pick (test (view a)) (got a q))) (λ a q. got (view a) q)
       go bad = refl
       go (got a r) = two (test (view a)) a r
+
+-- the contents behind what is kept of a reading; where it isn't there, any
+pub record Unviewed {A B : Type 0} (view : A → B) (f : List ℕ → Res A) (s : List ℕ) (m r : Mark) (b : B) : Type 0 where
+  pub value : A
+  pub parsed : Parsed f s m r value
+  pub is : (q : ℕ) → r ≡ At q → view value ≡ b
+
+no-at : (q : ℕ) → No ≡ At q → ⊥
+no-at q e = let z : _≡_ {A = ℕ} 0 1 = cc in omega arith
+
+pub unview : {A B : Type 0} (view : A → B) (none : A) (f : List ℕ → Res A) (s : List ℕ) (m r : Mark) (b : B) → Parsed (mapParse view f) s m r b → Unviewed view f s m r b
+unview view none f s No No b p = record { value = none; parsed = parsed-no f s none; is = λ q e. absurd (no-at q e) }
+unview view none f s No (At q) b p = absurd (got-bad (sym (p .run .run)))
+unview view none f s (At n) No b p = record { value = none; parsed = not-there f s n none (view-bad view f (drop n s) (p .run .run)); is = λ q e. absurd (no-at q e) }
+unview view none f s (At n) (At q) b p =
+    let a = viewed view f (drop n s) b (drop q s) (p .run .run) in
+    record { value = a .0; parsed = parsed f s n (a .0) q (a .1 .0) (p .within); is = λ k e. a .1 .1 }
 
 -- ---- what is kept of a list, one item after the other
 

@@ -94,9 +94,13 @@ module _ (s : List ℕ) {m a b c d e f : Mark} {number supply n : ℕ} where
 
 -- ---- a partner
 
+-- its number and a view of its series
+abbrev pub numbered : {T : Type 0} → (List Series → T) → Partner → ℕ × T
+numbered view p = (p .number, view (p .series))
+
 -- what is kept of a partner behind the month and rows t: its number, and the month and rows with its own
 abbrev pub partnerKept : (ℕ × ℕ) × ℕ → Partner → ℕ × ((ℕ × ℕ) × ℕ)
-partnerKept t p = (p .number, folded counting t (p .series))
+partnerKept t = numbered (folded counting t)
 
 abbrev rest : {A : Type 0} → Res A → List ℕ
 rest bad = []
@@ -107,16 +111,15 @@ said bad = 0
 said (got n r) = n
 
 -- the head, then the series and the tag that ends the partner
-abbrev pub splitParse : (List ℕ → Res Head) → (ℕ → ℕ → List ℕ → Res (List Series)) → List ℕ → (ℕ × ℕ) × ℕ → List ℕ → Res (ℕ × ((ℕ × ℕ) × ℕ))
-splitParse head list end t =
-    mapParse (λ (p : Head × ((ℕ × ℕ) × ℕ)). (p .0 .0, p .1)) (seqParse head (λ (h : Head). postParse (mapParse (folded counting t) (list (h .1 .0) (h .1 .1))) (λ v. end)))
+abbrev pub splitParse : {T : Type 0} → (List ℕ → Res Head) → (ℕ → ℕ → List ℕ → Res (List Series)) → List ℕ → (List Series → T) → List ℕ → Res (ℕ × T)
+splitParse {T} head list end view = mapParse (λ (p : Head × T). (p .0 .0, p .1)) (seqParse head (λ (h : Head). postParse (mapParse view (list (h .1 .0) (h .1 .1))) (λ v. end)))
 
-module _ (A C : List ℕ) (f g : List ℕ → Res ℕ) (list : ℕ → ℕ → List ℕ → Res (List Series)) (t : (ℕ × ℕ) × ℕ) (s : List ℕ) where
+module _ {T : Type 0} (A C : List ℕ) (f g : List ℕ → Res ℕ) (list : ℕ → ℕ → List ℕ → Res (List Series)) (view : List Series → T) (s : List ℕ) where
   own-split : (x : Res (Unit {0})) → strip A s ≡ x → (y : Res ℕ) → f (rest x) ≡ y → (z : Res ℕ) → g (rest y) ≡ z → (w : Res (List Series)) → list 0 (said z) (rest z) ≡ w
       → (v : Res (Unit {0})) → strip C (rest w) ≡ v
-      → mapParse (partnerKept t) (mapParse (λ (p : ℕ × (ℕ × List Series)). record { number = p .0; series = p .1 .1 })
+      → mapParse (numbered view) (mapParse (λ (p : ℕ × (ℕ × List Series)). record { number = p .0; series = p .1 .1 })
       (preParse A (seqParse f (λ a. seqParse g (λ n. postParse (list 0 n) (λ l. C)))))) s
-      ≡ splitParse (mapParse ofCompany (preParse A (seqParse f (λ a. g)))) list C t s
+      ≡ splitParse (mapParse ofCompany (preParse A (seqParse f (λ a. g)))) list C view s
   unfolding preParse postParse seqParse mapParse
   own-split bad e₁ y e₂ z e₃ w e₄ v e₅ = rw e₁
   own-split (got u r₁) e₁ bad e₂ z e₃ w e₄ v e₅ = rw (e₁, e₂)
@@ -125,12 +128,12 @@ module _ (A C : List ℕ) (f g : List ℕ → Res ℕ) (list : ℕ → ℕ → L
   own-split (got u r₁) e₁ (got a r₂) e₂ (got n r₃) e₃ (got l r₄) e₄ bad e₅ = rw (e₁, e₂, e₃, e₄, e₅)
   own-split (got u r₁) e₁ (got a r₂) e₂ (got n r₃) e₃ (got l r₄) e₄ (got o r₅) e₅ = rw (e₁, e₂, e₃, e₄, e₅)
 
-module _ (A C : List ℕ) (f g h : List ℕ → Res ℕ) (list : ℕ → ℕ → List ℕ → Res (List Series)) (t : (ℕ × ℕ) × ℕ) (s : List ℕ) where
+module _ {T : Type 0} (A C : List ℕ) (f g h : List ℕ → Res ℕ) (list : ℕ → ℕ → List ℕ → Res (List Series)) (view : List Series → T) (s : List ℕ) where
   shared-split : (x : Res (Unit {0})) → strip A s ≡ x → (y : Res ℕ) → f (rest x) ≡ y → (k : Res ℕ) → g (rest y) ≡ k → (z : Res ℕ) → h (rest k) ≡ z
       → (w : Res (List Series)) → list (said k) (said z) (rest z) ≡ w → (v : Res (Unit {0})) → strip C (rest w) ≡ v
-      → mapParse (partnerKept t) (mapParse (λ (p : ℕ × (ℕ × (ℕ × List Series))). record { number = p .0; series = p .1 .1 .1 })
+      → mapParse (numbered view) (mapParse (λ (p : ℕ × (ℕ × (ℕ × List Series))). record { number = p .0; series = p .1 .1 .1 })
       (preParse A (seqParse f (λ a. seqParse g (λ x. seqParse h (λ n. postParse (list x n) (λ l. C))))))) s
-      ≡ splitParse (preParse A (seqParse f (λ a. seqParse g (λ x. h)))) list C t s
+      ≡ splitParse (preParse A (seqParse f (λ a. seqParse g (λ x. h)))) list C view s
   unfolding preParse postParse seqParse mapParse
   shared-split bad e₁ y e₂ k e₆ z e₃ w e₄ v e₅ = rw e₁
   shared-split (got u r₁) e₁ bad e₂ k e₆ z e₃ w e₄ v e₅ = rw (e₁, e₂)
@@ -140,28 +143,33 @@ module _ (A C : List ℕ) (f g h : List ℕ → Res ℕ) (list : ℕ → ℕ →
   shared-split (got u r₁) e₁ (got a r₂) e₂ (got b r₆) e₆ (got n r₃) e₃ (got l r₄) e₄ bad e₅ = rw (e₁, e₂, e₆, e₃, e₄, e₅)
   shared-split (got u r₁) e₁ (got a r₂) e₂ (got b r₆) e₆ (got n r₃) e₃ (got l r₄) e₄ (got o r₅) e₅ = rw (e₁, e₂, e₆, e₃, e₄, e₅)
 
-pub partner-split : (k : Kind) (t : (ℕ × ℕ) × ℕ) (s : List ℕ)
-    → mapParse (partnerKept t) (partnerForm k (t .0) .parse) s ≡ splitParse (headParse k) (λ x n. listForm k x n (t .0) .parse) (closing (group k)) t s
+pub partner-split : {T : Type 0} (k : Kind) (seen : ℕ × ℕ) (view : List Series → T) (s : List ℕ)
+    → mapParse (numbered view) (partnerForm k seen .parse) s ≡ splitParse (headParse k) (λ x n. listForm k x n seen .parse) (closing (group k)) view s
 unfolding partnerForm ownPartner ownPartnerBody sharedPartner sharedPartnerBody headParse companyForm accessForm directionCounter listForm seriesList seriesForm digits
-partner-split Toe01 t s =
+partner-split Toe01 seen view s =
     own-split (opening (group Toe01) ++ opening (partner Toe01)) (closing (group Toe01)) (post (fixedDigits 10) (closing (partner Toe01) ++ opening "DirectionCounter") .parse)
-    (directionCounter .parse) (λ x n. listForm Toe01 x n (t .0) .parse) t s _ refl _ refl _ refl _ refl _ refl
-partner-split Toe02 t s =
+    (directionCounter .parse) (λ x n. listForm Toe01 x n seen .parse) view s _ refl _ refl _ refl _ refl _ refl
+partner-split Toe02 seen view s =
     own-split (opening (group Toe02) ++ opening (partner Toe02)) (closing (group Toe02)) (post (fixedDigits 10) (closing (partner Toe02) ++ opening "DirectionCounter") .parse)
-    (directionCounter .parse) (λ x n. listForm Toe02 x n (t .0) .parse) t s _ refl _ refl _ refl _ refl _ refl
-partner-split Toe03 t s =
+    (directionCounter .parse) (λ x n. listForm Toe02 x n seen .parse) view s _ refl _ refl _ refl _ refl _ refl
+partner-split Toe03 seen view s =
     shared-split (opening (group Toe03) ++ opening (partner Toe03)) (closing (group Toe03)) (post (fixedDigits 18) (closing (partner Toe03) ++ opening "SupplyDirection") .parse)
     (post (words supplies apart-supplies) (closing "SupplyDirection" ++ opening "DirectionCounter") .parse)
-    (directionCounter .parse) (λ x n. listForm Toe03 x n (t .0) .parse) t s _ refl _ refl _ refl _ refl _ refl _ refl
+    (directionCounter .parse) (λ x n. listForm Toe03 x n seen .parse) view s _ refl _ refl _ refl _ refl _ refl _ refl
+
+pub partner-seen : {T : Type 0} (k : Kind) (seen : ℕ × ℕ) (view : List Series → T) (s : List ℕ) (m a b c : Mark) (h : Head) (v : T) → Parsed (headParse k) s m a h
+    → Parsed (mapParse view (listForm k (h .1 .0) (h .1 .1) seen .parse)) s a b v → Parsed (strip (closing (group k))) s b c tt
+    → Parsed (mapParse (numbered view) (partnerForm k seen .parse)) s m c (h .0, v)
+partner-seen {T} k seen view s m a b c h v i j l =
+    record {
+      run = run-same (λ s. sym (partner-split k seen view s)) (run-map (λ (p : Head × T). (p .0 .0, p .1)) (run-seq _ (i .run) (run-post _ (j .run) (l .run))));
+      within = l .within;
+    }
 
 pub partner-read : (k : Kind) (t : (ℕ × ℕ) × ℕ) (s : List ℕ) (m a b c : Mark) (h : Head) (v : (ℕ × ℕ) × ℕ) → Parsed (headParse k) s m a h
     → Parsed (mapParse (folded counting t) (listForm k (h .1 .0) (h .1 .1) (t .0) .parse)) s a b v → Parsed (strip (closing (group k))) s b c tt
     → Parsed (mapParse (partnerKept t) (partnerForm k (t .0) .parse)) s m c (h .0, v)
-partner-read k t s m a b c h v i j l =
-    record {
-      run = run-same (λ s. sym (partner-split k t s)) (run-map (λ (p : Head × ((ℕ × ℕ) × ℕ)). (p .0 .0, p .1)) (run-seq _ (i .run) (run-post _ (j .run) (l .run))));
-      within = l .within;
-    }
+partner-read k t = partner-seen k (t .0) (folded counting t)
 
 -- ---- what a head is known to be
 

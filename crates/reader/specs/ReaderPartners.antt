@@ -68,7 +68,7 @@ partner-number k low t s p q v h =
 abbrev pub adding : (ℕ × ℕ) × ℕ → Partner → (ℕ × ℕ) × ℕ
 adding t p = folded counting t (p .series)
 
-months-folded : (t : (ℕ × ℕ) × ℕ) (l : List Series) → after (t .0) (map monthOf l) ≡ folded counting t l .0
+pub months-folded : (t : (ℕ × ℕ) × ℕ) (l : List Series) → after (t .0) (map monthOf l) ≡ folded counting t l .0
 unfolding after folded
 months-folded t [] = refl
 months-folded t (s ∷ l) = months-folded (counting t s) l

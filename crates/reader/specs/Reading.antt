@@ -118,38 +118,38 @@ abbrev pub observationsOf : ℕ → ℕ → ℕ → List ℕ → Res (List Obser
 observationsOf year month n = observations (lastPosition year month) (position-fits year month) n .parse
 
 module _ (year month : ℕ) where
-  abbrev item : ℕ × Unit {0} → Format Observation
-  item = fromLow (λ u. observation (lastPosition year month) (position-fits year month)) position (λ u o. u)
+  abbrev pub observationItem : ℕ × Unit {0} → Format Observation
+  observationItem = fromLow (λ u. observation (lastPosition year month) (position-fits year month)) position (λ u o. u)
 
-  abbrev onto : ℕ × Unit {0} → Observation → ℕ × Unit {0}
-  onto = rise (λ u. observation (lastPosition year month) (position-fits year month)) position (λ u o. u)
+  abbrev pub observationOnto : ℕ × Unit {0} → Observation → ℕ × Unit {0}
+  observationOnto = rise (λ u. observation (lastPosition year month) (position-fits year month)) position (λ u o. u)
 
   -- where n observations from position low on end
   unfoldable pub observationsEnd : ℕ → ℕ → List ℕ → Res (Unit {0})
-  observationsEnd n low s = ends (itemsParse item onto n (low, tt) s)
+  observationsEnd n low s = ends (itemsParse observationItem observationOnto n (low, tt) s)
 
   pub end-start : (n : ℕ) (s : List ℕ) → ends (observationsOf year month n s) ≡ observationsEnd n 1 s
   unfolding observations observationsEnd mapParse
-  end-start n s = ends-bind (λ l. l) (itemsParse item onto n (1, tt) s)
+  end-start n s = ends-bind (λ l. l) (itemsParse observationItem observationOnto n (1, tt) s)
 
   module _ (n i low : ℕ) (s : List ℕ) where
     pub end-last : n ≤ i → observationsEnd (n - i) low s ≡ got tt s
     unfolding observationsEnd
-    end-last h = ap ends (items-end item onto n i (low, tt) s h)
+    end-last h = ap ends (items-end observationItem observationOnto n i (low, tt) s h)
 
     pub end-bad : i < n → observing (lastPosition year month) low s ≡ bad → observationsEnd (n - i) low s ≡ bad
     unfolding observationsEnd observation
-    end-bad h e = ap ends (items-bad item onto n i (low, tt) s h e)
+    end-bad h e = ap ends (items-bad observationItem observationOnto n i (low, tt) s h e)
 
     pub end-step : (o : Observation) (r : List ℕ) → i < n → observing (lastPosition year month) low s ≡ got o r
         → observationsEnd (n - i) low s ≡ observationsEnd (n - (i + 1)) (o .position + 1) r
     unfolding observationsEnd observation
-    end-step o r h e = ends-step item onto n i (low, tt) s o r h e ∙ ap (λ (k : ℕ). ends (itemsParse item onto (n - (i + 1)) (k, tt) r)) (sym (add-one (o .position)))
+    end-step o r h e = ends-step observationItem observationOnto n i (low, tt) s o r h e ∙ ap (λ (k : ℕ). ends (itemsParse observationItem observationOnto (n - (i + 1)) (k, tt) r)) (sym (add-one (o .position)))
 
   -- what is read lies in the month
   pub position-most : (low : ℕ) (s : List ℕ) (o : Observation) (r : List ℕ) → observing (lastPosition year month) low s ≡ got o r → o .position ≤ lastPosition year month
   unfolding observation
-  position-most low s o r e = sound-of (item (low, tt)) s o r e .1 .0 .within
+  position-most low s o r e = sound-of (observationItem (low, tt)) s o r e .1 .0 .within
 
 -- ---- what stands behind a period's month
 
@@ -215,20 +215,17 @@ counted-parsed s m r n h = go (ltb 0 n) refl
     go false e = record { run = run-fail (λ k. ltb 0 k) (h .run) e; within = tt }
 
 module _ (s : List ℕ) {m a b c d e f g h : Mark} {x n year month : ℕ} where
-  pub volume-read : Parsed (strip (opening "DeliveryDirection")) s m a tt → Parsed (wordsParse deliveries) s a b x
+  pub volume-parsed : Parsed (strip (opening "DeliveryDirection")) s m a tt → Parsed (wordsParse deliveries) s a b x
       → Parsed (strip (closing "DeliveryDirection" ++ element "UnitType" (bytes "KWT") ++ opening "ObservationCounter")) s b c tt → Parsed (plainNumber .parse) s c d n
       → Parsed (strip (ending "ObservationCounter" ++ opening "TimeSeriesPeriod")) s (keep (ltb 0 n) d) e tt → Parsed (period .parse) s e f (year, month)
-      → Passed (observationsOf year month n) s f g → Parsed (strip (closing "TimeSeriesPeriod")) s g h tt → VolumeRead s m h x year month n
+      → (q : Passed (observationsOf year month n) s f g) → Parsed (strip (closing "TimeSeriesPeriod")) s g h tt → Parsed (volumeBody .parse) s m h (x, (n, ((year, month), q .ran .value)))
   unfolding volumeBody
-  volume-read i j k l o p q r =
+  volume-parsed i j k l o p q r =
       let one = counted-parsed s c d n l in
       record {
-        observations = q .ran .value;
-        parsed = record {
-          run = run-pre (opening "DeliveryDirection") (i .run)
-              (run-seq _ (run-post _ (j .run) (k .run)) (run-seq _ (run-post _ (one .run) (o .run)) (run-seq _ (p .run) (run-post _ (q .ran .ran) (r .run)))));
-          within = r .within;
-        };
+        run = run-pre (opening "DeliveryDirection") (i .run)
+            (run-seq _ (run-post _ (j .run) (k .run)) (run-seq _ (run-post _ (one .run) (o .run)) (run-seq _ (p .run) (run-post _ (q .ran .ran) (r .run)))));
+        within = r .within;
       }
 
 -- ---- a series
@@ -257,7 +254,7 @@ unfolding ownBody
 own-ok x v ok = ok .1
 
 module _ (s : List ℕ) {m a b c d e : Mark} {x delivery year month rows : ℕ} where
-  own-body : Parsed (strip (opening "ToETimeSeries" ++ opening "SupplyDirection")) s m a tt → Parsed (wordsParse supplies) s a b x → Parsed (strip (closing "SupplyDirection")) s b c tt
+  pub own-body : Parsed (strip (opening "ToETimeSeries" ++ opening "SupplyDirection")) s m a tt → Parsed (wordsParse supplies) s a b x → Parsed (strip (closing "SupplyDirection")) s b c tt
       → (v : VolumeRead s c d delivery year month rows) → Parsed (strip (closing "ToETimeSeries")) s d e tt
       → Parsed (ownBody .parse) s m e (x, (delivery, (rows, ((year, month), v .observations))))
   unfolding ownBody
@@ -282,7 +279,7 @@ unfolding sharedBody
 shared-ok v ok = ok
 
 module _ (s : List ℕ) {m a b c : Mark} (x : ℕ) {delivery year month rows : ℕ} where
-  shared-body : Parsed (strip (opening "ToETimeSeries")) s m a tt → (v : VolumeRead s a b delivery year month rows) → Parsed (strip (closing "ToETimeSeries")) s b c tt
+  pub shared-body : Parsed (strip (opening "ToETimeSeries")) s m a tt → (v : VolumeRead s a b delivery year month rows) → Parsed (strip (closing "ToETimeSeries")) s b c tt
       → Parsed (sharedBody .parse) s m c (delivery, (rows, ((year, month), v .observations)))
   unfolding sharedBody
   shared-body i v r = record { run = run-pre (opening "ToETimeSeries") (i .run) (run-post _ (v .parsed .run) (r .run)); within = r .within }

@@ -3,12 +3,15 @@ use cursor::Cursor;
 use formats::Mark;
 use formats::Val;
 ghost use mathlib.Core.Path.{_≡_};
+ghost use mathlib.Core.List.{flatMap};
 ghost use Rattle.formats.specs.Place.{Within, Parsed};
 ghost use Rattle.formats.specs.Combine.{strip, mapParse};
 ghost use Rattle.message.specs.ObservationForm.{quantity, observed, behindMonth, period};
+ghost use Rattle.message.specs.SeriesForm.{volumeBody, ofVolume};
 ghost use Rattle.message.specs.Valid.{IsPeriod};
 ghost use Rattle.reader.specs.Rows.{observationRow};
 ghost use Rattle.reader.specs.Reading.{observing, inOrder, keep, Passed, observationsOf, VolumeRead, outline, ownParse, sharedParse};
+ghost use Rattle.reader.specs.Filling.{Fills, Stored, rowsOfObservation, rowsOfSeries};
 
 // Kilowatts with three decimals, as watts.
 fn quantity(s: &[u8], m: Mark) -> Val
@@ -110,10 +113,44 @@ fn observation(s: &[u8], m: Mark, low: u64, last: u64) -> Seen
     }
 }
 
-// n observations of a month.
-fn observations(s: &[u8], m: Mark, n: u64, year: u64, month: u64) -> Mark
+// The partner, supply and delivery direction of a series.
+struct Key {
+    partner: u64,
+    supply: u64,
+    delivery: u64,
+}
+
+// An observation's six numbers behind `count` rows, where they have room; the number of rows with it.
+fn store(out: &mut [u64], count: u64, key: Key, position: u64, watts: u64) -> u64
+    ensures { λ r. ⌜ Stored (key .partner, ((key .supply, key .delivery), observed (position, watts))) count (now (out .entry)) (now (out .exit)) r ⌝ }
+{
+    let k = count as usize;
+    if out.len() / 6 <= k {
+        return count;
+    }
+    let at = k * 6;
+    out[at] = key.partner;
+    out[at + 1] = key.supply;
+    out[at + 2] = key.delivery;
+    out[at + 3] = position;
+    out[at + 4] = watts;
+    out[at + 5] = 0;
+    count + 1
+}
+
+// n observations of a month; their rows go behind `rows` rows.
+fn observations(
+    s: &[u8],
+    m: Mark,
+    n: u64,
+    year: u64,
+    month: u64,
+    key: Key,
+    rows: u64,
+    out: &mut [u64],
+) -> Mark
     requires { ⌜ Within (now s) m ⌝ }
-    ensures { λ r. ⌜ Passed (observationsOf year month n) (now (s .entry)) m r ⌝ }
+    ensures { λ r. ⌜ Passed (observationsOf year month n) (now (s .entry)) m r × Fills (observationsOf year month n) (flatMap (rowsOfObservation (key .partner) (key .supply, key .delivery))) (now (s .entry)) m rows (now (out .entry)) (now (out .exit)) ⌝ }
 {
     let Mark::At(start) = m else {
         return Mark::No;
@@ -121,6 +158,7 @@ fn observations(s: &[u8], m: Mark, n: u64, year: u64, month: u64) -> Mark
     let last = message::last_position(year, month);
     let mut at = start;
     let mut low: u64 = 1;
+    let mut count = rows;
     let mut i: u64 = 0;
     while i < n {
         let o = observation(s, Mark::At(at), low, last);
@@ -128,6 +166,7 @@ fn observations(s: &[u8], m: Mark, n: u64, year: u64, month: u64) -> Mark
         let Mark::At(q) = next else {
             return Mark::No;
         };
+        count = store(out, count, key, o.position, o.watts);
         at = q;
         low = o.position + 1;
         i += 1;
@@ -194,10 +233,10 @@ struct TimeSeries {
     next: Mark,
 }
 
-// A time series from its delivery direction on.
-fn volume(s: &[u8], m: Mark) -> TimeSeries
+// A time series from its delivery direction on; its rows go behind `rows` rows.
+fn volume(s: &[u8], m: Mark, partner: u64, supply: u64, rows: u64, out: &mut [u64]) -> TimeSeries
     requires { ⌜ Within (now s) m ⌝ }
-    ensures { λ r. ⌜ VolumeRead (now (s .entry)) m (r .next) (r .delivery) (r .year) (r .month) (r .rows) ⌝ }
+    ensures { λ r. ⌜ VolumeRead (now (s .entry)) m (r .next) (r .delivery) (r .year) (r .month) (r .rows) × Fills (volumeBody .parse) (λ v. rowsOfSeries partner (ofVolume supply v)) (now (s .entry)) m rows (now (out .entry)) (now (out .exit)) ⌝ }
 {
     let a = formats::tag(s, m, b"<DeliveryDirection>");
     let x = formats::word(s, a, b"DeliveryUp", b"DeliveryDown");
@@ -214,7 +253,12 @@ fn volume(s: &[u8], m: Mark) -> TimeSeries
     let e = formats::tag(s, d, b"/ObservationCounter><TimeSeriesPeriod>");
     let q = period(s, e);
     let f = q.next;
-    let g = observations(s, f, n.value, q.year, q.month);
+    let key = Key {
+        partner,
+        supply,
+        delivery: x.value,
+    };
+    let g = observations(s, f, n.value, q.year, q.month, key, rows, out);
     let h = formats::tag(s, g, b"</TimeSeriesPeriod>");
     TimeSeries {
         delivery: x.value,
@@ -236,15 +280,15 @@ pub struct Series {
 }
 
 // A time series with its supply direction.
-pub fn own_series(s: &[u8], m: Mark) -> Series
+pub fn own_series(s: &[u8], m: Mark, partner: u64, rows: u64, out: &mut [u64]) -> Series
     requires { ⌜ Within (now s) m ⌝ }
-    ensures { λ r. ⌜ Parsed (mapParse outline ownParse) (now (s .entry)) m (r .next) ((r .supply, r .delivery), ((r .year, r .month), r .rows)) ⌝ }
+    ensures { λ r. ⌜ Parsed (mapParse outline ownParse) (now (s .entry)) m (r .next) ((r .supply, r .delivery), ((r .year, r .month), r .rows)) × Fills ownParse (rowsOfSeries partner) (now (s .entry)) m rows (now (out .entry)) (now (out .exit)) ⌝ }
 {
     let a = formats::tag(s, m, b"<ToETimeSeries><SupplyDirection>");
     let x = formats::word(s, a, b"Off-take", b"Injection");
     let b = x.next;
     let c = formats::tag(s, b, b"</SupplyDirection>");
-    let v = volume(s, c);
+    let v = volume(s, c, partner, x.value, rows, out);
     let d = v.next;
     let e = formats::tag(s, d, b"</ToETimeSeries>");
     Series {
@@ -258,12 +302,19 @@ pub fn own_series(s: &[u8], m: Mark) -> Series
 }
 
 // A time series with the supply direction of its access point.
-pub fn shared_series(s: &[u8], m: Mark, supply: u64) -> Series
+pub fn shared_series(
+    s: &[u8],
+    m: Mark,
+    partner: u64,
+    supply: u64,
+    rows: u64,
+    out: &mut [u64],
+) -> Series
     requires { ⌜ Within (now s) m ⌝ }
-    ensures { λ r. ⌜ Parsed (mapParse outline (sharedParse supply)) (now (s .entry)) m (r .next) ((r .supply, r .delivery), ((r .year, r .month), r .rows)) ⌝ }
+    ensures { λ r. ⌜ Parsed (mapParse outline (sharedParse supply)) (now (s .entry)) m (r .next) ((r .supply, r .delivery), ((r .year, r .month), r .rows)) × Fills (sharedParse supply) (rowsOfSeries partner) (now (s .entry)) m rows (now (out .entry)) (now (out .exit)) ⌝ }
 {
     let a = formats::tag(s, m, b"<ToETimeSeries>");
-    let v = volume(s, a);
+    let v = volume(s, a, partner, supply, rows, out);
     let b = v.next;
     let c = formats::tag(s, b, b"</ToETimeSeries>");
     Series {

@@ -1,36 +1,46 @@
-// The reader's first pass: it judges a file and counts its rows.
+// A file is judged, its rows are counted, and they fill the lent numbers as far as these go.
 use crate::elements::Series;
 use formats::Mark;
 use formats::Val;
 use message::Kind;
 ghost use mathlib.Core.Path.{_≡_};
-ghost use mathlib.Core.List.{_++_};
+ghost use mathlib.Core.List.{_++_, flatMap};
 ghost use Prim.Native.Nat.{suc, _+_, _*_, _≤_};
 ghost use Rattle.formats.specs.Combine.{mapParse, strip};
 ghost use lib.ListN.{take};
 ghost use Rattle.formats.specs.Exactly.{exactlyParse};
 ghost use Rattle.formats.specs.Place.{Within, Parsed, left};
+ghost use Rattle.formats.specs.declared.Mark.the-variants.{At};
 ghost use Rattle.message.specs.Valid.{isMoment};
 ghost use Rattle.message.specs.SeriesListForm.{follows};
 ghost use Rattle.reader.specs.Reading.{outline};
 ghost use Rattle.reader.specs.ReaderItems.{folded};
+ghost use Rattle.reader.specs.Filling.{Fills, rowsOfSeries, rowsOfPartner};
 ghost use Rattle.message.specs.Bytes.{opening, ending, closing, root, counter, group};
 ghost use Rattle.message.specs.PartnerForm.{partnerForm};
-ghost use Rattle.message.specs.FileForm.{kindOf, kindForm, partnersForm};
+ghost use Rattle.message.specs.FileForm.{kindOf, kindForm, partnersForm, fileBody};
 ghost use Rattle.reader.specs.ReaderPartner.{directionCounter, companyForm, accessForm, headParse, partnerKept};
 ghost use Rattle.reader.specs.ReaderPartners.{partnerItem, adding};
-ghost use Rattle.reader.specs.ReaderFile.{Filed};
+ghost use Rattle.reader.specs.ReaderFile.{Filed, rowsOfParts};
 ghost use Rattle.reader.specs.ReaderSeries.{seriesForm, joins, item, counting, listForm, Room};
 
 // A series of a kind; in TOE03 `supply` is its access point's.
-fn series(s: &[u8], m: Mark, kind: Kind, supply: u64) -> Series
+fn series(
+    s: &[u8],
+    m: Mark,
+    kind: Kind,
+    partner: u64,
+    supply: u64,
+    rows: u64,
+    out: &mut [u64],
+) -> Series
     requires { ⌜ Within (now s) m ⌝ }
-    ensures { λ r. ⌜ Parsed (mapParse outline (seriesForm kind supply .parse)) (now (s .entry)) m (r .next) ((r .supply, r .delivery), ((r .year, r .month), r .rows)) ⌝ }
+    ensures { λ r. ⌜ Parsed (mapParse outline (seriesForm kind supply .parse)) (now (s .entry)) m (r .next) ((r .supply, r .delivery), ((r .year, r .month), r .rows)) × Fills (seriesForm kind supply .parse) (rowsOfSeries partner) (now (s .entry)) m rows (now (out .entry)) (now (out .exit)) ⌝ }
 {
     match kind {
-        Kind::Toe01 => crate::elements::own_series(s, m),
-        Kind::Toe02 => crate::elements::own_series(s, m),
-        Kind::Toe03 => crate::elements::shared_series(s, m, supply),
+        Kind::Toe01 => crate::elements::own_series(s, m, partner, rows, out),
+        Kind::Toe02 => crate::elements::own_series(s, m, partner, rows, out),
+        Kind::Toe03 => crate::elements::shared_series(s, m, partner, supply, rows, out),
     }
 }
 
@@ -76,15 +86,18 @@ fn next_series(
     s: &[u8],
     m: Mark,
     kind: Kind,
+    partner: u64,
     supply: u64,
     low: u64,
     year: u64,
     month: u64,
+    rows: u64,
+    out: &mut [u64],
 ) -> Series
     requires { ⌜ Within (now s) m × (supply ≤ 1) ⌝ }
-    ensures { λ r. ⌜ Parsed (mapParse outline (item kind supply (low, (year, month)) .parse)) (now (s .entry)) m (r .next) ((r .supply, r .delivery), ((r .year, r .month), r .rows)) ⌝ }
+    ensures { λ r. ⌜ Parsed (mapParse outline (item kind supply (low, (year, month)) .parse)) (now (s .entry)) m (r .next) ((r .supply, r .delivery), ((r .year, r .month), r .rows)) × Fills (item kind supply (low, (year, month)) .parse) (rowsOfSeries partner) (now (s .entry)) m rows (now (out .entry)) (now (out .exit)) ⌝ }
 {
-    let x = series(s, m, kind, supply);
+    let x = series(s, m, kind, partner, supply, rows, out);
     let a = x.next;
     let good = joins(x.supply, x.delivery, x.year, x.month, low, year, month);
     let next = crate::elements::kept(a, good);
@@ -111,14 +124,16 @@ fn series_list(
     s: &[u8],
     m: Mark,
     kind: Kind,
+    partner: u64,
     supply: u64,
     n: u64,
     year: u64,
     month: u64,
     rows: u64,
+    out: &mut [u64],
 ) -> Tally
     requires { ⌜ Within (now s) m × (supply ≤ 1) × Room m rows ⌝ }
-    ensures { λ r. ⌜ Parsed (mapParse (folded counting ((year, month), rows)) (listForm kind supply n (year, month) .parse)) (now (s .entry)) m (r .next) ((r .year, r .month), r .rows) × Room (r .next) (r .rows) ⌝ }
+    ensures { λ r. ⌜ Parsed (mapParse (folded counting ((year, month), rows)) (listForm kind supply n (year, month) .parse)) (now (s .entry)) m (r .next) ((r .year, r .month), r .rows) × Room (r .next) (r .rows) × Fills (listForm kind supply n (year, month) .parse) (flatMap (rowsOfSeries partner)) (now (s .entry)) m rows (now (out .entry)) (now (out .exit)) ⌝ }
 {
     let Mark::At(start) = m else {
         return Tally {
@@ -135,7 +150,18 @@ fn series_list(
     let mut count = rows;
     let mut i: u64 = 0;
     while i < n {
-        let o = next_series(s, Mark::At(at), kind, supply, low, seen_year, seen_month);
+        let o = next_series(
+            s,
+            Mark::At(at),
+            kind,
+            partner,
+            supply,
+            low,
+            seen_year,
+            seen_month,
+            count,
+            out,
+        );
         let next = o.next;
         let Mark::At(q) = next else {
             return Tally {
@@ -268,9 +294,17 @@ struct PartnerRead {
 }
 
 // A partner, behind so many rows and the month that was seen.
-fn partner(s: &[u8], m: Mark, kind: Kind, year: u64, month: u64, rows: u64) -> PartnerRead
+fn partner(
+    s: &[u8],
+    m: Mark,
+    kind: Kind,
+    year: u64,
+    month: u64,
+    rows: u64,
+    out: &mut [u64],
+) -> PartnerRead
     requires { ⌜ Within (now s) m × Room m rows ⌝ }
-    ensures { λ r. ⌜ Parsed (mapParse (partnerKept ((year, month), rows)) (partnerForm kind (year, month) .parse)) (now (s .entry)) m (r .next) (r .number, ((r .year, r .month), r .rows)) × Room (r .next) (r .rows) ⌝ }
+    ensures { λ r. ⌜ Parsed (mapParse (partnerKept ((year, month), rows)) (partnerForm kind (year, month) .parse)) (now (s .entry)) m (r .next) (r .number, ((r .year, r .month), r .rows)) × Room (r .next) (r .rows) × Fills (partnerForm kind (year, month) .parse) (rowsOfPartner) (now (s .entry)) m rows (now (out .entry)) (now (out .exit)) ⌝ }
 {
     let h = partner_head(s, m, kind);
     let a = h.next;
@@ -283,7 +317,18 @@ fn partner(s: &[u8], m: Mark, kind: Kind, year: u64, month: u64, rows: u64) -> P
             next: Mark::No,
         };
     };
-    let t = series_list(s, a, kind, h.supply, h.count, year, month, rows);
+    let t = series_list(
+        s,
+        a,
+        kind,
+        h.number,
+        h.supply,
+        h.count,
+        year,
+        month,
+        rows,
+        out,
+    );
     let b = t.next;
     let next = group_end(s, b, kind);
     PartnerRead {
@@ -304,11 +349,12 @@ fn next_partner(
     year: u64,
     month: u64,
     rows: u64,
+    out: &mut [u64],
 ) -> PartnerRead
     requires { ⌜ Within (now s) m × Room m rows ⌝ }
-    ensures { λ r. ⌜ Parsed (mapParse (partnerKept ((year, month), rows)) (partnerItem kind (low, (year, month)) .parse)) (now (s .entry)) m (r .next) (r .number, ((r .year, r .month), r .rows)) × Room (r .next) (r .rows) ⌝ }
+    ensures { λ r. ⌜ Parsed (mapParse (partnerKept ((year, month), rows)) (partnerItem kind (low, (year, month)) .parse)) (now (s .entry)) m (r .next) (r .number, ((r .year, r .month), r .rows)) × Room (r .next) (r .rows) × Fills (partnerItem kind (low, (year, month)) .parse) (rowsOfPartner) (now (s .entry)) m rows (now (out .entry)) (now (out .exit)) ⌝ }
 {
-    let p = partner(s, m, kind, year, month, rows);
+    let p = partner(s, m, kind, year, month, rows, out);
     let a = p.next;
     let number = p.number;
     let good = low <= number;
@@ -323,9 +369,9 @@ fn next_partner(
 }
 
 // n partners: the month and the rows of their series.
-fn partners(s: &[u8], m: Mark, kind: Kind, n: u64) -> Tally
+fn partners(s: &[u8], m: Mark, kind: Kind, n: u64, out: &mut [u64]) -> Tally
     requires { ⌜ Within (now s) m ⌝ }
-    ensures { λ r. ⌜ Parsed (mapParse (folded adding ((0, 0), 0)) (partnersForm kind n .parse)) (now (s .entry)) m (r .next) ((r .year, r .month), r .rows) × Room (r .next) (r .rows) ⌝ }
+    ensures { λ r. ⌜ Parsed (mapParse (folded adding ((0, 0), 0)) (partnersForm kind n .parse)) (now (s .entry)) m (r .next) ((r .year, r .month), r .rows) × Room (r .next) (r .rows) × Fills (partnersForm kind n .parse) (flatMap rowsOfPartner) (now (s .entry)) m 0 (now (out .entry)) (now (out .exit)) ⌝ }
 {
     let Mark::At(start) = m else {
         return Tally {
@@ -342,7 +388,7 @@ fn partners(s: &[u8], m: Mark, kind: Kind, n: u64) -> Tally
     let mut rows: u64 = 0;
     let mut i: u64 = 0;
     while i < n {
-        let p = next_partner(s, Mark::At(at), kind, low, year, month, rows);
+        let p = next_partner(s, Mark::At(at), kind, low, year, month, rows, out);
         let next = p.next;
         let Mark::At(q) = next else {
             return Tally {
@@ -458,21 +504,21 @@ fn root_end(s: &[u8], m: Mark, kind: Kind) -> Mark
 }
 
 // The parts of a file that were read, where its ID starts and ends and its moment starts, and the place behind it.
-struct FileRead {
-    kind: Kind,
-    receiver: u64,
-    year: u64,
-    month: u64,
-    rows: u64,
-    id: Mark,
-    id_end: Mark,
-    moment: Mark,
-    next: Mark,
+pub struct FileRead {
+    pub kind: Kind,
+    pub receiver: u64,
+    pub year: u64,
+    pub month: u64,
+    pub rows: u64,
+    pub id: Mark,
+    pub id_end: Mark,
+    pub moment: Mark,
+    pub next: Mark,
 }
 
-// A file from its first byte on.
-fn file_read(s: &[u8]) -> FileRead
-    ensures { λ r. ⌜ Filed (now (s .entry)) (r .next) (r .kind) (r .receiver) ((r .year, r .month), r .rows) (r .id) (r .moment) ⌝ }
+// A file from its first byte on; its rows are the first.
+pub fn file_read(s: &[u8], out: &mut [u64]) -> FileRead
+    ensures { λ r. ⌜ Filed (now (s .entry)) (r .next) (r .kind) (r .receiver) ((r .year, r .month), r .rows) (r .id) (r .«id_end») (r .moment) × Fills (fileBody .parse) rowsOfParts (now (s .entry)) (At 0) 0 (now (out .entry)) (now (out .exit)) ⌝ }
 {
     let r = file_root(s, Mark::At(0));
     let a = r.next;
@@ -488,7 +534,7 @@ fn file_read(s: &[u8]) -> FileRead
     let n = formats::number(s, e, 60, 18446744073709551615);
     let f = n.next;
     let g = counter_end(s, f, kind);
-    let t = partners(s, g, kind, n.value);
+    let t = partners(s, g, kind, n.value, out);
     let h = t.next;
     let next = root_end(s, h, kind);
     FileRead {

@@ -1,6 +1,14 @@
 pub mod WriterOrder
 pub mod WriterRows
 pub mod WriterRowsLaws
+pub mod WriteCalls
+pub mod WriteCallsLaws
+pub mod RoundTrip
+pub mod RoundTripLaws
+pub mod CaseFWritten
 pub mod WriterSteps
+pub mod WriterRuns
+pub mod WriterRunsLaws
 pub mod WriterLaid
 pub mod WriterParts
+pub mod WriterPartsLaws

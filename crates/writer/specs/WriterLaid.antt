@@ -1,15 +1,15 @@
 -- Bytes laid behind each other into a list, or only measured: what has no room ends at no place.
 use mathlib.Core.Path.{_≡_, refl, sym, ap, _∙_}
 use mathlib.Core.Bool.{Bool, true, false, cond}
-use mathlib.Core.List.{List, _++_}
+use mathlib.Core.List.{List, [], _++_}
 use Prim.Native.Nat.{ℕ, _+_, _≤_}
 use lib.Dec.{leb}
 use lib.ListN.{length, length-append}
 use native.Mathlib.Omega.{arith}
-use native.Mathlib.Nat.{add-assoc}
+use native.Mathlib.Nat.{add-assoc, add-zero}
 use borrow.Author.Tests.{leb-true, leb-false, le-leb, lt-leb}
 use Rattle.text.specs.Written.{written, Wrote}
-use Rattle.text.specs.WrittenLaws.{written-both, wrote-length}
+use Rattle.text.specs.WrittenLaws.{written-nil, written-both, wrote-length}
 use Rattle.formats.specs.declared.Mark.{Mark}
 use Rattle.formats.specs.declared.Mark.the-variants.{At, No}
 
@@ -120,3 +120,20 @@ laid-live live d m p bs out q e f w =
 -- there is room up to a place that was reached
 pub room-for : (len p n q : ℕ) (m next : Mark) → m ≡ At p → next ≡ ahead len m n → next ≡ At q → p + n ≤ len
 room-for len p n q m next e f g = reached len p n q (ap (λ (k : Mark). ahead len k n) (sym e) ∙ sym f ∙ g) .room
+
+-- ---- nothing laid
+
+-- a mark that stands in a list of that length, or at no place
+pub record Stands (len : ℕ) (m : Mark) : Type 0 where
+  pub still : ahead len m 0 ≡ m
+
+pub stands-at : (len p : ℕ) → p ≤ len → Stands len (At p)
+stands-at len p h = record { still = ahead-fits len p 0 (omega arith) ∙ ap At (add-zero p) }
+
+pub laid-stands : {live : Bool} {d : List ℕ} {m : Mark} {a out : List ℕ} {n : Mark} → Laid live d m a out n → Stands (length out) n
+laid-stands {live} {d} {m} {a} {out} {n} v =
+    record { still = ap (λ (k : Mark). ahead (length out) k 0) (v .behind) ∙ ap (λ (k : ℕ). ahead k (ahead (length d) m (length a)) 0) (v .keeps) ∙ ahead-twice (length d) m (length a) 0 ∙ ap (ahead (length d) m) (add-zero (length a)) ∙ sym (v .behind) }
+
+pub laid-none : (live : Bool) (d : List ℕ) (m : Mark) → Stands (length d) m → Laid live d m [] d m
+laid-none live d m s =
+    record { keeps = refl; behind = sym (s .still); dry = λ e. refl; wrote = λ e p q f g. sym (written-nil d p) }

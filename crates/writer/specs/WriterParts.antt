@@ -1,57 +1,45 @@
--- The parts of a file as they are laid, one behind the other.
-use mathlib.Core.Path.{_≡_}
-use mathlib.Core.List.{List, _++_, append-assoc, flatMap}
+-- The parts of a file as they are laid, one behind the other: what stands before the parts that each holds, and what behind.
+use mathlib.Core.List.{List, _++_}
 use Prim.Native.Nat.{ℕ}
-use lib.ListN.{length}
 use Rattle.text.specs.Ascii.{bytes}
-use Rattle.text.specs.Decimal.{plain}
-use Rattle.message.specs.Bytes.{opening, closing, quantityBytes, observationBytes, periodBytes, supplies, supplyBytes, deliveries, volumeBytes, element}
-use Rattle.message.specs.Contents.{Series}
-use Rattle.moments.specs.Moments.{momentBytes, periodStart, periodEnd}
+use Rattle.text.specs.Decimal.{fixed, plain}
 use Rattle.formats.specs.Words.{wordAt}
-use Rattle.message.specs.ObservationForm.{observed}
+use Rattle.message.specs.declared.Kind.{Kind}
+use Rattle.message.specs.Bytes.{opening, closing, element, root, counter, group, partner, digits, periodBytes, supplyBytes, deliveries, inSeries, withPartner}
 
-pub observation-parts : (p w : ℕ)
-    → (((opening "Observation" ++ opening "Position") ++ plain p) ++ (closing "Position" ++ opening "Quantity")) ++ quantityBytes w ++ (closing "Quantity" ++ closing "Observation")
-    ≡ observationBytes (observed (p, w))
-unfolding observationBytes
-observation-parts p w = simp append-assoc
-
-pub period-parts : (year month : ℕ)
-    → (((opening "PeriodStart" ++ momentBytes (periodStart year month)) ++ (closing "PeriodStart" ++ opening "PeriodEnd")) ++ momentBytes (periodEnd year month))
-    ++ (closing "PeriodEnd" ++ opening "PeriodResolution" ++ bytes "PT15M" ++ closing "PeriodResolution")
-    ≡ periodBytes year month
-unfolding periodBytes
-period-parts year month = simp append-assoc
-
-pub off-take : (s : ℕ) → s ≡ 0 → opening "SupplyDirection" ++ bytes "Off-take" ++ closing "SupplyDirection" ≡ supplyBytes s
-unfolding supplyBytes supplies wordAt
-off-take s e = rw e
-
-pub injection : (s : ℕ) → s ≡ 1 → opening "SupplyDirection" ++ bytes "Injection" ++ closing "SupplyDirection" ≡ supplyBytes s
-unfolding supplyBytes supplies wordAt
-injection s e = rw e
-
--- ---- a time series up to its observations
+-- ---- a time series
 
 unfoldable pub deliveryBytes : ℕ → List ℕ
 deliveryBytes delivery = element "DeliveryDirection" (wordAt deliveries delivery)
 
+-- from its delivery direction up to its observations, of which there are n
 unfoldable pub headBytes : ℕ → ℕ → ℕ → ℕ → List ℕ
 headBytes delivery n year month =
     deliveryBytes delivery ++ (opening "UnitType" ++ bytes "KWT" ++ closing "UnitType" ++ opening "ObservationCounter") ++ plain n ++ (closing "ObservationCounter" ++ opening "TimeSeriesPeriod")
     ++ periodBytes year month
 
-pub up : (s : ℕ) → s ≡ 0 → opening "DeliveryDirection" ++ bytes "DeliveryUp" ++ closing "DeliveryDirection" ≡ deliveryBytes s
-unfolding deliveryBytes deliveries wordAt
-up s e = rw e
+unfoldable pub seriesHead : Kind → ℕ → ℕ → ℕ → ℕ → ℕ → List ℕ
+seriesHead k supply delivery n year month = opening "ToETimeSeries" ++ inSeries k (supplyBytes supply) ++ headBytes delivery n year month
 
-pub down : (s : ℕ) → s ≡ 1 → opening "DeliveryDirection" ++ bytes "DeliveryDown" ++ closing "DeliveryDirection" ≡ deliveryBytes s
-unfolding deliveryBytes deliveries wordAt
-down s e = rw e
+unfoldable pub seriesEnd : List ℕ
+seriesEnd = closing "TimeSeriesPeriod" ++ closing "ToETimeSeries"
 
--- what a time series has is its head, its observations and its end
-pub volume-parts : (s : Series)
-    → headBytes (s .delivery) (length (s .observations)) (s .year) (s .month) ++ flatMap observationBytes (s .observations) ++ closing "TimeSeriesPeriod" ≡ volumeBytes s
-unfolding headBytes deliveryBytes volumeBytes
-volume-parts s = simp append-assoc
+-- ---- a partner, up to its series, of which there are n
+
+unfoldable pub partnerHead : Kind → ℕ → ℕ → ℕ → List ℕ
+partnerHead k number supply n =
+    opening (group k) ++ element (partner k) (fixed (digits k) number) ++ withPartner k (supplyBytes supply) ++ element "DirectionCounter" (plain n)
+
+unfoldable pub partnerEnd : Kind → List ℕ
+partnerEnd k = closing (group k)
+
+-- ---- a file, up to its partners, of which there are n
+
+unfoldable pub originBytes : Kind → List ℕ → List ℕ → List ℕ
+originBytes k id moment = opening (root k) ++ element "TransactionID" id ++ element "MessageCreateDateTime" moment
+
+unfoldable pub fileHead : Kind → List ℕ → List ℕ → ℕ → ℕ → List ℕ
+fileHead k id moment receiver n = originBytes k id moment ++ element "ReceiverID" (fixed 10 receiver) ++ element (counter k) (plain n)
+
+unfoldable pub fileEnd : Kind → List ℕ
+fileEnd k = closing (root k)

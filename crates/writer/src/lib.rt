@@ -1,4 +1,6 @@
 // The writer of a file.
-mod emitting;
+pub mod emitting;
 mod judging;
 mod laying;
+pub mod round_trip;
+mod runs;

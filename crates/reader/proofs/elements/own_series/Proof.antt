@@ -1,8 +1,8 @@
--- The parts one after the other.
-use borrow.Author.Needs.{needs}
+-- The parts one after the other; the time series fills the rows.
 use Rattle.text.specs.Ascii.{bytes}
 use Rattle.message.specs.Bytes.{opening, ending, closing, supplies}
-use Rattle.reader.specs.Reading.{own-read}
+use Rattle.reader.specs.FillingParts.{own-filled}
+use borrow.Author.Needs.{needs}
 use Rattle.reader.proofs.elements.own_series.Statement.{statement}
 use Rattle.reader.proofs.elements.own_series.Tie as tie
 
@@ -36,9 +36,14 @@ slice-aggregate-tag-3 c = search needs
 tag-requires-3 : tie.Need-tag-requires-3
 tag-requires-3 c κs = search needs
 
+same-length : tie.Need-same-length
+same-length c = search needs
+
 returns : tie.Need-returns
 unfolding opening ending closing supplies bytes
-returns c = own-read (c .before .before .before .before .before .before .before .before .before .before .before .args .s .now) (c .before .before .before .before .before .before .before .before .tag .ensures) (c .before .before .before .before .before .word .ensures) (c .before .before .before .tag2 .ensures) (c .before .before .volume .ensures) (c .tag3 .ensures)
+returns c =
+    let a = c .before .before .before .before .before .before .before .before .before .before .before .before .before .before .before .args in
+    own-filled (a .s .now) (a .partner) (c .before .before .before .before .before .before .before .before .before .before .before .tag .ensures) (c .before .before .before .before .before .before .before .before .word .ensures) (c .before .before .before .before .before .before .tag2 .ensures) (c .before .before .before .before .volume .ensures) (c .tag3 .ensures)
 
 pub own-series-spec : {M : Type 1} → statement M
 own-series-spec =
@@ -54,4 +59,5 @@ own-series-spec =
     volume-requires
     slice-aggregate-tag-3
     tag-requires-3
+    same-length
     returns)

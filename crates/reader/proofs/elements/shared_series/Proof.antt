@@ -1,8 +1,8 @@
--- The parts one after the other.
-use borrow.Author.Needs.{needs}
+-- The parts one after the other; the time series fills the rows.
 use Rattle.text.specs.Ascii.{bytes}
 use Rattle.message.specs.Bytes.{opening, ending, closing}
-use Rattle.reader.specs.Reading.{shared-read}
+use Rattle.reader.specs.FillingParts.{shared-filled}
+use borrow.Author.Needs.{needs}
 use Rattle.reader.proofs.elements.shared_series.Statement.{statement}
 use Rattle.reader.proofs.elements.shared_series.Tie as tie
 
@@ -21,11 +21,14 @@ slice-aggregate-tag-2 c = search needs
 tag-requires-2 : tie.Need-tag-requires-2
 tag-requires-2 c κs = search needs
 
+same-length : tie.Need-same-length
+same-length c = search needs
+
 returns : tie.Need-returns
 unfolding opening ending closing bytes
 returns c =
-    let a = c .before .before .before .before .before .before .args in
-    shared-read (a .s .now) (a .supply) (c .before .before .before .tag .ensures) (c .before .before .volume .ensures) (c .tag2 .ensures)
+    let a = c .before .before .before .before .before .before .before .before .before .before .args in
+    shared-filled (a .s .now) (a .supply) (a .partner) (c .before .before .before .before .before .before .tag .ensures) (c .before .before .before .before .volume .ensures) (c .tag2 .ensures)
 
 pub shared-series-spec : {M : Type 1} → statement M
 shared-series-spec =
@@ -36,4 +39,5 @@ shared-series-spec =
     volume-requires
     slice-aggregate-tag-2
     tag-requires-2
+    same-length
     returns)

@@ -1,7 +1,8 @@
--- The parts one after the other.
+-- The parts one after the other; the partners fill the rows.
 use Rattle.text.specs.Ascii.{bytes}
 use Rattle.message.specs.Bytes.{opening, ending, closing}
-use Rattle.reader.specs.ReaderFile.{filed}
+use Rattle.reader.specs.ReaderPlaces.{Steps}
+use Rattle.reader.specs.ReaderFile.{filed, filed-fills}
 use borrow.Author.Needs.{needs}
 use Rattle.reader.proofs.file.file_read.Statement.{statement}
 use Rattle.reader.proofs.file.file_read.Tie as tie
@@ -51,22 +52,29 @@ partners-requires c κs = search needs
 root-end-requires : tie.Need-root-end-requires
 root-end-requires c κs = search needs
 
-returns : tie.Need-returns
+same-length : tie.Need-same-length
+same-length c = search needs
+
+steps : (c : tie.After-root-end) → Steps (c .before .before .before .before .before .before .before .before .before .before .before .before .before .before .before .before .before .before .before .before .args .s .now) (c .before .before .before .before .before .before .before .before .before .before .before .before .before .before .before .before .before .file-root .result .next) (c .before .before .before .before .before .before .before .before .before .before .before .before .before .before .before .tag .result) (c .before .before .before .before .before .before .before .before .before .before .before .before .before .before .name .result) (c .before .before .before .before .before .before .before .before .before .before .before .before .tag2 .result) (c .before .before .before .before .before .before .before .before .before .before .before .file-moment .result) (c .before .before .before .before .before .before .before .before .before .tag3 .result) (c .before .before .before .before .before .before .before .before .fixed .result .next) (c .before .before .before .before .before .before .before .receiver-end .result) (c .before .before .before .before .before .before .number .result .next) (c .before .before .before .before .before .counter-end .result) (c .before .before .before .partners .result .next) (c .root-end .result) (c .before .before .before .before .before .before .before .before .before .before .before .before .before .before .before .before .before .file-root .result .kind) (c .before .before .before .before .before .before .before .before .fixed .result .value) (c .before .before .before .before .before .before .number .result .value) ((c .before .before .before .partners .result .year, c .before .before .before .partners .result .month), c .before .before .before .partners .result .rows)
 unfolding opening ending closing bytes
-returns c =
-    filed (c .before .before .before .before .before .before .before .before .before .before .before .before .before .before .before .before .args .s .now)
-    (c .before .before .before .before .before .before .before .before .before .before .before .before .before .before .file-root .ensures)
-    (c .before .before .before .before .before .before .before .before .before .before .before .before .tag .ensures)
-    (c .before .before .before .before .before .before .before .before .before .before .before .name .ensures)
-    (c .before .before .before .before .before .before .before .before .before .tag2 .ensures)
-    (c .before .before .before .before .before .before .before .before .file-moment .ensures)
-    (c .before .before .before .before .before .before .tag3 .ensures)
-    (c .before .before .before .before .before .fixed .ensures)
-    (c .before .before .before .before .receiver-end .ensures)
-    (c .before .before .before .number .ensures)
-    (c .before .before .counter-end .ensures)
-    (c .before .partners .ensures .0)
-    (c .root-end .ensures)
+steps c =
+    record {
+      kind = c .before .before .before .before .before .before .before .before .before .before .before .before .before .before .before .before .before .file-root .ensures;
+      before-id = c .before .before .before .before .before .before .before .before .before .before .before .before .before .before .before .tag .ensures;
+      id = c .before .before .before .before .before .before .before .before .before .before .before .before .before .before .name .ensures;
+      before-moment = c .before .before .before .before .before .before .before .before .before .before .before .before .tag2 .ensures;
+      moment = c .before .before .before .before .before .before .before .before .before .before .before .file-moment .ensures;
+      before-receiver = c .before .before .before .before .before .before .before .before .before .tag3 .ensures;
+      receiver = c .before .before .before .before .before .before .before .before .fixed .ensures;
+      before-count = c .before .before .before .before .before .before .before .receiver-end .ensures;
+      count = c .before .before .before .before .before .before .number .ensures;
+      behind-count = c .before .before .before .before .before .counter-end .ensures;
+      partners = c .before .before .before .partners .ensures .0;
+      end = c .root-end .ensures;
+    }
+
+returns : tie.Need-returns
+returns c = (filed (steps c), filed-fills (steps c) (c .before .before .before .partners .ensures .2))
 
 pub file-read-spec : {M : Type 1} → statement M
 file-read-spec =
@@ -87,4 +95,5 @@ file-read-spec =
     counter-end-requires
     partners-requires
     root-end-requires
+    same-length
     returns)

@@ -3,7 +3,8 @@ use native.Mathlib.Omega.{arith}
 use Rattle.text.specs.Ascii.{bytes}
 use Rattle.message.specs.Bytes.{opening, ending, closing}
 use Rattle.writer.specs.WriterLaid.{laid-is}
-use Rattle.writer.specs.WriterParts.{deliveryBytes, up, down}
+use Rattle.writer.specs.WriterParts.{deliveryBytes}
+use Rattle.writer.specs.WriterPartsLaws.{up, down}
 use native.Mathlib.Omega.{arith}
 use borrow.Author.Needs.{needs}
 use Rattle.writer.proofs.emitting.emit_delivery.Statement.{statement}

@@ -3,7 +3,7 @@ use Rattle.text.specs.Ascii.{bytes}
 use Rattle.message.specs.Bytes.{opening, ending, closing, observationBytes}
 use Rattle.message.specs.ObservationForm.{observed}
 use Rattle.writer.specs.WriterLaid.{laid-then, laid-is}
-use Rattle.writer.specs.WriterParts.{observation-parts}
+use Rattle.writer.specs.WriterPartsLaws.{observation-parts}
 use borrow.Author.Needs.{needs}
 use Rattle.writer.proofs.emitting.emit_observation.Statement.{statement}
 use Rattle.writer.proofs.emitting.emit_observation.Tie as tie

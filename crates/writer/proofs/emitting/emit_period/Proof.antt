@@ -4,7 +4,7 @@ use Rattle.text.specs.Ascii.{bytes}
 use Rattle.moments.specs.Moments.{momentBytes, periodStart, periodEnd}
 use Rattle.message.specs.Bytes.{opening, ending, closing, periodBytes}
 use Rattle.writer.specs.WriterLaid.{laid-then, laid-is}
-use Rattle.writer.specs.WriterParts.{period-parts}
+use Rattle.writer.specs.WriterPartsLaws.{period-parts}
 use borrow.Author.Needs.{needs}
 use Rattle.writer.proofs.emitting.emit_period.Statement.{statement}
 use Rattle.writer.proofs.emitting.emit_period.Tie as tie

@@ -3,7 +3,7 @@ use native.Mathlib.Omega.{arith}
 use Rattle.text.specs.Ascii.{bytes}
 use Rattle.message.specs.Bytes.{opening, ending, closing, supplyBytes}
 use Rattle.writer.specs.WriterLaid.{laid-is}
-use Rattle.writer.specs.WriterParts.{off-take, injection}
+use Rattle.writer.specs.WriterPartsLaws.{off-take, injection}
 use native.Mathlib.Omega.{arith}
 use borrow.Author.Needs.{needs}
 use Rattle.writer.proofs.emitting.emit_supply.Statement.{statement}

@@ -1,0 +1,133 @@
+-- What a reading's answer shows, what each answer needs, and that ID and moment stand at the places that are named.
+use mathlib.Core.Path.{_≡_, refl, sym, ap, _∙_}
+use mathlib.Core.Bool.{Bool, true, false}
+use mathlib.Core.List.{List, _++_, append-assoc, flatMap}
+use mathlib.Core.Option.{some}
+use Prim.Native.Nat.{ℕ, _*_, _≤_, _<_}
+use lib.Dec.{leb}
+use lib.ListN.{length, take, drop}
+use lib.Seq.{take-at, take-append-seam, drop-append-seam}
+use native.Mathlib.Omega.{arith}
+use borrow.Author.Tests.{leb-true, le-leb, lt-leb}
+use Rattle.text.specs.Decimal.{fixed, plain}
+use Rattle.formats.specs.Format.{Res, got, bad}
+use Rattle.message.specs.declared.Kind.{Kind}
+use Rattle.message.specs.declared.Kind.the-variants.{Toe01, Toe02, Toe03}
+use Rattle.message.specs.declared.FileFacts.{FileFacts}
+use Rattle.message.specs.declared.ReadAnswer.{ReadAnswer}
+use Rattle.message.specs.declared.ReadAnswer.the-variants.{File, Refused}
+use Rattle.message.specs.Bytes.{opening, element, closing, root, counter, partnerBytes, fileBytes}
+use Rattle.message.specs.Rows.{numbers, partnersOf, Message, contents}
+use Rattle.message.specs.FileLaws.{messageBytes, readMessage}
+use Rattle.message.specs.Calls.{accepted, unless, over, afterwards, kindNumbered, kindNumber, idPlace, momentPlace, factsOf, readVerdict, readSays, messageNumbers, ReadCalled}
+
+-- ---- kinds by their numbers
+
+pub kind-numbered : (kind : Kind) → kindNumbered (kindNumber kind) ≡ some kind
+kind-numbered Toe01 = refl
+kind-numbered Toe02 = refl
+kind-numbered Toe03 = refl
+
+-- ---- buffers
+
+-- the first places of a buffer that was written over
+pub over-first : {A : Type 0} (new old : List A) (n : ℕ) → length new ≡ n → take n (over new old) ≡ new
+unfolding over
+over-first new old n e = take-at new (drop (length new) old) n e
+
+-- ---- from what is known to the record
+
+module _ (file before : List ℕ) where
+  -- 13
+  pub called-no-file : readMessage file ≡ bad → ReadCalled file before before (Refused 13 0)
+  unfolding readVerdict readSays afterwards
+  called-no-file e = record { answer = rw e; rows = rw e }
+
+  module _ (m : Message) (rest : List ℕ) (e : readMessage file ≡ got m rest) where
+    -- 10
+    pub called-short : length before < 6 * length (m .rows) → ReadCalled file before before (Refused 10 0)
+    unfolding readVerdict readSays afterwards
+    called-short h = let f = lt-leb (6 * length (m .rows)) (length before) h in record { answer = rw (e, f); rows = rw (e, f) }
+
+    -- what the file says
+    pub called-file : 6 * length (m .rows) ≤ length before → ReadCalled file before (over (numbers (m .rows)) before) (File (factsOf m))
+    unfolding readVerdict readSays afterwards
+    called-file h = let f = le-leb (6 * length (m .rows)) (length before) h in record { answer = rw (e, f); rows = rw (e, f) }
+
+-- ---- from the record to what was read
+
+pub record Accepted (file before after : List ℕ) (facts : FileFacts) : Type 0 where
+  pub message : Message
+  pub rest : List ℕ
+  pub read : readMessage file ≡ got message rest
+  pub long : 6 * length (message .rows) ≤ length before
+  pub says : facts ≡ factsOf message
+  pub rows : after ≡ over (numbers (message .rows)) before
+
+module _ (file before after : List ℕ) (facts : FileFacts) where
+  accepted-message : (m : Message) (rest : List ℕ) → readMessage file ≡ got m rest → (b : Bool) → leb (6 * length (m .rows)) (length before) ≡ b
+      → File facts ≡ readSays (unless b 10 0 (accepted m)) → after ≡ afterwards messageNumbers (unless b 10 0 (accepted m)) before → Accepted file before after facts
+  unfolding readSays afterwards
+  accepted-message m rest e true f a w =
+      record { message = m; rest = rest; read = e; long = leb-true (6 * length (m .rows)) (length before) f; says = cc; rows = w }
+  accepted-message m rest e false f a w = let z : _≡_ {A = ℕ} 0 1 = cc in absurd (omega arith)
+
+  accepted-reading : (x : Res Message) → readMessage file ≡ x → File facts ≡ readSays (readVerdict x (length before)) → after ≡ afterwards messageNumbers (readVerdict x (length before)) before
+      → Accepted file before after facts
+  unfolding readVerdict readSays
+  accepted-reading bad e a w = let z : _≡_ {A = ℕ} 0 1 = cc in absurd (omega arith)
+  accepted-reading (got m rest) e a w = accepted-message m rest e (leb (6 * length (m .rows)) (length before)) refl a w
+
+  pub accepted-is : ReadCalled file before after (File facts) → Accepted file before after facts
+  accepted-is c = accepted-reading (readMessage file) refl (c .answer) (c .rows)
+
+-- 13 is answered of no file only
+module _ (file before after : List ℕ) where
+  refused-message : (m : Message) (b : Bool) → Refused 13 0 ≡ readSays (unless b 10 0 (accepted m)) → ⊥
+  unfolding readSays
+  refused-message m true e = let z : _≡_ {A = ℕ} 0 1 = cc in omega arith
+  refused-message m false e = let z : _≡_ {A = ℕ} 13 10 = cc in omega arith
+
+  refused-reading : (x : Res Message) → Refused 13 0 ≡ readSays (readVerdict x (length before)) → x ≡ bad
+  unfolding readVerdict
+  refused-reading bad e = refl
+  refused-reading (got m rest) e = absurd (refused-message m (leb (6 * length (m .rows)) (length before)) e)
+
+  pub refused-is : ReadCalled file before after (Refused 13 0) → readMessage file ≡ bad
+  refused-is c = refused-reading (readMessage file) (c .answer)
+
+-- one call has one answer
+pub one-reading : {file before a b : List ℕ} {r s : ReadAnswer} → ReadCalled file before a r → ReadCalled file before b s → (r ≡ s) × (a ≡ b)
+one-reading c d = (c .answer ∙ sym (d .answer), c .rows ∙ sym (d .rows))
+
+-- ---- the places of ID and moment
+
+part-at : (p x r : List ℕ) → take (length x) (drop (length p) (p ++ (x ++ r))) ≡ x
+part-at p x r = ap (take (length x)) (drop-append-seam p (x ++ r)) ∙ take-append-seam x r
+
+id-join : (r o i c m v n l e : List ℕ) → r ++ (o ++ i ++ c ++ m ++ v ++ n ++ l) ++ e ≡ (r ++ o) ++ (i ++ (c ++ m ++ v ++ n ++ l ++ e))
+id-join r o i c m v n l e = simp append-assoc
+
+moment-join : (r t o x c v n l e : List ℕ) → r ++ (t ++ (o ++ x ++ c) ++ v ++ n ++ l) ++ e ≡ (r ++ t ++ o) ++ (x ++ (c ++ v ++ n ++ l ++ e))
+moment-join r t o x c v n l e = simp append-assoc
+
+module _ (m : Message) where
+  pub id-stands : take (length (m .id)) (drop (idPlace (m .kind)) (messageBytes m)) ≡ m .id
+  unfolding idPlace fileBytes contents
+  id-stands =
+      let k = m .kind in
+      let l = partnersOf (m .year, m .month) (m .rows) in
+      ap (λ (s : List ℕ). take (length (m .id)) (drop (length (opening (root k) ++ opening "TransactionID")) s))
+      (id-join (opening (root k)) (opening "TransactionID") (m .id) (closing "TransactionID") (element "MessageCreateDateTime" (m .moment)) (element "ReceiverID" (fixed 10 (m .receiver)))
+      (element (counter k) (plain (length l))) (flatMap (partnerBytes k) l) (closing (root k)))
+      ∙ part-at (opening (root k) ++ opening "TransactionID") (m .id) _
+
+  pub moment-stands : take (length (m .moment)) (drop (momentPlace (m .kind) (m .id)) (messageBytes m)) ≡ m .moment
+  unfolding momentPlace fileBytes contents
+  moment-stands =
+      let k = m .kind in
+      let l = partnersOf (m .year, m .month) (m .rows) in
+      ap (λ (s : List ℕ). take (length (m .moment)) (drop (length (opening (root k) ++ element "TransactionID" (m .id) ++ opening "MessageCreateDateTime")) s))
+      (moment-join (opening (root k)) (element "TransactionID" (m .id)) (opening "MessageCreateDateTime") (m .moment) (closing "MessageCreateDateTime") (element "ReceiverID" (fixed 10 (m .receiver)))
+      (element (counter k) (plain (length l))) (flatMap (partnerBytes k) l) (closing (root k)))
+      ∙ part-at (opening (root k) ++ element "TransactionID" (m .id) ++ opening "MessageCreateDateTime") (m .moment) _

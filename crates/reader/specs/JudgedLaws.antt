@@ -1,0 +1,130 @@
+-- From the reading of a file's parts, with its places, month and rows, to what the call answers: 13, 10 or the file.
+use mathlib.Core.Path.{_≡_, refl, sym, ap, _∙_}
+use mathlib.Core.List.{List, [], _∷_, _++_}
+use Prim.Native.Nat.{ℕ, suc, _+_, _*_, _≤_, _<_}
+use lib.ListN.{length, drop, getD, length-append, drop-of-length-le}
+use lib.Seq.{drop-cons}
+use native.Mathlib.Omega.{arith}
+use native.Mathlib.Nat.{zero-add}
+use Rattle.text.specs.Written.{written}
+use Rattle.formats.specs.Format.{got, bad, readAll}
+use Rattle.formats.specs.FormatLaws.{sound-of}
+use Rattle.formats.specs.Combine.{mapParse}
+use Rattle.formats.specs.Place.{Parsed}
+use Rattle.formats.specs.declared.Mark.the-variants.{At, No}
+use Rattle.message.specs.declared.Kind.{Kind}
+use Rattle.message.specs.declared.ReadAnswer.the-variants.{File, Refused}
+use Rattle.message.specs.Contents.{Partner}
+use Rattle.message.specs.Bytes.{opening, ending, closing, root}
+use Rattle.message.specs.Valid.{IsFile}
+use Rattle.message.specs.FileForm.{Parts, fileOf, fileBody, file}
+use Rattle.message.specs.MessageForm.{messageForm}
+use Rattle.message.specs.Rows.{rowsOf, numbers, Message, message}
+use Rattle.message.specs.FileLaws.{readMessage}
+use Rattle.message.specs.Calls.{over, idPlace, momentPlace, factsOf, ReadCalled}
+use Rattle.message.specs.CallsLaws.{called-no-file, called-short, called-file}
+use Rattle.reader.specs.ReaderItems.{folded}
+use Rattle.reader.specs.ReaderPartners.{adding}
+use Rattle.reader.specs.ReaderFile.{partners-rows, partners-month}
+
+-- ---- the parts of a file, and the file by its rows
+
+module _ (s : List ℕ) where
+  whole-file : (p : Parts) → fileBody .parse s ≡ got p [] → readMessage s ≡ got (message (fileOf p)) []
+  unfolding readAll messageForm file mapParse
+  whole-file p e = rw e
+
+  valid-file : (p : Parts) (r : List ℕ) → fileBody .parse s ≡ got p r → IsFile (fileOf p)
+  unfolding file mapParse
+  valid-file p r e = sound-of file s (fileOf p) r (rw e) .1
+
+  no-body : fileBody .parse s ≡ bad → readMessage s ≡ bad
+  unfolding readAll messageForm file mapParse
+  no-body e = rw e
+
+  bytes-left : (p : Parts) (x : ℕ) (r : List ℕ) → fileBody .parse s ≡ got p (x ∷ r) → readMessage s ≡ bad
+  unfolding readAll messageForm file mapParse
+  bytes-left p x r e = rw e
+
+-- a write from the first place on
+written-over : (d bs : List ℕ) → written d 0 bs ≡ over bs d
+unfolding written over
+written-over d bs = rw (zero-add (length bs))
+
+-- ---- 13
+
+module _ (s before : List ℕ) (p : Parts) where
+  pub judged-none : Parsed (fileBody .parse) s (At 0) No p → ReadCalled s before before (Refused 13 0)
+  judged-none h = called-no-file s before (no-body s (h .run .run))
+
+  -- bytes are left behind the file
+  pub judged-left : (q : ℕ) → Parsed (fileBody .parse) s (At 0) (At q) p → (q ≡ length s → ⊥) → ReadCalled s before before (Refused 13 0)
+  judged-left q h n =
+      let k : q < length s = omega (arith, h .within, n) in
+      called-no-file s before (bytes-left s p (getD s q 0) (drop (suc q) s) (h .run .run ∙ ap (got p) (drop-cons s q 0 k)))
+
+-- ---- a file
+
+module _ (s : List ℕ) (q : ℕ) (k : Kind) (id moment : List ℕ) (receiver count : ℕ) (partners : List Partner)
+    (h : Parsed (fileBody .parse) s (At 0) (At q) (k, (id, (moment, (receiver, (count, partners)))))) (all : q ≡ length s) where
+  abbrev parts : Parts
+  parts = (k, (id, (moment, (receiver, (count, partners)))))
+
+  body-read : fileBody .parse s ≡ got parts []
+  body-read = h .run .run ∙ ap (got parts) (drop-of-length-le s {i = q} (omega arith))
+
+  abbrev judgedMessage : Message
+  judgedMessage = message (fileOf parts)
+
+  message-read : readMessage s ≡ got judgedMessage []
+  message-read = whole-file s parts body-read
+
+  module _ (before : List ℕ) (t : (ℕ × ℕ) × ℕ) (is : folded adding ((0, 0), 0) partners ≡ t) where
+    row-count : length (rowsOf partners) ≡ t .1
+    row-count = omega (arith, partners-rows ((0, 0), 0) partners, ap (λ (x : (ℕ × ℕ) × ℕ). x .1) is)
+
+    pub judged-short : length before < 6 * t .1 → ReadCalled s before before (Refused 10 0)
+    unfolding message fileOf
+    judged-short l = called-short s before judgedMessage [] message-read (omega (arith, row-count))
+
+    judged-facts : (i n p : ℕ) → i ≡ idPlace k → n ≡ length id → p ≡ momentPlace k id
+        → factsOf judgedMessage ≡ record { kind = k; receiver = receiver; year = t .0 .0; month = t .0 .1; rows = t .1; id = i; «id_length» = n; moment = p }
+    unfolding factsOf message fileOf
+    judged-facts i n p a b c =
+        let month = sym (partners-month (fileOf parts) (valid-file s parts [] body-read)) ∙ ap (λ (x : (ℕ × ℕ) × ℕ). x .0) is in
+        λ j. record {
+          kind = k;
+          receiver = receiver;
+          year = month j .0;
+          month = month j .1;
+          rows = row-count j;
+          id = sym a j;
+          «id_length» = sym b j;
+          moment = sym c j;
+        }
+
+    pub judged-file : (i n p : ℕ) → i ≡ idPlace k → n ≡ length id → p ≡ momentPlace k id → (after : List ℕ) → 6 * t .1 ≤ length before → after ≡ written before 0 (numbers (rowsOf partners))
+        → ReadCalled s before after (File (record { kind = k; receiver = receiver; year = t .0 .0; month = t .0 .1; rows = t .1; id = i; «id_length» = n; moment = p }))
+    unfolding message fileOf
+    judged-file i n p a b c after l w =
+        let r = called-file s before judgedMessage [] message-read (omega (arith, row-count)) in
+        record { answer = sym (ap File (judged-facts i n p a b c)) ∙ r .answer; rows = w ∙ written-over before (numbers (rowsOf partners)) ∙ r .rows }
+
+-- ---- the places, one from the other
+
+pub id-place : (k : Kind) → length (opening (root k) ++ opening "TransactionID") ≡ idPlace k
+unfolding idPlace
+id-place k = refl
+
+pub moment-place : (k : Kind) (id : List ℕ) → idPlace k + length id + 1 + length (ending "TransactionID" ++ opening "MessageCreateDateTime") ≡ momentPlace k id
+unfolding idPlace momentPlace closing
+moment-place k id =
+    omega (
+      arith,
+      length-append (opening (root k)) (opening "TransactionID"),
+      length-append (ending "TransactionID") (opening "MessageCreateDateTime"),
+      length-append (opening (root k) ++ (opening "TransactionID" ++ id ++ (60 ∷ ending "TransactionID"))) (opening "MessageCreateDateTime"),
+      length-append (opening (root k)) (opening "TransactionID" ++ id ++ (60 ∷ ending "TransactionID")),
+      length-append (opening "TransactionID" ++ id) (60 ∷ ending "TransactionID"),
+      length-append (opening "TransactionID") id,
+    )
