@@ -1,5 +1,4 @@
 // The elements of a file from its observations up to its series, as the reader finds them.
-use cursor::Cursor;
 use formats::Mark;
 use formats::Val;
 ghost use mathlib.Core.Path.{_≡_};
@@ -9,7 +8,6 @@ ghost use Rattle.formats.specs.Combine.{strip, mapParse};
 ghost use Rattle.message.specs.ObservationForm.{quantity, observed, behindMonth, period};
 ghost use Rattle.message.specs.SeriesForm.{volumeBody, ofVolume};
 ghost use Rattle.message.specs.Valid.{IsPeriod};
-ghost use Rattle.reader.specs.Rows.{observationRow};
 ghost use Rattle.reader.specs.Reading.{observing, inOrder, keep, Passed, observationsOf, VolumeRead, outline, ownParse, sharedParse};
 ghost use Rattle.reader.specs.Filling.{Fills, Stored, rowsOfObservation, rowsOfSeries};
 
@@ -64,32 +62,6 @@ struct Seen {
     position: u64,
     watts: u64,
     next: Mark,
-}
-
-// An observation's numbers, and the cursor behind it.
-struct ObservationRow {
-    position: u64,
-    whole: u64,
-    part: u64,
-    to: Cursor,
-}
-
-fn observation_row(s: &[u8], start: Cursor) -> ObservationRow
-    ensures { λ r. ⌜ r ≡ observationRow (now (s .entry)) start ⌝ }
-{
-    let mut c = start;
-    cursor::past_tag(&mut c, s, b"<Observation><Position>");
-    let position = cursor::past_number(&mut c, s, 60, 18446744073709551615);
-    cursor::past_tag(&mut c, s, b"/Position><Quantity>");
-    let whole = cursor::past_number(&mut c, s, 46, 999999999);
-    let part = cursor::past_fixed(&mut c, s, 3);
-    cursor::past_tag(&mut c, s, b"</Quantity></Observation>");
-    ObservationRow {
-        position,
-        whole,
-        part,
-        to: c,
-    }
 }
 
 // An observation from position `low` to `last`.

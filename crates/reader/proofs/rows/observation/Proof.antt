@@ -21,13 +21,13 @@ use Rattle.cursor.proofs.Call_past_fixed as call-fixed
 use Rattle.cursor.proofs.past_fixed.Symbol as fixed-def
 use Rattle.cursor.proofs.past_fixed.Symbol.{name as #fixed}
 use Rattle.cursor.proofs.past_fixed.Met as fixed-thm
-use Rattle.reader.specs.declared.elements.ObservationRow.{ObservationRow}
-use Rattle.reader.proofs.elements.ObservationRow as N
-use Rattle.reader.proofs.elements.ObservationRow.Laws as N′
-use Rattle.reader.proofs.elements.observation_row.Key.{name as #me}
-use Rattle.reader.proofs.elements.observation_row as me
-use Rattle.reader.proofs.elements.observation_row.Statement as stated
-use Rattle.reader.proofs.elements.observation_row.Code as code
+use Rattle.reader.specs.declared.rows.ObservationRow.{ObservationRow}
+use Rattle.reader.proofs.rows.ObservationRow as N
+use Rattle.reader.proofs.rows.ObservationRow.Laws as N′
+use Rattle.reader.proofs.rows.observation.Key.{name as #me}
+use Rattle.reader.proofs.rows.observation as me
+use Rattle.reader.proofs.rows.observation.Statement as stated
+use Rattle.reader.proofs.rows.observation.Code as code
 
 abbrev stayed : Stays (me.ended .signature .params) (me.ended .kept)
 stayed = (stay-dropped (SliceRefOf (0 ∷ []) tt (plain (λ _. u8)) (λ _. tt)) yes, (stay-dropped (plain (λ _. R)) yes, tt))
@@ -142,9 +142,9 @@ meets 𝓤 H A W mem run 𝓣 known-tag known-number known-fixed =
     (walked 𝓤 H A me.ended stayed (me.clauses 𝓤 H A mem run) (WpFn 𝓤 H (𝓣 .C) (𝓣 .Λ) code.function) (λ κs. (slice-vals, (LL.vals T.the-type T′.the-laws, tt))) (λ κs. (shr-slice-tells (named 0) (κs .0) u8, (LL.tells T.the-type T′.the-laws, tt)))
     (λ κs qs bounds a _ are. via 𝓤 _ (fst∗ 𝓤 _ (emp 𝓤)) (walk 𝓤 H A W mem run (κs .0) (qs .0) (a .0) (a .1 .0) (𝓣 .C) (𝓣 .Λ) (fmOf 𝓤 H (W .laws) 𝓣) known-tag known-number known-fixed (are .0) (are .1 .0))))
 
-pub observation-row-spec : {M : Type 1} → stated.statement M
+pub observation-spec : {M : Type 1} → stated.statement M
 unfolding code.routine tablesOf
-observation-row-spec 𝓤 H 𝓜 𝓖 𝓡 =
+observation-spec 𝓤 H 𝓜 𝓖 𝓡 =
     entered 𝓤 H (tripleOf 𝓤 H (𝓖 .A) me.signature (me.spec 𝓤 H (𝓖 .A) (𝓜 .mem) (𝓡 .run)))
     (tables 𝓤 H 𝓜 𝓡 code.env .C) (tables 𝓤 H 𝓜 𝓡 code.env .Λ) #me code.function (code.unfolded 𝓤 H 𝓜 𝓡)
     (meets 𝓤 H (𝓖 .A) (givenOf 𝓤 H 𝓜 𝓖) (𝓜 .mem) (𝓡 .run) (tablesOf 𝓤 H 𝓜 (tables 𝓤 H 𝓜 𝓡 code.env))
