@@ -53,11 +53,6 @@ module _ (s : List ℕ) (c : Cursor) where
       let b = pastName s 1 36 60 a in
       record { id = a; end = b; to = pastTag s (bytes "/TransactionID><MessageCreateDateTime>") b }
 
-  abbrev pub receiverRow : ReceiverRow
-  receiverRow =
-      let v = pastFixed s 10 (pastTag s (bytes "</MessageCreateDateTime><ReceiverID>") c) in
-      record { receiver = v .value; to = v .to }
-
   module _ (t u : List ℕ) where
     abbrev pub behindRow : Cursor
     behindRow = pastTag s (bytes "</PeriodEnd><PeriodResolution>PT15M</PeriodResolution>") (pastTag s u (pastTag s (bytes "</PeriodStart><PeriodEnd>") (pastTag s t c)))
@@ -67,3 +62,9 @@ module _ (s : List ℕ) (c : Cursor) where
         let k = pastFixed s 10 (pastTag s t c) in
         let n = pastNumber s 60 18446744073709551615 (pastTag s u (k .to)) in
         record { number = k .value; count = n .value; to = pastTag s (bytes "/DirectionCounter>") (n .to) }
+
+    abbrev pub receiverRow : ReceiverRow
+    receiverRow =
+        let v = pastFixed s 10 (pastTag s (bytes "</MessageCreateDateTime><ReceiverID>") c) in
+        let n = pastNumber s 60 18446744073709551615 (pastTag s t (v .to)) in
+        record { receiver = v .value; count = n .value; to = pastTag s u (n .to) }

@@ -19,7 +19,8 @@ use Rattle.cursor.specs.Moves.{cursorAt, standing, pastTag, pastNumber, pastFix
 use Rattle.cursor.specs.MovesLaws.{stands-at}
 use Rattle.cursor.specs.MovesParsed.{tag-parsed, number-parsed, fixed-parsed, word-parsed, name-parsed, number-fits, fixed-fits}
 use Rattle.moments.specs.Moments.{momentBytes, periodStart, periodEnd}
-use Rattle.message.specs.Bytes.{opening, ending, closing, element, group, partner, supplies, deliveries}
+use Rattle.message.specs.Bytes.{opening, ending, closing, element, counter, group, partner, supplies, deliveries}
+use Rattle.message.specs.declared.Kind.{Kind}
 use Rattle.message.specs.ObservationForm.{plainNumber, observationBody, behindMonth}
 use Rattle.reader.specs.declared.rows.ObservationRow.{ObservationRow}
 use Rattle.reader.specs.declared.rows.PeriodRow.{PeriodRow}
@@ -76,13 +77,16 @@ pub record MessageSteps (s : List ℕ) (m b c d : Mark) : Type 0 where
   pub id : Parsed (nameParse nameByte 1 36 60) s b c (span nameByte (left s b))
   pub before-moment : Parsed (strip (ending "TransactionID" ++ opening "MessageCreateDateTime")) s c d tt
 
--- where the receiver starts
-abbrev pub receiverAt : List ℕ → Cursor → Mark
-receiverAt s c = standing s (pastTag s (bytes "</MessageCreateDateTime><ReceiverID>") c)
-
-pub record ReceiverSteps (s : List ℕ) (m b : Mark) (c : Cursor) (company : ℕ) : Type 0 where
-  pub before-receiver : Parsed (strip (closing "MessageCreateDateTime" ++ opening "ReceiverID")) s m (receiverAt s c) tt
-  pub receiver : Parsed (fixedDigits 10 .parse) s (receiverAt s c) b company
+pub record ReceiverSteps (s : List ℕ) (m e : Mark) (k : Kind) (company n : ℕ) : Type 0 where
+  pub a : Mark
+  pub b : Mark
+  pub c : Mark
+  pub d : Mark
+  pub before-receiver : Parsed (strip (closing "MessageCreateDateTime" ++ opening "ReceiverID")) s m a tt
+  pub receiver : Parsed (fixedDigits 10 .parse) s a b company
+  pub before-count : Parsed (strip (closing "ReceiverID" ++ opening (counter k))) s b c tt
+  pub count : Parsed (plainNumber .parse) s c d n
+  pub behind-count : Parsed (strip (ending (counter k))) s d e tt
 
 -- ---- from a row that starts at the place m to its parts
 
@@ -204,12 +208,25 @@ module _ (s : List ℕ) (m : Mark) (h : Within s m) (c : Cursor) (e : c ≡ curs
         before-moment = tag-parsed s b (bytes "/TransactionID><MessageCreateDateTime>");
       })
 
-  pub receiver-steps : (r : ReceiverRow) → r ≡ receiverRow s c → (u : Mark) → u ≡ standing s (r .to) → ReceiverSteps s m u c (r .receiver)
+  pub receiver-steps : (k : Kind) (r : ReceiverRow) → r ≡ receiverRow s c (closing "ReceiverID" ++ opening (counter k)) (ending (counter k)) → (u : Mark) → u ≡ standing s (r .to)
+      → ReceiverSteps s m u k (r .receiver) (r .count)
   unfolding opening ending closing bytes
-  receiver-steps r er u eu =
+  receiver-steps k r er u eu =
+      let t = closing "ReceiverID" ++ opening (counter k) in
+      let a = pastTag s (bytes "</MessageCreateDateTime><ReceiverID>") c in
+      let v = pastFixed s 10 a in
+      let b = pastTag s t (v .to) in
+      let n = pastNumber s 60 18446744073709551615 b in
       rw (eu, er) (record {
+        a = standing s a;
+        b = standing s (v .to);
+        c = standing s b;
+        d = standing s (n .to);
         before-receiver = starts (tag-parsed s c (bytes "</MessageCreateDateTime><ReceiverID>"));
-        receiver = fixed-parsed s (pastTag s (bytes "</MessageCreateDateTime><ReceiverID>") c) 10 (omega arith);
+        receiver = fixed-parsed s a 10 (omega arith);
+        before-count = tag-parsed s (v .to) t;
+        count = plain-parsed s b;
+        behind-count = tag-parsed s (n .to) (ending (counter k));
       })
 
 -- an observation's watts fit

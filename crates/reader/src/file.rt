@@ -1,5 +1,7 @@
 // A file is judged, its rows are counted, and they fill the lent numbers as far as these go.
 use crate::elements::Series;
+use crate::rows::ReceiverRow;
+use cursor::Cursor;
 use formats::Mark;
 use message::Kind;
 ghost use mathlib.Core.Path.{_≡_};
@@ -18,6 +20,7 @@ ghost use Rattle.reader.specs.Filling.{Fills, rowsOfSeries, rowsOfPartne
 ghost use Rattle.message.specs.Bytes.{opening, ending, closing, root, counter, group};
 ghost use Rattle.message.specs.PartnerForm.{partnerForm};
 ghost use Rattle.message.specs.FileForm.{kindOf, kindForm, partnersForm, fileBody};
+ghost use Rattle.reader.specs.Rows.{receiverRow};
 ghost use Rattle.reader.specs.ReaderPartner.{companyForm, accessForm, headParse, partnerKept};
 ghost use Rattle.reader.specs.ReaderPartners.{partnerItem, adding};
 ghost use Rattle.reader.specs.ReaderFile.{Filed, rowsOfParts};
@@ -448,27 +451,29 @@ fn file_moment(s: &[u8], m: Mark) -> Mark
     Mark::At(p + 29)
 }
 
-// What stands between the receiver and the counter of partners.
-fn receiver_end(s: &[u8], m: Mark, kind: Kind) -> Mark
-    requires { ⌜ Within (now s) m ⌝ }
-    ensures { λ r. ⌜ Parsed (strip (closing "ReceiverID" ++ opening (counter kind))) (now (s .entry)) m r tt ⌝ }
+// The receiver and the counter of partners, in a file of a kind.
+fn receiver(s: &[u8], start: Cursor, kind: Kind) -> ReceiverRow
+    ensures { λ r. ⌜ r ≡ receiverRow (now (s .entry)) start (closing "ReceiverID" ++ opening (counter kind)) (ending (counter kind)) ⌝ }
 {
     match kind {
-        Kind::Toe01 => formats::tag(s, m, b"</ReceiverID><SupplierCounter>"),
-        Kind::Toe02 => formats::tag(s, m, b"</ReceiverID><FSPCounter>"),
-        Kind::Toe03 => formats::tag(s, m, b"</ReceiverID><SDPSupplyCounter>"),
-    }
-}
-
-// The tag that ends the counter of partners, without the byte that ends the number.
-fn counter_end(s: &[u8], m: Mark, kind: Kind) -> Mark
-    requires { ⌜ Within (now s) m ⌝ }
-    ensures { λ r. ⌜ Parsed (strip (ending (counter kind))) (now (s .entry)) m r tt ⌝ }
-{
-    match kind {
-        Kind::Toe01 => formats::tag(s, m, b"/SupplierCounter>"),
-        Kind::Toe02 => formats::tag(s, m, b"/FSPCounter>"),
-        Kind::Toe03 => formats::tag(s, m, b"/SDPSupplyCounter>"),
+        Kind::Toe01 => crate::rows::receiver(
+            s,
+            start,
+            b"</ReceiverID><SupplierCounter>",
+            b"/SupplierCounter>",
+        ),
+        Kind::Toe02 => crate::rows::receiver(
+            s,
+            start,
+            b"</ReceiverID><FSPCounter>",
+            b"/FSPCounter>",
+        ),
+        Kind::Toe03 => crate::rows::receiver(
+            s,
+            start,
+            b"</ReceiverID><SDPSupplyCounter>",
+            b"/SDPSupplyCounter>",
+        ),
     }
 }
 
@@ -514,14 +519,10 @@ pub fn file_read(s: &[u8], out: &mut [u64]) -> FileRead
     let moment = cursor::place(at_moment, s);
     let b = file_moment(s, moment);
     let c = cursor::at_mark(b);
-    let v = crate::rows::receiver(s, c);
+    let v = receiver(s, c, kind);
     let to = v.to;
-    let d = cursor::place(to, s);
-    let e = receiver_end(s, d, kind);
-    let n = formats::number(s, e, 60, 18446744073709551615);
-    let f = n.next;
-    let g = counter_end(s, f, kind);
-    let t = partners(s, g, kind, n.value, out);
+    let g = cursor::place(to, s);
+    let t = partners(s, g, kind, v.count, out);
     let h = t.next;
     let next = root_end(s, h, kind);
     FileRead {

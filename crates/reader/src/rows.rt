@@ -175,17 +175,25 @@ pub fn message(s: &[u8], start: Cursor) -> MessageRow
     MessageRow { id, end, to: c }
 }
 
-// A file's receiver.
+// A file's receiver and its counter of partners, by the tags around the counter.
 pub struct ReceiverRow {
     pub receiver: u64,
+    pub count: u64,
     pub to: Cursor,
 }
 
-pub fn receiver(s: &[u8], start: Cursor) -> ReceiverRow
-    ensures { λ r. ⌜ r ≡ receiverRow (now (s .entry)) start ⌝ }
+pub fn receiver(s: &[u8], start: Cursor, before: &[u8], behind: &[u8]) -> ReceiverRow
+    ensures { λ r. ⌜ r ≡ receiverRow (now (s .entry)) start (now (before .entry)) (now (behind .entry)) ⌝ }
 {
     let mut c = start;
     cursor::past_tag(&mut c, s, b"</MessageCreateDateTime><ReceiverID>");
     let receiver = cursor::past_fixed(&mut c, s, 10);
-    ReceiverRow { receiver, to: c }
+    cursor::past_tag(&mut c, s, before);
+    let count = cursor::past_number(&mut c, s, 60, 18446744073709551615);
+    cursor::past_tag(&mut c, s, behind);
+    ReceiverRow {
+        receiver,
+        count,
+        to: c,
+    }
 }
