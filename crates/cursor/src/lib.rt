@@ -61,8 +61,8 @@ pub fn tag_by(c: Cursor, s: &[u8], t: &[u8]) -> Cursor
     ensures { λ r. ⌜ r ≡ pastTag (now (s .entry)) (now (t .entry)) c ⌝ }
 {
     let m = place(c, s);
-    let next = formats::tag(s, m, t);
-    at_mark(next)
+    let behind = formats::tag(s, m, t);
+    at_mark(behind)
 }
 
 pub fn number_by(c: Cursor, s: &[u8], stop: u8, max: u64) -> Read

@@ -221,15 +221,15 @@ fn access_head(s: &[u8], m: Mark) -> Head
     ensures { λ r. ⌜ Parsed (accessForm .parse) (now (s .entry)) m (r .next) (r .number, (r .supply, r .count)) ⌝ }
 {
     let start = cursor::at_mark(m);
-    let r = crate::rows::access_point(s, start);
-    let to = r.to;
+    let p = crate::rows::access_point(s, start);
+    let to = p.to;
     let d = cursor::place(to, s);
-    let some = 0 < r.count;
+    let some = 0 < p.count;
     let next = crate::elements::kept(d, some);
     Head {
-        number: r.number,
-        supply: r.supply,
-        count: r.count,
+        number: p.number,
+        supply: p.supply,
+        count: p.count,
         next,
     }
 }
