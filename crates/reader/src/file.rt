@@ -1,7 +1,8 @@
 // A file is judged, its rows are counted, and they fill the lent numbers as far as these go.
 use crate::elements::Series;
+use crate::rows::ReceiverRow;
+use cursor::Cursor;
 use formats::Mark;
-use formats::Val;
 use message::Kind;
 ghost use mathlib.Core.Path.{_≡_};
 ghost use mathlib.Core.List.{_++_, flatMap};
@@ -19,7 +20,8 @@ ghost use Rattle.reader.specs.Filling.{Fills, rowsOfSeries, rowsOfPartne
 ghost use Rattle.message.specs.Bytes.{opening, ending, closing, root, counter, group};
 ghost use Rattle.message.specs.PartnerForm.{partnerForm};
 ghost use Rattle.message.specs.FileForm.{kindOf, kindForm, partnersForm, fileBody};
-ghost use Rattle.reader.specs.ReaderPartner.{directionCounter, companyForm, accessForm, headParse, partnerKept};
+ghost use Rattle.reader.specs.Rows.{receiverRow};
+ghost use Rattle.reader.specs.ReaderPartner.{companyForm, accessForm, headParse, partnerKept};
 ghost use Rattle.reader.specs.ReaderPartners.{partnerItem, adding};
 ghost use Rattle.reader.specs.ReaderFile.{Filed, rowsOfParts};
 ghost use Rattle.reader.specs.ReaderSeries.{seriesForm, joins, item, counting, listForm, Room};
@@ -170,36 +172,21 @@ fn series_list(
     tallied(seen_year, seen_month, count, Mark::At(at))
 }
 
-// The counter of a partner's series.
-fn direction_counter(s: &[u8], m: Mark) -> Val
-    ensures { λ r. ⌜ Parsed (directionCounter .parse) (now (s .entry)) m (r .next) (r .value) ⌝ }
-{
-    let n = formats::number(s, m, 60, 18446744073709551615);
-    let a = n.next;
-    let some = 0 < n.value;
-    let b = crate::elements::kept(a, some);
-    let next = formats::tag(s, b, b"/DirectionCounter>");
-    Val {
-        value: n.value,
-        next,
-    }
-}
-
 // The head of a supplier or an FSP, by the tags before and behind its number.
 fn company_head(s: &[u8], m: Mark, before: &[u8], behind: &[u8]) -> Head
     requires { ⌜ Within (now s) m ⌝ }
     ensures { λ r. ⌜ Parsed (companyForm (now (before .entry)) (now (behind .entry)) .parse) (now (s .entry)) m (r .next) (r .number, r .count) × (r .supply ≡ 0) ⌝ }
 {
-    let a = formats::tag(s, m, before);
-    let k = formats::fixed(s, a, 10);
-    let b = k.next;
-    let c = formats::tag(s, b, behind);
-    let n = direction_counter(s, c);
-    let next = n.next;
+    let start = cursor::at_mark(m);
+    let r = crate::rows::company(s, start, before, behind);
+    let to = r.to;
+    let d = cursor::place(to, s);
+    let some = 0 < r.count;
+    let next = crate::elements::kept(d, some);
     Head {
-        number: k.value,
+        number: r.number,
         supply: 0,
-        count: n.value,
+        count: r.count,
         next,
     }
 }
@@ -209,19 +196,16 @@ fn access_head(s: &[u8], m: Mark) -> Head
     requires { ⌜ Within (now s) m ⌝ }
     ensures { λ r. ⌜ Parsed (accessForm .parse) (now (s .entry)) m (r .next) (r .number, (r .supply, r .count)) ⌝ }
 {
-    let a = formats::tag(s, m, b"<SDPSupplySeries><SDPSupply>");
-    let k = formats::fixed(s, a, 18);
-    let b = k.next;
-    let c = formats::tag(s, b, b"</SDPSupply><SupplyDirection>");
-    let x = formats::word(s, c, b"Off-take", b"Injection");
-    let d = x.next;
-    let e = formats::tag(s, d, b"</SupplyDirection><DirectionCounter>");
-    let n = direction_counter(s, e);
-    let next = n.next;
+    let start = cursor::at_mark(m);
+    let p = crate::rows::access_point(s, start);
+    let to = p.to;
+    let d = cursor::place(to, s);
+    let some = 0 < p.count;
+    let next = crate::elements::kept(d, some);
     Head {
-        number: k.value,
-        supply: x.value,
-        count: n.value,
+        number: p.number,
+        supply: p.supply,
+        count: p.count,
         next,
     }
 }
@@ -417,27 +401,29 @@ fn file_moment(s: &[u8], m: Mark) -> Mark
     Mark::At(p + 29)
 }
 
-// What stands between the receiver and the counter of partners.
-fn receiver_end(s: &[u8], m: Mark, kind: Kind) -> Mark
-    requires { ⌜ Within (now s) m ⌝ }
-    ensures { λ r. ⌜ Parsed (strip (closing "ReceiverID" ++ opening (counter kind))) (now (s .entry)) m r tt ⌝ }
+// The receiver and the counter of partners, in a file of a kind.
+fn receiver(s: &[u8], start: Cursor, kind: Kind) -> ReceiverRow
+    ensures { λ r. ⌜ r ≡ receiverRow (now (s .entry)) start (closing "ReceiverID" ++ opening (counter kind)) (ending (counter kind)) ⌝ }
 {
     match kind {
-        Kind::Toe01 => formats::tag(s, m, b"</ReceiverID><SupplierCounter>"),
-        Kind::Toe02 => formats::tag(s, m, b"</ReceiverID><FSPCounter>"),
-        Kind::Toe03 => formats::tag(s, m, b"</ReceiverID><SDPSupplyCounter>"),
-    }
-}
-
-// The tag that ends the counter of partners, without the byte that ends the number.
-fn counter_end(s: &[u8], m: Mark, kind: Kind) -> Mark
-    requires { ⌜ Within (now s) m ⌝ }
-    ensures { λ r. ⌜ Parsed (strip (ending (counter kind))) (now (s .entry)) m r tt ⌝ }
-{
-    match kind {
-        Kind::Toe01 => formats::tag(s, m, b"/SupplierCounter>"),
-        Kind::Toe02 => formats::tag(s, m, b"/FSPCounter>"),
-        Kind::Toe03 => formats::tag(s, m, b"/SDPSupplyCounter>"),
+        Kind::Toe01 => crate::rows::receiver(
+            s,
+            start,
+            b"</ReceiverID><SupplierCounter>",
+            b"/SupplierCounter>",
+        ),
+        Kind::Toe02 => crate::rows::receiver(
+            s,
+            start,
+            b"</ReceiverID><FSPCounter>",
+            b"/FSPCounter>",
+        ),
+        Kind::Toe03 => crate::rows::receiver(
+            s,
+            start,
+            b"</ReceiverID><SDPSupplyCounter>",
+            b"/SDPSupplyCounter>",
+        ),
     }
 }
 
@@ -473,23 +459,25 @@ pub fn file_read(s: &[u8], out: &mut [u64]) -> FileRead
     let r = file_root(s, Mark::At(0));
     let a = r.next;
     let kind = r.kind;
-    let id = formats::tag(s, a, b"<TransactionID>");
-    let id_end = formats::name(s, id, 1, 36, 60);
-    let moment = formats::tag(s, id_end, b"/TransactionID><MessageCreateDateTime>");
+    let start = cursor::at_mark(a);
+    let w = crate::rows::message(s, start);
+    let at_id = w.id;
+    let at_end = w.end;
+    let at_moment = w.to;
+    let id = cursor::place(at_id, s);
+    let id_end = cursor::place(at_end, s);
+    let moment = cursor::place(at_moment, s);
     let b = file_moment(s, moment);
-    let c = formats::tag(s, b, b"</MessageCreateDateTime><ReceiverID>");
-    let v = formats::fixed(s, c, 10);
-    let d = v.next;
-    let e = receiver_end(s, d, kind);
-    let n = formats::number(s, e, 60, 18446744073709551615);
-    let f = n.next;
-    let g = counter_end(s, f, kind);
-    let t = partners(s, g, kind, n.value, out);
+    let c = cursor::at_mark(b);
+    let v = receiver(s, c, kind);
+    let to = v.to;
+    let g = cursor::place(to, s);
+    let t = partners(s, g, kind, v.count, out);
     let h = t.next;
     let next = root_end(s, h, kind);
     FileRead {
         kind,
-        receiver: v.value,
+        receiver: v.receiver,
         year: t.year,
         month: t.month,
         rows: t.rows,
