@@ -26,3 +26,10 @@ fn sheet_vectors() {
     assert!(stored("sheet_vectors", "stdin") == cases);
     assert!(stored("sheet_vectors", "stdout") == report_cases::sheet_answers(&cases));
 }
+
+#[test]
+fn file_vectors() {
+    let cases = report_cases::file_cases_text();
+    assert!(stored("file_vectors", "stdin") == cases);
+    assert!(stored("file_vectors", "stdout") == report_cases::file_answers(&cases));
+}
