@@ -14,7 +14,7 @@ use Rattle.integers.specs.Ranges.{range, length-range}
 use Rattle.book.specs.declared.Calendar.{Calendar}
 use Rattle.book.specs.declared.Engagement.{Engagement}
 use Rattle.book.specs.Calendars.{daysOf, quartersOf}
-use Rattle.book.specs.Refusals.{Refusal, refused, unless, unlessFound}
+use Rattle.book.specs.Refusals.{Refusal, unless, unlessFound}
 use Rattle.book.specs.Header.{calendarOf, pointCount, engagementCount, headerGood, layoutGood, calendarSection, pairSection, registerSection, readingSection, engagementSection}
 use Rattle.book.specs.HeaderLaws.{headed}
 use Rattle.book.specs.Tables.{calendarGood, pairsGood}
@@ -30,14 +30,21 @@ use Rattle.settlement.specs.declared.settle.Settled.{Settled}
 use Rattle.settlement.specs.Settling.{answerBy, SettleCall}
 use Rattle.moments.specs.Ids.{isTransactionId}
 use Rattle.message.specs.declared.Kind.{Kind}
+use Rattle.message.specs.declared.ReadAnswer.{ReadAnswer}
 use Rattle.message.specs.declared.WriteAnswer.{WriteAnswer}
 use Rattle.message.specs.Valid.{isMoment}
-use Rattle.message.specs.FileLaws.{messageBytes}
-use Rattle.message.specs.Calls.{Verdict, accepted, refused as sent, unless as judge, kindNumbered, writeSays}
+use Rattle.message.specs.FileLaws.{messageBytes, readMessage}
+use Rattle.message.specs.Calls.{Verdict, accepted, refused as sent, unless as judge, kindNumbered, readVerdict, readSays, ReadCalled, writeSays}
+use Rattle.message.specs.Rows.{Message}
+use Rattle.formats.specs.Format.{Res, got, bad}
 use Rattle.writer.specs.WriterRows.{isRows, rowsMessage}
 use Rattle.writer.specs.WriteCalls.{fitting, writeVerdict, WriteCalled}
 use Rattle.toe_c.specs.Codes.{refusalCode}
-use Rattle.toe_c.specs.Small.{Small, SettledSmall, WrittenSmall}
+use Rattle.volumes.specs.Quarters.{monthQuarters}
+use Rattle.volumes.specs.Sheets.{parties}
+use Rattle.reports.specs.declared.SheetAnswer.{SheetAnswer}
+use Rattle.reports.specs.Calls.{stands, sheetRefusal, sheetSays, sheetAnswer, SheetCalled}
+use Rattle.toe_c.specs.Small.{Small, SettledSmall, SheetSmall, ReadSmall, WrittenSmall}
 
 abbrev pub AllSmall : Option Refusal → Type 0
 AllSmall none = Unit {0}
@@ -156,6 +163,24 @@ settled-small (some r) count h = h
 pub settle-small : {bytes : List ℕ} {lent left : List ℤ} {answer : Settled} → SettleCall bytes lent answer left → SettledSmall answer
 settle-small {bytes} {lent} s = rw (s .answered) (settled-small (settlingRefusal bytes (length lent)) (rowCount (bookOf bytes)) (settling-small bytes (length lent)))
 
+-- 1 to 9, 11 and 10
+sheet-judged : (bytes : List ℕ) (party lent : ℕ) → AllSmall (sheetRefusal bytes party lent)
+unfolding sheetRefusal
+sheet-judged bytes party lent =
+    small-else (bookRefusal bytes) _ (book-small bytes) (λ e.
+    small-unless (stands party (parties (bookOf bytes))) 11 _ (omega arith) (λ f.
+    small-unless (leb (monthQuarters (bookOf bytes .calendar)) lent) 10 none (omega arith) (λ g. tt)))
+
+sheet-said : (x : Option Refusal) (count : ℕ) → AllSmall x → SheetSmall (sheetSays x count)
+unfolding sheetSays
+sheet-said none count h = tt
+sheet-said (some r) count h = h
+
+pub sheet-small : {bytes : List ℕ} {party : ℕ} {before after : List ℤ} {r : SheetAnswer} → SheetCalled bytes party before after r → SheetSmall r
+unfolding sheetAnswer
+sheet-small {bytes} {party} {before} s =
+    rw (s .answer) (sheet-said (sheetRefusal bytes party (length before)) (monthQuarters (bookOf bytes .calendar)) (sheet-judged bytes party (length before)))
+
 -- writing from rows: 12, 13, 12 and 10
 verdict-small : {A : Type 0} (t : Bool) (number item : ℕ) (later : Verdict A) → Small number item → VerdictSmall later → VerdictSmall (judge t number item later)
 verdict-small true number item later h k = k
@@ -182,3 +207,18 @@ pub write-small : {kind receiver year month : ℕ} {rows id moment before after 
 write-small {kind} {receiver} {year} {month} {rows} {id} {moment} {before} w =
     let v = writeVerdict (kindNumbered kind) receiver year month rows id moment (length before) in
     rw (w .answer) (written-small v (verdict-written (kindNumbered kind) receiver year month rows id moment (length before)))
+
+-- reading: 13 and 10
+read-judged : (m : Res Message) (lent : ℕ) → VerdictSmall (readVerdict m lent)
+unfolding readVerdict
+read-judged bad lent = few 13 0 (omega arith) (omega arith)
+read-judged (got m rest) lent = verdict-small (leb (6 * length (m .rows)) lent) 10 0 (accepted m) (few 10 0 (omega arith) (omega arith)) tt
+
+read-said : (v : Verdict Message) → VerdictSmall v → ReadSmall (readSays v)
+unfolding readSays
+read-said (accepted m) h = tt
+read-said (sent number item) h = h
+
+pub read-small : {file before after : List ℕ} {r : ReadAnswer} → ReadCalled file before after r → ReadSmall r
+read-small {file} {before} c =
+    rw (c .answer) (read-said (readVerdict (readMessage file) (length before)) (read-judged (readMessage file) (length before)))
