@@ -38,6 +38,22 @@ fn pool() -> Book {
     book
 }
 
+/// Case two: 180 heat pumps of three suppliers and two providers, three reference days, baselines that end in a third of a watt.
+fn heat_pumps() -> Book {
+    let mut book = june(3, 180, 3, 3);
+    for point in 0..180 {
+        let row = &mut book.register[point];
+        (row.supplier, row.fsp) = (3 + point as u64 % 3, 7 + point as u64 % 2);
+        (row.source_party, row.fsp_party) = (11 + point as u16 % 3, 21 + point as u16 % 2);
+        let more = point as i32 % 7;
+        for (day, watts) in [(0, 1000), (1, 1000), (2, 1001), (3, 900)] {
+            read(&mut book, point, day, 40, &[watts + more]);
+        }
+        engage(&mut book, point as u16, 3, 40, 1, 0, 150);
+    }
+    book
+}
+
 /// Half a watt at each of three positions, far apart: a watt at the second, half a watt never written.
 fn slow() -> Book {
     let mut book = june(2, 1, 2, 2);
@@ -146,7 +162,25 @@ pub fn sheet_cases() -> Vec<SheetCase> {
     add("9 before 11", 99, 0, &few);
     let bad = changed(&case_f(), &|book| book.engagements[0].zero = 1);
     add("7 before 11", 99, 0, &bad);
+    let bad = changed(&case_f(), &|book| book.readings[0][96] = 1_000_000_001);
+    add("6 before 11", 99, 0, &bad);
+    let bad = changed(&case_f(), &|book| book.register[0].situation = 4);
+    add("5 before 11", 99, 0, &bad);
+    let bad = changed(&case_f(), &|book| book.choices[3].x = 11);
+    add("4 before 11", 99, 0, &bad);
+    let mut bad = case_f();
+    bad.pairs[4].0 += 1;
+    add("2 before 11", 99, 0, &bad);
+    let bad = changed(&case_f(), &|book| book.version = 2);
+    add("1 before 11", 99, 0, &bad);
     add("3", 0, 3000, &Book::plain(2021, 10, 1, 1));
+    for party in [1, 2] {
+        add("P7", party, 2880, &limited_down());
+        add("P8", party, 2880, &above_baseline());
+    }
+    let pumps = heat_pumps();
+    add("a source party of 180 points", 12, 2880, &pumps);
+    add("an FSP party of 180 points", 21, 2880, &pumps);
     let mut random = Random::new(7);
     for _ in 0..60 {
         let book = random_book(&mut random);

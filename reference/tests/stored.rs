@@ -1,6 +1,6 @@
 //! What the proved programs are run on and held to is what this crate makes.
 
-use reference::{book_cases, settle_cases};
+use reference::{book_cases, report_cases, settle_cases};
 
 fn stored(program: &str, name: &str) -> String {
     std::fs::read_to_string(format!("../crates/{program}/{name}")).unwrap()
@@ -18,4 +18,11 @@ fn settle_vectors() {
     let cases = settle_cases::cases_text(&settle_cases::cases());
     assert!(stored("settle_vectors", "stdin") == cases);
     assert!(stored("settle_vectors", "stdout") == settle_cases::answers(&cases));
+}
+
+#[test]
+fn sheet_vectors() {
+    let cases = report_cases::sheet_cases_text();
+    assert!(stored("sheet_vectors", "stdin") == cases);
+    assert!(stored("sheet_vectors", "stdout") == report_cases::sheet_answers(&cases));
 }

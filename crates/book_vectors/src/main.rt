@@ -18,7 +18,7 @@ fn answer(judged: Judged) {
 fn run_case(line: &[u8], buffer: &mut [u8]) {
     let loaded = cases::sparse::load(line, 0, buffer);
     let Loaded::Bytes(n) = loaded else {
-        cases::answers::text(b"no case\n");
+        cases::answers::no_case();
         return;
     };
     answer(book::judge::judge_book(&buffer[..n]));

@@ -1,5 +1,6 @@
 // Stored cases: the words of a line, the sparse bytes that they say, and the answers that are printed.
 pub mod answers;
+pub mod lent;
 pub mod sparse;
 pub mod words;
 

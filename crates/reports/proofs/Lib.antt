@@ -1,1 +1,2 @@
+mod FileCited
 mod SheetCited

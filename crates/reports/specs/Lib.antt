@@ -21,3 +21,12 @@ pub mod PossibleLaws
 pub mod Small
 pub mod SmallLaws
 pub mod ScanLaws
+pub mod FileCallLaws
+pub mod SeriesSums
+pub mod Partners
+pub mod PartnersLaws
+pub mod SeriesSumsLaws
+pub mod SeriesSumsWritten
+pub mod SeriesSumsWrittenLaws
+pub mod Emission
+pub mod EmissionLaws

@@ -1,4 +1,9 @@
 // The sheets and files of a book: the calls' answers, and demand 3 of the calls' contracts. Definitions and laws stand in specs/.
+mod emission;
+pub mod file;
+pub mod partners;
+pub mod series;
+
 ghost use Rattle.reports.specs.Demand3.{Demand3, Possible};
 ghost use Rattle.reports.specs.Small.{Shown};
 
@@ -13,7 +18,7 @@ pub enum SheetAnswer {
 // What a file call answers: the settlement rows and the bytes that it filled, or a number and an item.
 pub enum FileAnswer {
     File(usize, usize),
-    Refused(u8, usize),
+    Refused(u64, usize),
 }
 
 // Demand 3. It does nothing: what it ensures has to be proved.

@@ -7,47 +7,6 @@ ghost use Prim.Native.Nat.{_*_, _≤_};
 ghost use lib.ListN.{length};
 ghost use Rattle.settle_vectors.specs.Fits.{Fits};
 
-// The number at each place before a call.
-const CANARY: i64 = 77;
-
-fn prepare(rows: &mut [i64]) {
-    let mut i = 0;
-    while i < rows.len() {
-        rows[i] = CANARY;
-        i += 1;
-    }
-}
-
-// Says so if one of these numbers changed.
-fn kept(rows: &[i64]) {
-    let mut i = 0;
-    while i < rows.len() {
-        if rows[i] != CANARY {
-            cases::answers::text(b"changed\n");
-            return;
-        }
-        i += 1;
-    }
-}
-
-// The numbers of a row are parted by spaces, and a line feed ends it.
-fn end_number(i: usize) {
-    if i % 4 == 3 {
-        cases::answers::text(b"\n");
-    } else {
-        cases::answers::text(b" ");
-    }
-}
-
-fn print_rows(rows: &[i64]) {
-    let mut i = 0;
-    while i < rows.len() {
-        cases::answers::signed(rows[i]);
-        end_number(i);
-        i += 1;
-    }
-}
-
 // The number of rows, and the rows; the numbers behind them are to be kept.
 fn answer_rows(rows: &[i64], count: usize)
     requires { ⌜ 4 * count ≤ length (now rows) ⌝ }
@@ -56,8 +15,8 @@ fn answer_rows(rows: &[i64], count: usize)
     cases::answers::number(count as u64);
     cases::answers::text(b"\n");
     let end = 4 * count;
-    print_rows(&rows[..end]);
-    kept(&rows[end..]);
+    cases::answers::rows(&rows[..end]);
+    cases::lent::kept(&rows[end..]);
 }
 
 fn answer(settled: Settled, rows: &[i64])
@@ -67,7 +26,7 @@ fn answer(settled: Settled, rows: &[i64])
         Settled::Rows(count) => answer_rows(rows, count),
         Settled::Refused(number, item) => {
             cases::answers::refused(number, item as u64);
-            kept(rows);
+            cases::lent::kept(rows);
         }
     }
 }
@@ -76,13 +35,9 @@ fn answer(settled: Settled, rows: &[i64])
 fn settle_case(book: &[u8], rows: &mut [i64], n: usize)
     requires { ⌜ n ≤ length (now rows) ⌝ }
 {
-    prepare(rows);
+    cases::lent::prepare(rows);
     let settled = settlement::settle::settle(book, &mut rows[..n]);
     answer(settled, rows);
-}
-
-fn no_case() {
-    cases::answers::text(b"no case\n");
 }
 
 // The book is the words of the line from `at` on, as sparse bytes.
@@ -91,7 +46,7 @@ fn run_book(line: &[u8], at: usize, book: &mut [u8], rows: &mut [i64], n: usize)
 {
     let loaded = cases::sparse::load(line, at, book);
     let Loaded::Bytes(size) = loaded else {
-        no_case();
+        cases::answers::no_case();
         return;
     };
     settle_case(&book[..size], rows, n);
@@ -102,12 +57,12 @@ fn run_case(line: &[u8], book: &mut [u8], rows: &mut [i64]) {
     let end = cases::words::find(line, 0, b' ');
     let said = cases::words::number(&line[..end]);
     let Number::Value(lent) = said else {
-        no_case();
+        cases::answers::no_case();
         return;
     };
     let n = lent as usize;
     if rows.len() < n {
-        no_case();
+        cases::answers::no_case();
         return;
     }
     run_book(line, cases::words::next(line, end), book, rows, n);

@@ -15,11 +15,8 @@ enum-known-loaded c = search needs
 enum-told : tie.Need-enum-told
 enum-told c = search needs
 
-slice-aggregate-text : tie.Need-slice-aggregate-text
-slice-aggregate-text c = search needs
-
-text-requires : tie.Need-text-requires
-text-requires c κs = search needs
+no-case-requires : tie.Need-no-case-requires
+no-case-requires c κs = search needs
 
 same-length : tie.Need-same-length
 same-length c = search needs
@@ -52,8 +49,7 @@ run-case-spec =
     load-requires
     enum-known-loaded
     enum-told
-    slice-aggregate-text
-    text-requires
+    no-case-requires
     same-length
     returns
     slice-reshare-prefix-judge-book

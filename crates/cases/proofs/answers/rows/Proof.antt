@@ -2,14 +2,14 @@
 use Prim.Native.Nat.{_-_}
 use lib.ListN.{length}
 use borrow.Author.Needs.{needs}
-use Rattle.settle_vectors.proofs.print_rows.Statement.{statement}
-use Rattle.settle_vectors.proofs.print_rows.Tie as tie
+use Rattle.cases.proofs.answers.rows.Statement.{statement}
+use Rattle.cases.proofs.answers.rows.Tie as tie
 
 abbrev Inv-loop : tie.InvT-loop
-Inv-loop rows i₀ i = Unit {0}
+Inv-loop numbers i₀ i = Unit {0}
 
 abbrev μ-loop : tie.MeasureT-loop
-μ-loop rows i₀ i = length rows - i
+μ-loop numbers i₀ i = length numbers - i
 
 loop-holds : tie.Need-loop-holds Inv-loop μ-loop
 loop-holds c = search needs
@@ -38,8 +38,8 @@ loop-again c = search needs
 returns : tie.Need-returns Inv-loop μ-loop
 returns c = search needs
 
-pub print-rows-spec : {M : Type 1} → statement M
-print-rows-spec =
+pub rows-spec : {M : Type 1} → statement M
+rows-spec =
     tie.close
     (tie.spec
     Inv-loop

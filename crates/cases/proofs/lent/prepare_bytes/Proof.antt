@@ -3,23 +3,20 @@ use mathlib.Core.Path.{_≡_}
 use Prim.Native.Nat.{_-_}
 use lib.ListN.{length}
 use borrow.Author.Needs.{needs}
-use Rattle.settle_vectors.proofs.prepare.Statement.{statement}
-use Rattle.settle_vectors.proofs.prepare.Tie as tie
+use Rattle.cases.proofs.lent.prepare_bytes.Statement.{statement}
+use Rattle.cases.proofs.lent.prepare_bytes.Tie as tie
 
 abbrev Inv-loop : tie.InvT-loop
-Inv-loop rows₀ i₀ rows i = length rows ≡ length rows₀
+Inv-loop bytes₀ i₀ bytes i = length bytes ≡ length bytes₀
 
 abbrev μ-loop : tie.MeasureT-loop
-μ-loop rows₀ i₀ rows i = length rows₀ - i
+μ-loop bytes₀ i₀ bytes i = length bytes₀ - i
 
 loop-holds : tie.Need-loop-holds Inv-loop μ-loop
 loop-holds c = search needs
 
-mul-rows : tie.Need-mul-rows Inv-loop μ-loop
-mul-rows c = search needs
-
-slice-set-of-rows : tie.Need-slice-set-of-rows Inv-loop μ-loop
-slice-set-of-rows c = search needs
+slice-write-bytes : tie.Need-slice-write-bytes Inv-loop μ-loop
+slice-write-bytes c = search needs
 
 add-i : tie.Need-add-i Inv-loop μ-loop
 add-i c = search needs
@@ -36,15 +33,14 @@ same-length c = search needs
 returns : tie.Need-returns Inv-loop μ-loop
 returns c = search needs
 
-pub prepare-spec : {M : Type 1} → statement M
-prepare-spec =
+pub prepare-bytes-spec : {M : Type 1} → statement M
+prepare-bytes-spec =
     tie.close
     (tie.spec
     Inv-loop
     μ-loop
     loop-holds
-    mul-rows
-    slice-set-of-rows
+    slice-write-bytes
     add-i
     loop-less
     loop-again

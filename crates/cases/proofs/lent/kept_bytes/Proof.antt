@@ -2,23 +2,20 @@
 use Prim.Native.Nat.{_-_}
 use lib.ListN.{length}
 use borrow.Author.Needs.{needs}
-use Rattle.settle_vectors.proofs.kept.Statement.{statement}
-use Rattle.settle_vectors.proofs.kept.Tie as tie
+use Rattle.cases.proofs.lent.kept_bytes.Statement.{statement}
+use Rattle.cases.proofs.lent.kept_bytes.Tie as tie
 
 abbrev Inv-loop : tie.InvT-loop
-Inv-loop rows i₀ t3 i = Unit {0}
+Inv-loop bytes i₀ t3 i = Unit {0}
 
 abbrev μ-loop : tie.MeasureT-loop
-μ-loop rows i₀ t3 i = length rows - i
+μ-loop bytes i₀ t3 i = length bytes - i
 
 loop-holds : tie.Need-loop-holds Inv-loop μ-loop
 loop-holds c = search needs
 
-mul-if1 : tie.Need-mul-if1 Inv-loop μ-loop
-mul-if1 c = search needs
-
-shared-slice-copy-out-if1 : tie.Need-shared-slice-copy-out-if1 Inv-loop μ-loop
-shared-slice-copy-out-if1 c = search needs
+shared-slice-read-if1 : tie.Need-shared-slice-read-if1 Inv-loop μ-loop
+shared-slice-read-if1 c = search needs
 
 slice-aggregate-text : tie.Need-slice-aggregate-text Inv-loop μ-loop
 slice-aggregate-text c = search needs
@@ -41,15 +38,14 @@ loop-again c = search needs
 returns-2 : tie.Need-returns-2 Inv-loop μ-loop
 returns-2 c = search needs
 
-pub kept-spec : {M : Type 1} → statement M
-kept-spec =
+pub kept-bytes-spec : {M : Type 1} → statement M
+kept-bytes-spec =
     tie.close
     (tie.spec
     Inv-loop
     μ-loop
     loop-holds
-    mul-if1
-    shared-slice-copy-out-if1
+    shared-slice-read-if1
     slice-aggregate-text
     text-requires
     returns

@@ -1,0 +1,18 @@
+-- The definition, test by test.
+use Rattle.reports.specs.FileRows.{isTaken}
+use borrow.Author.Needs.{needs}
+use Rattle.reports.proofs.partners.is_taken.Statement.{statement}
+use Rattle.reports.proofs.partners.is_taken.Tie as tie
+
+takes-requires : tie.Need-takes-requires
+takes-requires c κs = search needs
+
+receiver-of-requires : tie.Need-receiver-of-requires
+receiver-of-requires c κs = search needs
+
+returns : tie.Need-returns
+unfolding isTaken
+returns c = rw (c .before .takes .ensures, c .receiver-of .ensures)
+
+pub is-taken-spec : {M : Type 1} → statement M
+is-taken-spec = tie.close (tie.spec takes-requires receiver-of-requires returns)

@@ -1,0 +1,31 @@
+-- The definition's own cases.
+use Rattle.volumes.specs.Series.{takes}
+use Rattle.reports.specs.SeriesSums.{kindIn}
+use borrow.Author.Needs.{needs}
+use Rattle.reports.proofs.series.takes_pass_through.Statement.{statement}
+use Rattle.reports.proofs.series.takes_pass_through.Tie as tie
+
+enum-told : tie.Need-enum-told
+enum-told c = search needs
+
+enum-told-2 : tie.Need-enum-told-2
+enum-told-2 c = search needs
+
+enum-told-3 : tie.Need-enum-told-3
+enum-told-3 c = search needs
+
+returns : tie.Need-returns
+unfolding takes kindIn
+returns c = rw (c .enum-told .given .1)
+
+returns-2 : tie.Need-returns-2
+unfolding takes kindIn
+returns-2 c = rw (c .enum-told2 .given .1)
+
+returns-3 : tie.Need-returns-3
+unfolding takes kindIn
+returns-3 c = rw (c .enum-told3 .given .1)
+
+pub takes-pass-through-spec : {M : Type 1} → statement M
+takes-pass-through-spec =
+    tie.close (tie.spec enum-told enum-told-2 enum-told-3 returns returns-2 returns-3)

@@ -1,0 +1,180 @@
+-- A file call is one of seven: refused as the book is, for its kind, its receiver, its ID or moment, its rows, its file, or filled.
+use mathlib.Core.Path.{_≡_, refl, sym, ap, _∙_}
+use mathlib.Core.Bool.{Bool, true, false, cond, _&&_}
+use mathlib.Core.List.{List, _++_}
+use mathlib.Core.Option.{Option, none, some}
+use Prim.Native.Nat.{ℕ, _+_, _*_, _≤_, _<_}
+use native.Mathlib.Omega.{arith}
+use lib.Dec.{leb}
+use lib.IntN.{ℤ}
+use lib.ListN.{length, take, drop}
+use native.Mathlib.Nat.{zero-add}
+use borrow.Author.Tests.{leb-true, leb-false, le-leb, lt-leb}
+use Rattle.text.specs.Written.{written}
+use Rattle.formats.specs.declared.Mark.{Mark}
+use Rattle.formats.specs.declared.Mark.the-variants.{At, No}
+use Rattle.moments.specs.Ids.{isTransactionId}
+use Rattle.book.specs.Refusals.{Refusal, refused, unless}
+use Rattle.book.specs.Book.{Book, bookOf}
+use Rattle.volumes.specs.Settlement.{rowWidth, rows, rowCount, orElse, bookRefusal}
+use Rattle.volumes.specs.SettlementLaws.{rows-length}
+use Rattle.volumes.specs.Series.{Kind}
+use Rattle.message.specs.Valid.{isMoment}
+use Rattle.writer.specs.WriterLaid.{ahead, ahead-fits, reached, Laid}
+use Rattle.reports.specs.declared.FileAnswer.{FileAnswer}
+use Rattle.reports.specs.declared.FileAnswer.the-variants.{File, Refused}
+use Rattle.reports.specs.FileRows.{fileText}
+use Rattle.reports.specs.Roles.{receivers}
+use Rattle.reports.specs.Calls.{stands, over, afterwards, kindOf, textOf, shortRefusal, askedRefusal, fileRefusal, fileSays, fileAnswer, FileCalled}
+
+-- ---- what is asked of an accepted book, before its file is written
+
+-- "11, 12 for ID or moment, 10" with item 0
+unfoldable pub askedVerdict : Book → Kind → ℕ → List ℕ → List ℕ → ℕ → Option Refusal
+askedVerdict book kind receiver id moment lent =
+    unless (stands receiver (receivers book kind)) 11
+    (unless (isTransactionId id && isMoment moment) 12
+    (unless (leb (rowWidth * rowCount book) lent) 10 none))
+
+module _ (book : Book) (kind : Kind) (receiver : ℕ) (id moment : List ℕ) (lent : ℕ) where
+  pub asked-other : stands receiver (receivers book kind) ≡ false → refused 11 0 ≡ askedVerdict book kind receiver id moment lent
+  unfolding askedVerdict
+  asked-other e = rw e
+
+  pub asked-malformed : stands receiver (receivers book kind) ≡ true → (isTransactionId id && isMoment moment) ≡ false → refused 12 0 ≡ askedVerdict book kind receiver id moment lent
+  unfolding askedVerdict
+  asked-malformed e f = rw (e, f)
+
+  pub asked-short : stands receiver (receivers book kind) ≡ true → (isTransactionId id && isMoment moment) ≡ true → lent < rowWidth * rowCount book → refused 10 0 ≡ askedVerdict book kind receiver id moment lent
+  unfolding askedVerdict
+  asked-short e f h = rw (e, f, lt-leb (rowWidth * rowCount book) lent h)
+
+  pub asked-well : stands receiver (receivers book kind) ≡ true → (isTransactionId id && isMoment moment) ≡ true → rowWidth * rowCount book ≤ lent → none ≡ askedVerdict book kind receiver id moment lent
+  unfolding askedVerdict
+  asked-well e f h = rw (e, f, le-leb (rowWidth * rowCount book) lent h)
+
+  -- the rows have room where nothing is refused
+  pub asked-room : askedVerdict book kind receiver id moment lent ≡ none → rowWidth * rowCount book ≤ lent
+  unfolding askedVerdict
+  asked-room e = go (stands receiver (receivers book kind)) (isTransactionId id && isMoment moment) (leb (rowWidth * rowCount book) lent) refl e
+    where
+      never : (r : Refusal) → some r ≡ none → ⊥
+      never r e = let z : _≡_ {A = ℕ} 0 1 = cc in omega arith
+
+      go : (s f b : Bool) → leb (rowWidth * rowCount book) lent ≡ b → unless s 11 (unless f 12 (unless b 10 none)) ≡ none → rowWidth * rowCount book ≤ lent
+      go true true true t e = leb-true (rowWidth * rowCount book) lent t
+      go true true false t e = absurd (never _ e)
+      go true false b t e = absurd (never _ e)
+      go false f b t e = absurd (never _ e)
+
+-- and then 10 with item 1
+unfoldable pub roomFor : List ℕ → List ℕ → Option Refusal
+roomFor text before = cond (leb (length text) (length before)) none (refused 10 1)
+
+-- what writing a file and its rows leaves, where the rows have room
+pub record FileFilled (book : Book) (text : List ℕ) (rowsBefore rowsAfter : List ℤ) (before after : List ℕ) (r : FileAnswer) : Type 0 where
+  pub answer : r ≡ fileSays (roomFor text before) (rowCount book) (length text)
+  pub rows : rowsAfter ≡ afterwards (roomFor text before) (rows book) rowsBefore
+  pub file : after ≡ afterwards (roomFor text before) text before
+
+short-then : (rowNumbers rowsLent fileLength fileLent : ℕ) → shortRefusal rowNumbers rowsLent fileLength fileLent ≡ orElse (unless (leb rowNumbers rowsLent) 10 none) (cond (leb fileLength fileLent) none (refused 10 1))
+unfolding shortRefusal orElse
+short-then rowNumbers rowsLent fileLength fileLent = go (leb rowNumbers rowsLent)
+  where
+    later : Option Refusal
+    later = cond (leb fileLength fileLent) none (refused 10 1)
+
+    go : (b : Bool) → unless b 10 later ≡ orElse (unless b 10 none) later
+    go true = refl
+    go false = refl
+
+unless-then : (b : Bool) (number : ℕ) (first later : Option Refusal) → unless b number (orElse first later) ≡ orElse (unless b number first) later
+unfolding orElse
+unless-then true number first later = refl
+unless-then false number first later = refl
+
+asked-then : (book : Book) (kind : Kind) (receiver : ℕ) (id moment : List ℕ) (lent : ℕ) (before : List ℕ)
+    → askedRefusal book (some kind) receiver id moment lent (length before) ≡ orElse (askedVerdict book kind receiver id moment lent) (roomFor (fileText book kind receiver id moment) before)
+unfolding askedRefusal askedVerdict roomFor
+asked-then book kind receiver id moment lent before =
+    let s = stands receiver (receivers book kind) in
+    let f = isTransactionId id && isMoment moment in
+    let n = rowWidth * rowCount book in
+    let later = roomFor (fileText book kind receiver id moment) before in
+    let short = unless (leb n lent) 10 none in
+    ap (λ q. unless s 11 (unless f 12 q)) (short-then n lent (length (fileText book kind receiver id moment)) (length before))
+    ∙ ap (λ q. unless s 11 q) (unless-then f 12 short later)
+    ∙ unless-then s 11 (unless f 12 short) later
+
+module _ (bytes : List ℕ) (kind receiver : ℕ) (id moment : List ℕ) (lent : List ℤ) (before : List ℕ) where
+  -- a refusal changes nothing
+  refused-as : (r : Refusal) → fileRefusal bytes kind receiver id moment (length lent) (length before) ≡ some r → FileCalled bytes kind receiver id moment lent lent before before (Refused (r .number) (r .item))
+  unfolding fileAnswer fileSays afterwards
+  refused-as r h = record { answer = rw h; rows = rw h; file = rw h }
+
+  pub call-refused : (r : Refusal) → some r ≡ bookRefusal bytes → FileCalled bytes kind receiver id moment lent lent before before (Refused (r .number) (r .item))
+  unfolding fileRefusal orElse
+  call-refused r h = refused-as r (rw (← h))
+
+  pub call-unknown : bookRefusal bytes ≡ none → none ≡ kindOf kind → FileCalled bytes kind receiver id moment lent lent before before (Refused 12 0)
+  unfolding fileRefusal orElse askedRefusal
+  call-unknown h k = refused-as (record { number = 12; item = 0 }) (rw (h, ← k))
+
+  module _ (k : Kind) (passed : bookRefusal bytes ≡ none) (known : some k ≡ kindOf kind) where
+    refusal-is : fileRefusal bytes kind receiver id moment (length lent) (length before)
+        ≡ orElse (askedVerdict (bookOf bytes) k receiver id moment (length lent)) (roomFor (fileText (bookOf bytes) k receiver id moment) before)
+    unfolding fileRefusal orElse
+    refusal-is = rw (passed, ← known) (asked-then (bookOf bytes) k receiver id moment (length lent) before)
+
+    text-is : textOf (bookOf bytes) (kindOf kind) receiver id moment ≡ fileText (bookOf bytes) k receiver id moment
+    unfolding textOf
+    text-is = rw (← known)
+
+    pub call-asked : (r : Refusal) → some r ≡ askedVerdict (bookOf bytes) k receiver id moment (length lent) → FileCalled bytes kind receiver id moment lent lent before before (Refused (r .number) (r .item))
+    unfolding orElse
+    call-asked r h = refused-as r (refusal-is ∙ rw (← h))
+
+    pub call-filled : (rowsAfter : List ℤ) (after : List ℕ) (r : FileAnswer) → askedVerdict (bookOf bytes) k receiver id moment (length lent) ≡ none
+        → FileFilled (bookOf bytes) (fileText (bookOf bytes) k receiver id moment) lent rowsAfter before after r
+        → FileCalled bytes kind receiver id moment lent rowsAfter before after r
+    unfolding fileAnswer orElse
+    call-filled rowsAfter after r h f =
+        let e : fileRefusal bytes kind receiver id moment (length lent) (length before) ≡ roomFor (fileText (bookOf bytes) k receiver id moment) before = refusal-is ∙ rw h in
+        record { answer = rw (e, text-is) (f .answer); rows = rw e (f .rows); file = rw (e, text-is) (f .file) }
+
+-- ---- the file and the rows, where they have room or not
+
+module _ (book : Book) (text : List ℕ) (lent : List ℤ) (before : List ℕ) where
+  -- measured, the file found no place behind it
+  pub file-short : (dry : List ℕ) (m : Mark) → m ≡ No → Laid false before (At 0) text dry m → FileFilled book text lent lent before dry (Refused 10 1)
+  unfolding fileSays afterwards roomFor
+  file-short dry m e v =
+      let over-long : length before < length text = no-room (length before) (length text) (sym e ∙ v .behind) in
+      let h = lt-leb (length text) (length before) over-long in
+      record { answer = rw h; rows = rw h; file = rw h (v .dry refl) }
+    where
+      no-room : (len n : ℕ) → No ≡ ahead len (At 0) n → len < n
+      no-room len n e = go (leb n len) refl
+        where
+          go : (b : Bool) → leb n len ≡ b → len < n
+          go true t = let z : _≡_ {A = ℕ} 0 1 = cc (ahead-fits len 0 n (omega (arith, leb-true n len t))) in absurd (omega arith)
+          go false t = leb-false n len t
+
+  -- laid over what stood there
+  laid-over : (after : List ℕ) (r : Mark) → length text ≤ length before → Laid true before (At 0) text after r → after ≡ over text before
+  unfolding over written
+  laid-over after r h v = v .wrote refl 0 (0 + length text) refl (v .behind ∙ ahead-fits (length before) 0 (length text) (omega arith)) ∙ rw zero-add
+
+  -- the rows that stand in the first places of a list are copied, and the file written
+  pub file-fits : (count n : ℕ) (settled rowsAfter : List ℤ) (dry after : List ℕ) (m r : Mark) → take (length (rows book)) settled ≡ rows book → count ≡ rowCount book → m ≡ At n
+      → Laid false before (At 0) text dry m → rowsAfter ≡ take (rowWidth * count) settled ++ drop (rowWidth * count) lent → Laid true dry (At 0) text after r
+      → FileFilled book text lent rowsAfter before after (File count n)
+  unfolding fileSays afterwards roomFor over
+  file-fits count n settled rowsAfter dry after m r s c e v f w =
+      let k = reached (length before) 0 (length text) n (sym (v .behind) ∙ e) in
+      let h : length text ≤ length before = omega (arith, k .room) in
+      let t : n ≡ length text = omega (arith, k .is) in
+      let b = le-leb (length text) (length before) h in
+      let j : length (rows book) ≡ rowWidth * count = rows-length book ∙ ap (λ i. rowWidth * i) (sym c) in
+      let same : dry ≡ before = v .dry refl in
+      record { answer = rw (b, c, t); rows = rw b (f ∙ rw (← j, s)); file = rw b (laid-over after r h (rw same at w)) }

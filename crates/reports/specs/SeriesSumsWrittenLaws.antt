@@ -1,0 +1,144 @@
+-- Observations one position after the other, and those of a series' watts: they are the series' own.
+use mathlib.Core.Path.{_≡_, refl, sym, ap, ap₂, _∙_}
+use mathlib.Core.Bool.{Bool, true, false, cond}
+use mathlib.Core.List.{List, [], _∷_, _++_, map, flatMap, map-append, append-nil}
+use Prim.Native.Nat.{ℕ, suc, _+_, _<_, _≤_}
+use native.Mathlib.Numerals.{add-one}
+use native.Mathlib.Omega.{arith}
+use lib.Dec.{ltb}
+use lib.IntN.{ℤ}
+use lib.ListN.{length, getD, length-append}
+use borrow.Author.Tests.{le-ltb, lt-ltb}
+use Rattle.integers.specs.Ranges.{range, range-more}
+use Rattle.calendar.specs.Dates.{calendarDays}
+use Rattle.calendar.specs.DatesLaws.{month-length}
+use Rattle.book.specs.declared.Supply.{Supply}
+use Rattle.book.specs.declared.Direction.{Direction}
+use Rattle.book.specs.declared.Calendar.{Calendar}
+use Rattle.book.specs.Calendars.{dayStart, Ranged}
+use Rattle.book.specs.Header.{calendarOf}
+use Rattle.book.specs.Book.{Book, bookOf}
+use Rattle.volumes.specs.Quarters.{monthQuarters}
+use Rattle.volumes.specs.QuartersLaws.{map-range-cong, flatMap-append}
+use Rattle.volumes.specs.SettlementLaws.{passing}
+use Rattle.volumes.specs.Series.{Kind, Series, seriesWatts}
+use Rattle.volumes.specs.SeriesLaws.{seriesOf}
+use Rattle.settlement.specs.SectionsLaws.{bytes-long}
+use Rattle.message.specs.declared.Kind.{Kind as Form}
+use Rattle.message.specs.Contents.{Observation}
+use Rattle.message.specs.Valid.{IsPeriod}
+use Rattle.message.specs.Bytes.{observationBytes, seriesBytes}
+use Rattle.message.specs.ObservationForm.{observed}
+use Rattle.reports.specs.Keep.{keep, isSome}
+use Rattle.reports.specs.FileRows.{positions, observationAt, isWritten, observationsOf, supplyNumber, deliveryNumber, timeSeries}
+use Rattle.reports.specs.SeriesSums.{kindIn, byPosition, cellAt, SettledIn}
+use Rattle.reports.specs.SeriesSumsLaws.{parts-of, cell-is}
+use Rattle.reports.specs.SeriesSumsWritten.{observationIf, observationsIn, seriesIn, seriesIf}
+
+-- what is kept of two lists
+keep-append : {A : Type 0} (test : A → Bool) (l m : List A) → keep test (l ++ m) ≡ keep test l ++ keep test m
+unfolding keep
+keep-append test [] m = refl
+keep-append test (a ∷ l) m = go (test a) (keep-append test l m)
+  where
+    go : (t : Bool) → keep test (l ++ m) ≡ keep test l ++ keep test m → cond t (a ∷ keep test (l ++ m)) (keep test (l ++ m)) ≡ cond t (a ∷ keep test l) (keep test l) ++ keep test m
+    go true e = ap (λ (k : List _). a ∷ k) e
+    go false e = e
+
+-- ---- one position
+
+pub no-observation : (p watts : ℕ) → watts ≡ 0 → observationIf p watts ≡ []
+unfolding observationIf keep isWritten
+no-observation p watts e = rw e
+
+pub one-observation : (p watts : ℕ) → 0 < watts → observationIf p watts ≡ observed (p, watts) ∷ []
+unfolding observationIf keep isWritten
+one-observation p watts h = rw (lt-ltb 0 watts h)
+
+pub bytes-none : (p watts : ℕ) → watts ≡ 0 → [] ≡ flatMap observationBytes (observationIf p watts)
+unfolding flatMap
+bytes-none p watts e = sym (ap (flatMap observationBytes) (no-observation p watts e))
+
+pub bytes-one : (p watts : ℕ) → 0 < watts → observationBytes (observed (p, watts)) ≡ flatMap observationBytes (observationIf p watts)
+unfolding flatMap
+bytes-one p watts h = sym (ap (flatMap observationBytes) (one-observation p watts h) ∙ append-nil (observationBytes (observed (p, watts))))
+
+-- ---- one position more
+
+pub observations-none : (l : List ℕ) → observationsIn l 0 ≡ []
+unfolding observationsIn range keep
+observations-none l = refl
+
+pub no-bytes : (l : List ℕ) → [] ≡ flatMap observationBytes (observationsIn l 0)
+unfolding flatMap
+no-bytes l = sym (ap (flatMap observationBytes) (observations-none l))
+
+pub observations-more : (l : List ℕ) (i : ℕ) → observationsIn l (i + 1) ≡ observationsIn l i ++ observationIf (i + 1) (getD l i 0)
+unfolding observationsIn observationIf
+observations-more l i =
+    let f : ℕ → Observation = λ p. observed (p, cellAt l p) in
+    let next : 1 + i ≡ suc i = omega arith in
+    let last : f (1 + i) ≡ observed (i + 1, getD l i 0) = ap f next ∙ ap (λ (p : ℕ). observed (p, getD l i 0)) (sym (add-one i)) in
+    let all : map f (range 1 (i + 1)) ≡ map f (range 1 i) ++ (observed (i + 1, getD l i 0) ∷ []) =
+    ap (map f) (range-more 1 i) ∙ map-append f (range 1 i) ((1 + i) ∷ []) ∙ ap (λ (o : Observation). map f (range 1 i) ++ (o ∷ [])) last in
+    ap (keep isWritten) all ∙ keep-append isWritten (map f (range 1 i)) (observed (i + 1, getD l i 0) ∷ [])
+
+pub bytes-more : (l : List ℕ) (i : ℕ) → flatMap observationBytes (observationsIn l i) ++ flatMap observationBytes (observationIf (i + 1) (getD l i 0)) ≡ flatMap observationBytes (observationsIn l (i + 1))
+bytes-more l i = sym (ap (flatMap observationBytes) (observations-more l i) ∙ flatMap-append observationBytes (observationsIn l i) (observationIf (i + 1) (getD l i 0)))
+
+-- ---- the series' own
+
+pub observations-are : (book : Book) (kind : Kind) (receiver : ℕ) (s : Series) (before l : List ℕ) (n : ℕ) → n ≡ monthQuarters (book .calendar) → l ≡ byPosition (seriesWatts book kind receiver s) n before
+    → observationsIn l n ≡ observationsOf book kind receiver s
+unfolding observationsIn observationsOf positions observationAt
+observations-are book kind receiver s before l n month e =
+    rw (← month)
+    (ap (keep isWritten) (map-range-cong (λ p. observed (p, cellAt l p)) (λ p. observed (p, seriesWatts book kind receiver s p)) 1 n (λ p low high.
+    ap (λ (w : ℕ). observed (p, w)) (ap (λ (t : List ℕ). cellAt t p) e ∙ cell-is (seriesWatts book kind receiver s) n before p low (omega arith)))))
+
+no-length : {A : Type 0} (l : List A) → length l ≡ 0 → isSome l ≡ false
+unfolding isSome
+no-length [] e = refl
+no-length (a ∷ l) e = absurd (omega arith)
+
+some-length : {A : Type 0} (l : List A) → 0 < length l → isSome l ≡ true
+unfolding isSome
+some-length [] h = absurd (omega arith)
+some-length (a ∷ l) h = refl
+
+-- a series without observations isn't written, one with some is
+module _ (form : Form) (book : Book) (receiver partner : ℕ) (u : Supply) (v : Direction) (l : List Observation)
+    (own : l ≡ observationsOf book (kindIn form) receiver (seriesOf partner u v)) where
+  pub series-none : length l ≡ 0 → [] ≡ flatMap (seriesBytes form) (seriesIf book (kindIn form) receiver partner (u, v))
+  unfolding seriesIf timeSeries keep flatMap
+  series-none e = rw (ap isSome (sym own) ∙ no-length l e)
+
+  pub series-some : (supply delivery : ℕ) (c : Calendar) → supply ≡ supplyNumber u → delivery ≡ deliveryNumber v → c ≡ book .calendar → 0 < length l
+      → seriesBytes form (seriesIn supply delivery c l) ≡ flatMap (seriesBytes form) (seriesIf book (kindIn form) receiver partner (u, v))
+  unfolding seriesIf timeSeries keep flatMap
+  series-some supply delivery c e f g h =
+      let is : seriesIn supply delivery c l ≡ timeSeries book (kindIn form) receiver partner (u, v) = λ i. seriesIn (e i) (f i) (g i) (own i) in
+      rw (ap isSome (sym own) ∙ some-length l h) (ap (seriesBytes form) is ∙ sym (append-nil (seriesBytes form (timeSeries book (kindIn form) receiver partner (u, v)))))
+
+-- ---- the month
+
+-- no month has more positions
+pub month-most : (c : Calendar) → Ranged c → monthQuarters c ≤ 2976
+unfolding monthQuarters dayStart calendarDays
+month-most c h = omega (arith, month-length (c .year) (c .month) (h .january) (h .december))
+
+pub period-of : (c : Calendar) → Ranged c → IsPeriod (c .year) (c .month)
+period-of c h = record { from = h .from; to = h .to; january = h .january; december = h .december }
+
+-- what a book that refusals 1 to 9 pass says of its calendar
+pub record Opened (bytes : List ℕ) : Type 0 where
+  pub long : 56 ≤ length bytes
+  pub ranged : Ranged (calendarOf bytes)
+  pub own : calendarOf bytes ≡ bookOf bytes .calendar
+  pub few : monthQuarters (bookOf bytes .calendar) ≤ 2976
+
+pub opened : (bytes : List ℕ) (settled : List ℤ) → SettledIn bytes settled → Opened bytes
+opened bytes settled h =
+    let p = parts-of bytes settled h in
+    let r = rw (p .when) at (p .sound .ranged) in
+    record { long = bytes-long bytes (passing bytes (h .accepted) .passed); ranged = r; own = sym (p .when); few = rw (p .when) (month-most (calendarOf bytes) r) }

@@ -1,0 +1,507 @@
+// The watts of a series by position, from a book's settlement rows.
+use book::Calendar;
+use book::Direction;
+use book::Engagement;
+use book::Point;
+use book::Situation;
+use book::Supply;
+use formats::Mark;
+use grains::Grains;
+use message::Kind;
+use settlement::rows::ROW_WIDTH;
+ghost use mathlib.Core.Path.{_≡_};
+ghost use mathlib.Core.Bool.{cond};
+ghost use mathlib.Core.List.{flatMap};
+ghost use Prim.Native.Nat.{ℕ, _+_, _*_, _^_, _≤_, _<_};
+ghost use lib.IntN.{pos};
+ghost use lib.ListN.{length, getD};
+ghost use Rattle.integers.specs.Running.{floorAt};
+ghost use Rattle.integers.specs.Z.{up, dn};
+ghost use Rattle.grains.specs.Grains.{perWatt};
+ghost use Rattle.book.specs.declared.Supply.the-variants.{OffTake};
+ghost use Rattle.book.specs.declared.Direction.the-variants.{Up};
+ghost use Rattle.book.specs.declared.Situation.the-variants.{Transfer, PassThrough};
+ghost use Rattle.book.specs.declared.Direction.{Direction};
+ghost use Rattle.book.specs.Calendars.{dayStart, Ranged};
+ghost use Rattle.book.specs.Register.{pointAt};
+ghost use Rattle.book.specs.Book.{Book, bookOf};
+ghost use Rattle.volumes.specs.Quarters.{monthQuarters};
+ghost use Rattle.volumes.specs.Sheets.{startPosition};
+ghost use Rattle.volumes.specs.Baseline.{pointOf};
+ghost use Rattle.volumes.specs.Series.{takes, receiverOf, partnerOf, sameSupply, sameDirection, isPoint, isEngagement, grainsAt, seriesWatts};
+ghost use Rattle.volumes.specs.SeriesLaws.{seriesOf};
+ghost use Rattle.message.specs.Bytes.{observationBytes, seriesBytes};
+ghost use Rattle.writer.specs.WriterLaid.{Laid, Stands};
+ghost use Rattle.reports.specs.FileRows.{supplyNumber, deliveryNumber, observationsOf};
+ghost use Rattle.reports.specs.SeriesSumsWritten.{observationIf, observationsIn, seriesIn, seriesIf};
+ghost use Rattle.reports.specs.SeriesSums.{kindIn, byPosition, cellAt, volumeIn, added, Addable, Parts, Parted, SettledIn};
+
+// Whether a kind's files take transfer points, and pass-through points.
+fn takes_transfer(kind: Kind) -> bool
+    ensures { λ r. ⌜ r ≡ takes (kindIn kind) Transfer ⌝ }
+{
+    match kind {
+        Kind::Toe01 => true,
+        Kind::Toe02 => true,
+        Kind::Toe03 => false,
+    }
+}
+
+fn takes_pass_through(kind: Kind) -> bool
+    ensures { λ r. ⌜ r ≡ takes (kindIn kind) PassThrough ⌝ }
+{
+    match kind {
+        Kind::Toe01 => false,
+        Kind::Toe02 => false,
+        Kind::Toe03 => true,
+    }
+}
+
+// Whether a kind's files take a point of this situation.
+pub fn takes(kind: Kind, situation: Situation) -> bool
+    ensures { λ r. ⌜ r ≡ takes (kindIn kind) situation ⌝ }
+{
+    match situation {
+        Situation::Transfer => takes_transfer(kind),
+        Situation::PassThrough => takes_pass_through(kind),
+        Situation::OptOut => false,
+        Situation::NetInjector => false,
+    }
+}
+
+// The company that receives a point's file, and its partner there.
+pub fn receiver_of(kind: Kind, point: Point) -> u64
+    ensures { λ r. ⌜ r ≡ receiverOf (kindIn kind) point ⌝ }
+{
+    match kind {
+        Kind::Toe01 => point.fsp,
+        Kind::Toe02 => point.supplier,
+        Kind::Toe03 => point.supplier,
+    }
+}
+
+pub fn partner_of(kind: Kind, point: Point) -> u64
+    ensures { λ r. ⌜ r ≡ partnerOf (kindIn kind) point ⌝ }
+{
+    match kind {
+        Kind::Toe01 => point.supplier,
+        Kind::Toe02 => point.fsp,
+        Kind::Toe03 => point.access,
+    }
+}
+
+fn is_off_take(supply: Supply) -> bool
+    ensures { λ r. ⌜ r ≡ sameSupply supply OffTake ⌝ }
+{
+    match supply {
+        Supply::OffTake => true,
+        Supply::Injection => false,
+    }
+}
+
+fn same_supply(a: Supply, b: Supply) -> bool
+    ensures { λ r. ⌜ r ≡ sameSupply a b ⌝ }
+{
+    let off_take = is_off_take(a);
+    match b {
+        Supply::OffTake => off_take,
+        Supply::Injection => !off_take,
+    }
+}
+
+fn is_up(direction: Direction) -> bool
+    ensures { λ r. ⌜ r ≡ sameDirection direction Up ⌝ }
+{
+    match direction {
+        Direction::Up => true,
+        Direction::Down => false,
+    }
+}
+
+fn same_direction(a: Direction, b: Direction) -> bool
+    ensures { λ r. ⌜ r ≡ sameDirection a b ⌝ }
+{
+    let up = is_up(a);
+    match b {
+        Direction::Up => up,
+        Direction::Down => !up,
+    }
+}
+
+// A point of the series, whatever its delivery direction: taken, with the receiver, the partner and the supply direction.
+pub fn is_point(kind: Kind, receiver: u64, partner: u64, supply: Supply, point: Point) -> bool
+    ensures { λ r. ⌜ ((d : Direction) → r ≡ isPoint (kindIn kind) receiver (seriesOf partner supply d) point) ⌝ }
+{
+    let situation = point.situation;
+    let own = point.supply;
+    takes(kind, situation)
+        & ((receiver_of(kind, point) == receiver)
+            & ((partner_of(kind, point) == partner) & same_supply(own, supply)))
+}
+
+// An engagement of the series: of one of its points, in its delivery direction.
+pub fn is_engagement(
+    kind: Kind,
+    receiver: u64,
+    partner: u64,
+    supply: Supply,
+    delivery: Direction,
+    point: Point,
+    e: Engagement,
+) -> bool
+    ensures { λ r. ⌜ ((b : Book) → point ≡ pointOf b e → r ≡ isEngagement b (kindIn kind) receiver (seriesOf partner supply delivery) e) ⌝ }
+{
+    let direction = e.direction;
+    is_point(kind, receiver, partner, supply, point) & same_direction(direction, delivery)
+}
+
+// The quarter-hours of the lead days.
+fn lead_quarters(c: Calendar) -> usize
+    requires { ⌜ Ranged c ⌝ }
+    ensures { λ r. ⌜ r ≡ dayStart c (c .lead) ⌝ }
+{
+    let lead = c.lead;
+    book::header::day_start(c, lead) as usize
+}
+
+// The quarter-hours of the month, which are its last position.
+pub fn month_quarters(c: Calendar) -> usize
+    requires { ⌜ Ranged c ⌝ }
+    ensures { λ r. ⌜ r ≡ monthQuarters c ⌝ }
+{
+    (book::header::quarters_of(c) as usize) - lead_quarters(c)
+}
+
+// The cell of an engagement's first position.
+fn cell_of(c: Calendar, e: Engagement) -> usize
+    requires { ⌜ Ranged c × (c .lead ≤ e .day) × (e .day < 64) ⌝ }
+    ensures { λ r. ⌜ r + 1 ≡ startPosition c e ⌝ }
+{
+    baseline::judge::start_of(c, e) - lead_quarters(c)
+}
+
+// A delivered volume, which isn't negative.
+fn volume_at(settled: &[i64], i: usize) -> u64
+    requires { ⌜ (i < length (now settled)) × (dn (getD (now settled) i (pos 0)) ≡ 0) ⌝ }
+    ensures { λ r. ⌜ r ≡ up (getD (now (settled .entry)) i (pos 0)) ⌝ }
+{
+    settled[i] as u64
+}
+
+// Adds the delivered volumes of n rows, which start at a place, to the cells from `first` on.
+fn add_volumes(grains: &mut [u64], first: usize, settled: &[i64], at: usize, n: usize)
+    requires { ⌜ Addable (now grains) first (now settled) at n ⌝ }
+    ensures { λ r. ⌜ now (grains .exit) ≡ added (now (grains .entry)) first (λ k. up (volumeIn (now (settled .entry)) at k)) n ⌝ }
+{
+    let mut k = 0;
+    while k < n {
+        let volume = volume_at(settled, at + ROW_WIDTH * k + 1);
+        let cell = first + k;
+        grains[cell] = grains[cell] + volume;
+        k += 1;
+    }
+}
+
+// Zeros at the first n positions.
+fn clear(cells: &mut [u64], n: usize)
+    requires { ⌜ n ≤ length (now cells) ⌝ }
+    ensures { λ r. ⌜ now (cells .exit) ≡ byPosition (λ p. 0) n (now (cells .entry)) ⌝ }
+{
+    let mut i = 0;
+    while i < n {
+        cells[i] = 0;
+        i += 1;
+    }
+}
+
+// The rows that an engagement has in the series: all of its own, or none.
+fn series_rows(
+    register: &[u8],
+    e: Engagement,
+    kind: Kind,
+    receiver: u64,
+    partner: u64,
+    supply: Supply,
+    delivery: Direction,
+) -> usize
+    requires { ⌜ 64 * e .point + 64 ≤ length (now register) ⌝ }
+    ensures { λ r. ⌜ ((b : Book) → pointOf b e ≡ pointAt (now (register .entry)) (e .point) → r ≡ cond (isEngagement b (kindIn kind) receiver (seriesOf partner supply delivery) e) (e .count) 0) ⌝ }
+{
+    let point = book::register::point_at(register, e.point as usize);
+    if is_engagement(kind, receiver, partner, supply, delivery, point, e) {
+        e.count as usize
+    } else {
+        0
+    }
+}
+
+// Adds what the engagements deliver to a series, to cells that are 0.
+fn add_engagements(
+    c: Calendar,
+    register: &[u8],
+    engagements: &[u8],
+    settled: &[i64],
+    kind: Kind,
+    receiver: u64,
+    partner: u64,
+    supply: Supply,
+    delivery: Direction,
+    grains: &mut [u64],
+)
+    requires { ⌜ Parted c (now register) (now engagements) (now settled) × (monthQuarters c ≤ length (now grains)) × (now grains ≡ byPosition (λ p. 0) (monthQuarters c) (now grains)) ⌝ }
+    ensures { λ r. ⌜ ((b : Book) → Parts c (now (register .entry)) (now (engagements .entry)) (now (settled .entry)) b → now (grains .exit) ≡ byPosition (grainsAt b (kindIn kind) receiver (seriesOf partner supply delivery)) (monthQuarters c) (now (grains .entry))) ⌝ }
+{
+    let n = engagements.len() / 16;
+    let mut at = 0;
+    let mut i = 0;
+    while i < n {
+        let e = book::engagements::engagement_at(engagements, i);
+        let own = series_rows(register, e, kind, receiver, partner, supply, delivery);
+        let first = cell_of(c, e);
+        add_volumes(grains, first, settled, at, own);
+        at += ROW_WIDTH * (e.count as usize);
+        i += 1;
+    }
+}
+
+// The grains of a series by position, from the rows of a book that refusals 1 to 9 pass.
+pub fn fill_grains(
+    book: &[u8],
+    settled: &[i64],
+    kind: Kind,
+    receiver: u64,
+    partner: u64,
+    supply: Supply,
+    delivery: Direction,
+    grains: &mut [u64],
+)
+    requires { ⌜ SettledIn (now book) (now settled) × (monthQuarters (bookOf (now book) .calendar) ≤ length (now grains)) ⌝ }
+    ensures { λ r. ⌜ now (grains .exit) ≡ byPosition (grainsAt (bookOf (now (book .entry))) (kindIn kind) receiver (seriesOf partner supply delivery)) (monthQuarters (bookOf (now (book .entry)) .calendar)) (now (grains .entry)) ⌝ }
+{
+    let register = settlement::sections::section(book, 2);
+    let engagements = settlement::sections::section(book, 4);
+    let c = book::header::calendar_of(book);
+    clear(grains, month_quarters(c));
+    add_engagements(
+        c,
+        register,
+        engagements,
+        settled,
+        kind,
+        receiver,
+        partner,
+        supply,
+        delivery,
+        grains,
+    );
+}
+
+// Grains to watts at the first n positions: what doesn't complete a watt is carried on.
+pub fn fill_watts(cells: &mut [u64], n: usize)
+    requires { ⌜ (n ≤ length (now cells)) × ((k : ℕ) → k < n → getD (now cells) k 0 + perWatt ≤ 2 ^ 64) ⌝ }
+    ensures { λ r. ⌜ now (cells .exit) ≡ byPosition (floorAt perWatt (cellAt (now (cells .entry)))) n (now (cells .entry)) ⌝ }
+{
+    let mut carry: u64 = 0;
+    let mut i = 0;
+    while i < n {
+        let sum = carry + cells[i];
+        let grains = Grains { count: sum };
+        cells[i] = grains.down_to_watts();
+        carry = sum % Grains::PER_WATT;
+        i += 1;
+    }
+}
+
+// The watts of a series by position, from the rows of a book that refusals 1 to 9 pass.
+pub fn series_watts(
+    book: &[u8],
+    settled: &[i64],
+    kind: Kind,
+    receiver: u64,
+    partner: u64,
+    supply: Supply,
+    delivery: Direction,
+    watts: &mut [u64],
+)
+    requires { ⌜ SettledIn (now book) (now settled) × (monthQuarters (bookOf (now book) .calendar) ≤ length (now watts)) ⌝ }
+    ensures { λ r. ⌜ now (watts .exit) ≡ byPosition (seriesWatts (bookOf (now (book .entry))) (kindIn kind) receiver (seriesOf partner supply delivery)) (monthQuarters (bookOf (now (book .entry)) .calendar)) (now (watts .entry)) ⌝ }
+{
+    fill_grains(
+        book,
+        settled,
+        kind,
+        receiver,
+        partner,
+        supply,
+        delivery,
+        watts,
+    );
+    let c = book::header::calendar_of(book);
+    fill_watts(watts, month_quarters(c));
+}
+
+// 1 for watts that are written, 0 for none.
+fn written(watts: u64) -> u64
+    ensures { λ r. ⌜ ((p : ℕ) → r ≡ length (observationIf p watts)) × (r ≤ 1) ⌝ }
+{
+    if watts == 0 {
+        return 0;
+    }
+    1
+}
+
+// How many of the first n positions are written.
+pub fn count_written(watts: &[u64], n: usize) -> u64
+    requires { ⌜ n ≤ length (now watts) ⌝ }
+    ensures { λ r. ⌜ r ≡ length (observationsIn (now (watts .entry)) n) ⌝ }
+{
+    let mut count: u64 = 0;
+    let mut i = 0;
+    while i < n {
+        count += written(watts[i]);
+        i += 1;
+    }
+    count
+}
+
+// A position's observation, if it has watts.
+fn emit_position(out: &mut [u8], m: Mark, position: u64, watts: u64, live: bool) -> Mark
+    requires { ⌜ Stands (length (now out)) m ⌝ }
+    ensures { λ r. ⌜ Laid live (now (out .entry)) m (flatMap observationBytes (observationIf position watts)) (now (out .exit)) r ⌝ }
+{
+    if watts == 0 {
+        return m;
+    }
+    writer::emitting::emit_observation(out, m, position, watts, live)
+}
+
+// The observations of the first n positions.
+pub fn emit_watts(out: &mut [u8], m: Mark, watts: &[u64], n: usize, live: bool) -> Mark
+    requires { ⌜ (n ≤ length (now watts)) × Stands (length (now out)) m ⌝ }
+    ensures { λ r. ⌜ Laid live (now (out .entry)) m (flatMap observationBytes (observationsIn (now (watts .entry)) n)) (now (out .exit)) r ⌝ }
+{
+    let mut a = m;
+    let mut i = 0;
+    while i < n {
+        let position = i + 1;
+        a = emit_position(out, a, position as u64, watts[i], live);
+        i += 1;
+    }
+    a
+}
+
+// How many observations a series has.
+pub fn count_observations(
+    book: &[u8],
+    settled: &[i64],
+    kind: Kind,
+    receiver: u64,
+    partner: u64,
+    supply: Supply,
+    delivery: Direction,
+) -> u64
+    requires { ⌜ SettledIn (now book) (now settled) ⌝ }
+    ensures { λ r. ⌜ r ≡ length (observationsOf (bookOf (now (book .entry))) (kindIn kind) receiver (seriesOf partner supply delivery)) ⌝ }
+{
+    let mut watts = [0u64; 2976];
+    series_watts(
+        book,
+        settled,
+        kind,
+        receiver,
+        partner,
+        supply,
+        delivery,
+        &mut watts,
+    );
+    let c = book::header::calendar_of(book);
+    count_written(&watts, month_quarters(c))
+}
+
+// The directions as a file's rows have them.
+fn supply_number(supply: Supply) -> u64
+    ensures { λ r. ⌜ (r ≡ supplyNumber supply) × (r < 2) ⌝ }
+{
+    match supply {
+        Supply::OffTake => 0,
+        Supply::Injection => 1,
+    }
+}
+
+fn delivery_number(delivery: Direction) -> u64
+    ensures { λ r. ⌜ (r ≡ deliveryNumber delivery) × (r < 2) ⌝ }
+{
+    match delivery {
+        Direction::Up => 0,
+        Direction::Down => 1,
+    }
+}
+
+// A series whose watts stand at the first n positions, `count` of which are written.
+fn emit_counted(
+    out: &mut [u8],
+    m: Mark,
+    watts: &[u64],
+    n: usize,
+    count: u64,
+    kind: Kind,
+    supply: u64,
+    delivery: u64,
+    c: Calendar,
+    live: bool,
+) -> Mark
+    requires { ⌜ (supply < 2) × (delivery < 2) × Ranged c × (n ≤ length (now watts)) × (count ≡ length (observationsIn (now watts) n)) ⌝ }
+    ensures { λ r. ⌜ Laid live (now (out .entry)) m (seriesBytes kind (seriesIn supply delivery c (observationsIn (now (watts .entry)) n))) (now (out .exit)) r ⌝ }
+{
+    let a = writer::emitting::emit_series_head(
+        out,
+        m,
+        kind,
+        supply,
+        delivery,
+        count,
+        c.year,
+        c.month,
+        live,
+    );
+    let b = emit_watts(out, a, watts, n, live);
+    writer::emitting::emit_series_end(out, b, live)
+}
+
+// A series of a book, if it has observations.
+pub fn emit_series(
+    out: &mut [u8],
+    m: Mark,
+    book: &[u8],
+    settled: &[i64],
+    kind: Kind,
+    receiver: u64,
+    partner: u64,
+    supply: Supply,
+    delivery: Direction,
+    live: bool,
+) -> Mark
+    requires { ⌜ SettledIn (now book) (now settled) × Stands (length (now out)) m ⌝ }
+    ensures { λ r. ⌜ Laid live (now (out .entry)) m (flatMap (seriesBytes kind) (seriesIf (bookOf (now (book .entry))) (kindIn kind) receiver partner (supply, delivery))) (now (out .exit)) r ⌝ }
+{
+    let mut watts = [0u64; 2976];
+    series_watts(
+        book,
+        settled,
+        kind,
+        receiver,
+        partner,
+        supply,
+        delivery,
+        &mut watts,
+    );
+    let c = book::header::calendar_of(book);
+    let n = month_quarters(c);
+    let count = count_written(&watts, n);
+    if count == 0 {
+        return m;
+    }
+    let s = supply_number(supply);
+    let d = delivery_number(delivery);
+    emit_counted(out, m, &watts, n, count, kind, s, d, c, live)
+}
