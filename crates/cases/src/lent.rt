@@ -2,6 +2,7 @@
 
 // The number at each place before a call, and the byte.
 const CANARY: i64 = 77;
+
 const CANARY_BYTE: u8 = 77;
 
 pub fn prepare(rows: &mut [i64]) {
