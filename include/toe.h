@@ -28,6 +28,13 @@ uint64_t toe_settle(const uint8_t *book, size_t book_length, int64_t *rows, size
 /* Fills a balance party's sheet, in grains: 96 numbers a day of the month. Refusals 1 to 9, 11, 10 item 0. */
 uint64_t toe_sheet(const uint8_t *book, size_t book_length, uint16_t party, int64_t *sums, size_t sums_length);
 
+/* Writes a receiver's file of a book, and fills the book's settlement rows: the number of bytes. Kind 1 to 3; the
+ * receiver is an FSP for kind 1, else a supplier. Lengths count numbers and bytes. It needs 2 MB of stack.
+ * Refusals 1 to 9, 12 for the kind, 11, 12 for ID or moment, 10 item 0 for the rows, 10 item 1 for the file. */
+uint64_t toe_file(const uint8_t *book, size_t book_length, uint8_t kind, uint64_t receiver, const uint8_t *id,
+                  size_t id_length, const uint8_t *moment, size_t moment_length, int64_t *rows, size_t rows_length,
+                  uint8_t *file, size_t file_length);
+
 /* Reads a file: the number of rows. A row is six numbers: partner, supply, delivery direction, position, watts, 0.
  * `facts` gets kind, receiver, year, month, start and length of the ID, start and length of the moment.
  * Refusals 13, 10 item 0. */

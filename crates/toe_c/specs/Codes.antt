@@ -21,7 +21,9 @@ use Rattle.settlement.specs.Settling.{answerBy, filledBy}
 use Rattle.volumes.specs.Sheets.{sheet}
 use Rattle.reports.specs.declared.SheetAnswer.{SheetAnswer}
 use Rattle.reports.specs.declared.SheetAnswer.the-variants.{Sheet, Refused as SheetRefused}
-use Rattle.reports.specs.Calls.{sheetRefusal, sheetAnswer}
+use Rattle.reports.specs.declared.FileAnswer.{FileAnswer}
+use Rattle.reports.specs.declared.FileAnswer.the-variants.{File, Refused as FileRefused}
+use Rattle.reports.specs.Calls.{sheetRefusal, sheetAnswer, kindOf, textOf, fileRefusal, fileAnswer}
 use Rattle.reports.specs.Calls as reports
 
 -- refused: 2^63, the number times 2^32, and the item
@@ -36,6 +38,10 @@ settleCode (SettleRefused number item) = refusalCode number item
 abbrev pub sheetCode : SheetAnswer → ℕ
 sheetCode (Sheet count) = count
 sheetCode (SheetRefused number item) = refusalCode number item
+
+abbrev pub fileCode : FileAnswer → ℕ
+fileCode (File rowCount count) = count
+fileCode (FileRefused number item) = refusalCode number item
 
 abbrev pub readCode : ReadAnswer → ℕ
 readCode (FileRead f) = f .rows
@@ -54,6 +60,12 @@ pub record SettleCoded (bytes : List ℕ) (lent : List ℤ) (code : ℕ) (left :
 pub record SheetCoded (bytes : List ℕ) (party : ℕ) (before after : List ℤ) (code : ℕ) : Type 0 where
   pub answered : code ≡ sheetCode (sheetAnswer bytes party (length before))
   pub sums : after ≡ reports.afterwards (sheetRefusal bytes party (length before)) (sheet (bookOf bytes) party) before
+
+-- a receiver's file, given rows and a file's buffer, answers so and leaves both so
+pub record FileCoded (bytes : List ℕ) (kind receiver : ℕ) (id moment : List ℕ) (rowsBefore rowsAfter : List ℤ) (before after : List ℕ) (code : ℕ) : Type 0 where
+  pub answered : code ≡ fileCode (fileAnswer bytes kind receiver id moment (length rowsBefore) (length before))
+  pub filled : rowsAfter ≡ reports.afterwards (fileRefusal bytes kind receiver id moment (length rowsBefore) (length before)) (rows (bookOf bytes)) rowsBefore
+  pub file : after ≡ reports.afterwards (fileRefusal bytes kind receiver id moment (length rowsBefore) (length before)) (textOf (bookOf bytes) (kindOf kind) receiver id moment) before
 
 -- "kind, receiver, year, month", and "where ID and moment stand": each place and length; a moment has 29 bytes
 unfoldable pub factNumbers : FileFacts → List ℕ

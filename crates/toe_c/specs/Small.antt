@@ -8,6 +8,8 @@ use Rattle.settlement.specs.declared.settle.Settled.{Settled}
 use Rattle.settlement.specs.declared.settle.Settled.the-variants.{Rows, Refused as SettleRefused}
 use Rattle.reports.specs.declared.SheetAnswer.{SheetAnswer}
 use Rattle.reports.specs.declared.SheetAnswer.the-variants.{Sheet, Refused as SheetRefused}
+use Rattle.reports.specs.declared.FileAnswer.{FileAnswer}
+use Rattle.reports.specs.declared.FileAnswer.the-variants.{File, Refused as FileRefused}
 
 -- "1" to "13"; rows and points are counted from 0 to 511
 pub record Small (number item : ℕ) : Type 0 where
@@ -21,6 +23,10 @@ SettledSmall (SettleRefused number item) = Small number item
 abbrev pub SheetSmall : SheetAnswer → Type 0
 SheetSmall (Sheet count) = Unit {0}
 SheetSmall (SheetRefused number item) = Small number item
+
+abbrev pub FiledSmall : FileAnswer → Type 0
+FiledSmall (File rowCount count) = Unit {0}
+FiledSmall (FileRefused number item) = Small number item
 
 abbrev pub ReadSmall : ReadAnswer → Type 0
 ReadSmall (FileRead f) = Unit {0}

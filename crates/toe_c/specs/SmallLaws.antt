@@ -14,7 +14,7 @@ use Rattle.integers.specs.Ranges.{range, length-range}
 use Rattle.book.specs.declared.Calendar.{Calendar}
 use Rattle.book.specs.declared.Engagement.{Engagement}
 use Rattle.book.specs.Calendars.{daysOf, quartersOf}
-use Rattle.book.specs.Refusals.{Refusal, unless, unlessFound}
+use Rattle.book.specs.Refusals.{Refusal, refused, unless, unlessFound}
 use Rattle.book.specs.Header.{calendarOf, pointCount, engagementCount, headerGood, layoutGood, calendarSection, pairSection, registerSection, readingSection, engagementSection}
 use Rattle.book.specs.HeaderLaws.{headed}
 use Rattle.book.specs.Tables.{calendarGood, pairsGood}
@@ -29,7 +29,7 @@ use Rattle.volumes.specs.Settlement.{needed, tooFew, rowWidth, rowCount, refusa
 use Rattle.settlement.specs.declared.settle.Settled.{Settled}
 use Rattle.settlement.specs.Settling.{answerBy, SettleCall}
 use Rattle.moments.specs.Ids.{isTransactionId}
-use Rattle.message.specs.declared.Kind.{Kind}
+use Rattle.message.specs.declared.Kind.{Kind as FileKind}
 use Rattle.message.specs.declared.ReadAnswer.{ReadAnswer}
 use Rattle.message.specs.declared.WriteAnswer.{WriteAnswer}
 use Rattle.message.specs.Valid.{isMoment}
@@ -43,8 +43,12 @@ use Rattle.toe_c.specs.Codes.{refusalCode}
 use Rattle.volumes.specs.Quarters.{monthQuarters}
 use Rattle.volumes.specs.Sheets.{parties}
 use Rattle.reports.specs.declared.SheetAnswer.{SheetAnswer}
-use Rattle.reports.specs.Calls.{stands, sheetRefusal, sheetSays, sheetAnswer, SheetCalled}
-use Rattle.toe_c.specs.Small.{Small, SettledSmall, SheetSmall, ReadSmall, WrittenSmall}
+use Rattle.reports.specs.declared.FileAnswer.{FileAnswer}
+use Rattle.reports.specs.FileRows.{fileText}
+use Rattle.reports.specs.Roles.{receivers}
+use Rattle.reports.specs.Calls.{stands, sheetRefusal, sheetSays, sheetAnswer, SheetCalled, kindOf, textOf, shortRefusal, askedRefusal, fileRefusal, fileSays, fileAnswer, FileCalled}
+use Rattle.volumes.specs.Series.{Kind}
+use Rattle.toe_c.specs.Small.{Small, SettledSmall, SheetSmall, FiledSmall, ReadSmall, WrittenSmall}
 
 abbrev pub AllSmall : Option Refusal → Type 0
 AllSmall none = Unit {0}
@@ -181,6 +185,39 @@ unfolding sheetAnswer
 sheet-small {bytes} {party} {before} s =
     rw (s .answer) (sheet-said (sheetRefusal bytes party (length before)) (monthQuarters (bookOf bytes .calendar)) (sheet-judged bytes party (length before)))
 
+-- 1 to 9, 12, 11, 12 and 10
+short-judged : (rowNumbers rowsLent fileLength fileLent : ℕ) → AllSmall (shortRefusal rowNumbers rowsLent fileLength fileLent)
+unfolding shortRefusal
+short-judged rowNumbers rowsLent fileLength fileLent = small-unless (leb rowNumbers rowsLent) 10 _ (omega arith) (λ e. go (leb fileLength fileLent))
+  where
+    go : (t : Bool) → AllSmall (cond t none (refused 10 1))
+    go true = tt
+    go false = record { number-few = omega arith; item-few = omega arith }
+
+asked-judged : (book : Book) (kind : Option Kind) (receiver : ℕ) (id moment : List ℕ) (rowsLent fileLent : ℕ) → AllSmall (askedRefusal book kind receiver id moment rowsLent fileLent)
+unfolding askedRefusal
+asked-judged book none receiver id moment rowsLent fileLent = record { number-few = omega arith; item-few = omega arith }
+asked-judged book (some kind) receiver id moment rowsLent fileLent =
+    small-unless (stands receiver (receivers book kind)) 11 _ (omega arith) (λ e.
+    small-unless (isTransactionId id && isMoment moment) 12 _ (omega arith) (λ f.
+    short-judged (rowWidth * rowCount book) rowsLent (length (fileText book kind receiver id moment)) fileLent))
+
+file-judged : (bytes : List ℕ) (kind receiver : ℕ) (id moment : List ℕ) (rowsLent fileLent : ℕ) → AllSmall (fileRefusal bytes kind receiver id moment rowsLent fileLent)
+unfolding fileRefusal
+file-judged bytes kind receiver id moment rowsLent fileLent =
+    small-else (bookRefusal bytes) _ (book-small bytes) (λ e. asked-judged (bookOf bytes) (kindOf kind) receiver id moment rowsLent fileLent)
+
+file-said : (x : Option Refusal) (rowCount count : ℕ) → AllSmall x → FiledSmall (fileSays x rowCount count)
+unfolding fileSays
+file-said none rowCount count h = tt
+file-said (some r) rowCount count h = h
+
+pub file-small : {bytes : List ℕ} {kind receiver : ℕ} {id moment : List ℕ} {rowsBefore rowsAfter : List ℤ} {before after : List ℕ} {r : FileAnswer} → FileCalled bytes kind receiver id moment rowsBefore rowsAfter before after r → FiledSmall r
+unfolding fileAnswer
+file-small {bytes} {kind} {receiver} {id} {moment} {rowsBefore} {before = before} c =
+    let x = fileRefusal bytes kind receiver id moment (length rowsBefore) (length before) in
+    rw (c .answer) (file-said x (rowCount (bookOf bytes)) (length (textOf (bookOf bytes) (kindOf kind) receiver id moment)) (file-judged bytes kind receiver id moment (length rowsBefore) (length before)))
+
 -- writing from rows: 12, 13, 12 and 10
 verdict-small : {A : Type 0} (t : Bool) (number item : ℕ) (later : Verdict A) → Small number item → VerdictSmall later → VerdictSmall (judge t number item later)
 verdict-small true number item later h k = k
@@ -194,7 +231,7 @@ written-small (sent number item) h = h
 few : (number item : ℕ) → number ≤ 13 → item ≤ 512 → Small number item
 few number item h k = record { number-few = h; item-few = k }
 
-verdict-written : (kind : Option Kind) (receiver year month : ℕ) (rows id moment : List ℕ) (lent : ℕ) → VerdictSmall (writeVerdict kind receiver year month rows id moment lent)
+verdict-written : (kind : Option FileKind) (receiver year month : ℕ) (rows id moment : List ℕ) (lent : ℕ) → VerdictSmall (writeVerdict kind receiver year month rows id moment lent)
 unfolding writeVerdict fitting
 verdict-written none receiver year month rows id moment lent = few 12 0 (omega arith) (omega arith)
 verdict-written (some kind) receiver year month rows id moment lent =

@@ -3,14 +3,15 @@ use message::FileFacts;
 use message::Kind;
 use message::ReadAnswer;
 use message::WriteAnswer;
+use reports::FileAnswer;
 use reports::SheetAnswer;
 use settlement::settle::Settled;
 ghost use mathlib.Core.Path.{_≡_};
 ghost use Prim.Native.Nat.{_≤_};
 ghost use lib.ListN.{length};
 ghost use Rattle.message.specs.Calls.{over, kindNumber};
-ghost use Rattle.toe_c.specs.Codes.{refusalCode, settleCode, sheetCode, writeCode, factNumbers, SettleCoded, SheetCoded, ReadCoded, WriteCoded};
-ghost use Rattle.toe_c.specs.Small.{Small, SettledSmall, SheetSmall, WrittenSmall};
+ghost use Rattle.toe_c.specs.Codes.{refusalCode, settleCode, sheetCode, fileCode, writeCode, factNumbers, SettleCoded, SheetCoded, FileCoded, ReadCoded, WriteCoded};
+ghost use Rattle.toe_c.specs.Small.{Small, SettledSmall, SheetSmall, FiledSmall, WrittenSmall};
 
 // A refusal as one number.
 fn refusal_code(number: u64, item: usize) -> u64
@@ -40,6 +41,16 @@ fn sheet_code(answer: SheetAnswer) -> u64
     }
 }
 
+fn file_code(answer: FileAnswer) -> u64
+    requires { ⌜ FiledSmall answer ⌝ }
+    ensures { λ r. ⌜ r ≡ fileCode answer ⌝ }
+{
+    match answer {
+        FileAnswer::File(_, count) => count as u64,
+        FileAnswer::Refused(number, item) => refusal_code(number, item),
+    }
+}
+
 fn write_code(answer: WriteAnswer) -> u64
     requires { ⌜ WrittenSmall answer ⌝ }
     ensures { λ r. ⌜ r ≡ writeCode answer ⌝ }
@@ -64,6 +75,22 @@ pub extern "C" fn toe_sheet(book: &[u8], party: u16, sums: &mut [i64]) -> u64
     ensures { λ r. ⌜ SheetCoded (now (book .entry)) party (now (sums .entry)) (now (sums .exit)) r ⌝ }
 {
     sheet_code(reports::sheet::sheet(book, party, sums))
+}
+
+// A receiver's file of a book, and the book's settlement rows; answers how many bytes.
+#[no_mangle]
+pub extern "C" fn toe_file(
+    book: &[u8],
+    kind: u8,
+    receiver: u64,
+    id: &[u8],
+    moment: &[u8],
+    rows: &mut [i64],
+    file: &mut [u8],
+) -> u64
+    ensures { λ r. ⌜ FileCoded (now (book .entry)) kind receiver (now (id .entry)) (now (moment .entry)) (now (rows .entry)) (now (rows .exit)) (now (file .entry)) (now (file .exit)) r ⌝ }
+{
+    file_code(reports::file::file(book, kind, receiver, id, moment, rows, file))
 }
 
 fn kind_number(kind: Kind) -> u64

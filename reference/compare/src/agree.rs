@@ -9,7 +9,6 @@ use reference::message::{self, FileRead};
 use reference::message_cases::random_file;
 use reference::random::Random;
 use reference::refusal::Refusal;
-#[cfg(feature = "file")]
 use reference::series;
 use reference::settle;
 use reference::sheet;
@@ -82,7 +81,6 @@ impl Comparison {
     }
 
     /// A kind, a receiver that is mostly in its role, and an ID and a moment that are mostly in form.
-    #[cfg(feature = "file")]
     fn named(&mut self, bytes: &[u8]) -> (u8, u64, Vec<u8>, Vec<u8>) {
         let kind = if self.random.once_in(12) { self.random.range(0, 5) } else { self.random.range(1, 3) } as u8;
         let any = self.random.pick(&[0, 1, 2, 3, 9_999_999_999, 10_000_000_000]);
@@ -107,7 +105,6 @@ impl Comparison {
         (kind, receiver, id, moment)
     }
 
-    #[cfg(feature = "file")]
     fn file(&mut self, bytes: &[u8]) {
         let (kind, receiver, id, moment) = self.named(bytes);
         let call = |rows, file| series::file_call(bytes, kind, receiver, &id, &moment, rows, file);
@@ -128,11 +125,6 @@ impl Comparison {
             let read = message::read(&filed.file, LONG).unwrap();
             self.write(&id, &moment, kind, receiver, (read.year, read.month), &read.numbers);
         }
-    }
-
-    #[cfg(not(feature = "file"))]
-    fn file(&mut self, bytes: &[u8]) {
-        let _ = decode(bytes);
     }
 
     /// Kind, receiver, year, month, start and length of ID, start and length of moment.

@@ -5,7 +5,6 @@ use reference::refusal::Refusal;
 extern "C" {
     fn toe_settle(book: *const u8, book_length: usize, rows: *mut i64, rows_length: usize) -> u64;
     fn toe_sheet(book: *const u8, book_length: usize, party: u16, sums: *mut i64, sums_length: usize) -> u64;
-    #[cfg(feature = "file")]
     fn toe_file(
         book: *const u8,
         book_length: usize,
@@ -68,7 +67,6 @@ pub struct Named<'a> {
     pub moment: &'a [u8],
 }
 
-#[cfg(feature = "file")]
 pub fn file(book: &[u8], named: Named, rows: &mut [i64], file: &mut [u8]) -> Answer {
     decode(unsafe {
         toe_file(
