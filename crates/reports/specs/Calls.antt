@@ -1,13 +1,12 @@
 -- The sheet call and the file call: their answers, and every buffer afterwards (document 01, "What is sent back").
 use mathlib.Core.Path.{_≡_}
-use mathlib.Core.Bool.{Bool, cond, _&&_}
+use mathlib.Core.Bool.{cond, _&&_}
 use mathlib.Core.List.{List, []}
 use mathlib.Core.Option.{Option, none, some}
 use Prim.Native.Nat.{ℕ, zero, suc, _*_}
 use lib.Dec.{leb}
 use lib.IntN.{ℤ}
 use lib.ListN.{length}
-use Rattle.integers.specs.Counts.{times}
 use Rattle.moments.specs.Ids.{isTransactionId}
 use Rattle.book.specs.Book.{Book, bookOf}
 use Rattle.book.specs.Refusals.{Refusal, refused, unless}
@@ -17,16 +16,13 @@ use Rattle.volumes.specs.Sheets.{parties, sheet}
 use Rattle.volumes.specs.Series.{Kind, Toe01, Toe02, Toe03}
 use Rattle.message.specs.Valid.{isMoment}
 unfoldable pub use Rattle.message.specs.Calls.{over}
+unfoldable pub use Rattle.sheets.specs.Parties.{stands}
 use Rattle.reports.specs.FileRows.{fileText}
 use Rattle.reports.specs.Roles.{receivers}
 use Rattle.reports.specs.declared.SheetAnswer.{SheetAnswer}
 use Rattle.reports.specs.declared.SheetAnswer.the-variants.{Sheet, Refused as SheetRefused}
 use Rattle.reports.specs.declared.FileAnswer.{FileAnswer}
 use Rattle.reports.specs.declared.FileAnswer.the-variants.{File, Refused as FileRefused}
-
--- a number stands in a column of the register
-unfoldable pub stands : ℕ → List ℕ → Bool
-stands x column = leb 1 (times x column)
 
 -- "A refusal changes no buffer; an acceptance changes only the places of its answer."
 unfoldable pub afterwards : {A : Type 0} → Option Refusal → List A → List A → List A

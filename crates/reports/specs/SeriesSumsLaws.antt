@@ -10,7 +10,7 @@ use lib.Dec.{T, leb, ltb}
 use lib.IntN.{ℤ, pos, negsuc, natAbs}
 use lib.Signed.{nonNeg}
 use lib.ListN.{length, getD, take, drop, set, length-append, length-take, length-drop, length-map, length-set, List·getD-append}
-use lib.Seq.{take-all, take-suc, drop-cons, append-snoc, split-at, set-at, drop-at, getD-at, getD-append-add, getD-take, getD-set-other}
+use lib.Seq.{take-all, take-suc, drop-cons, split-at, drop-at, getD-at, getD-append-add, getD-take, getD-set-other}
 use mir.Syntax.{w64}
 use mir.Val.{Fits, SFits}
 use borrow.Author.Tests.{leb-true, ltb-true, ltb-false, le-leb, lt-ltb, le-ltb}
@@ -43,6 +43,7 @@ use Rattle.settlement.specs.Sections.{engagementCountIn, engagementsIn, rowCoun
 use Rattle.settlement.specs.SectionsLaws.{rows-counted, same-book, sectioned}
 use Rattle.settlement.specs.EngagedLaws.{getD-made, getD-mem, engaged}
 use Rattle.settlement.specs.SettlingLaws.{rowCountTo, count-more, count-most}
+use Rattle.sheets.specs.AddsLaws.{next-cell}
 use Rattle.message.specs.declared.Kind.{Kind as Form}
 use Rattle.message.specs.declared.Kind.the-variants.{Toe01 as Form01, Toe02 as Form02, Toe03 as Form03}
 use Rattle.reports.specs.FileRows.{formOf}
@@ -119,13 +120,9 @@ by-rest f i l h = rw (drop-cons l i 0 h) (getD-at (map f (range 1 i)) (getD l i 
 
 pub by-more : (f : ℕ → ℕ) (i : ℕ) (l : List ℕ) (x : ℕ) → i < length l → x ≡ f (i + 1) → set (byPosition f i l) i x ≡ byPosition f (i + 1) l
 by-more f i l x h e =
-    let size : length (map f (range 1 i)) ≡ i = length-map (range 1 i) f ∙ length-range 1 i in
     let here : 1 + i ≡ i + 1 = omega arith in
     let next : map f (range 1 (i + 1)) ≡ map f (range 1 i) ++ (x ∷ []) = ap (map f) (range-more 1 i) ∙ map-append f (range 1 i) ((1 + i) ∷ []) ∙ ap (λ (y : ℕ). map f (range 1 i) ++ (y ∷ [])) (ap f here ∙ sym e) in
-    ap (λ (t : List ℕ). set (map f (range 1 i) ++ t) i x) (drop-cons l i 0 h)
-    ∙ set-at (map f (range 1 i)) (getD l i 0) (drop (suc i) l) x i size
-    ∙ sym (append-snoc (map f (range 1 i)) x (drop (suc i) l))
-    ∙ ap₂ _++_ (sym next) (ap (λ (k : ℕ). drop k l) (sym (add-one i)))
+    next-cell (map f (range 1 i)) l i x (length-map (range 1 i) f ∙ length-range 1 i) h ∙ ap (λ (m : List ℕ). m ++ drop (i + 1) l) (sym next)
 
 -- the cells filled anew, and filled with the same
 pub by-again : (f g : ℕ → ℕ) (n : ℕ) (l : List ℕ) → byPosition g n (byPosition f n l) ≡ byPosition g n l

@@ -15,14 +15,13 @@ use Rattle.volumes.specs.Quarters.{monthQuarters}
 use Rattle.volumes.specs.Settlement.{orElse, bookRefusal}
 use Rattle.volumes.specs.Sheets.{parties, sheet}
 use Rattle.volumes.specs.SheetsLaws.{sheet-length}
-use Rattle.sheets.specs.Parties.{partiesIn, stands as standsIn}
+use Rattle.sheets.specs.Parties.{partiesIn}
 use Rattle.sheets.specs.PartiesLaws.{parties-are}
 use Rattle.reports.specs.declared.SheetAnswer.the-variants.{Sheet, Refused}
 use Rattle.reports.specs.Calls.{stands, over, afterwards, sheetRefusal, sheetSays, sheetAnswer, SheetCalled}
 
 -- a party of the register is one of the book
-pub stands-in : (bytes : List ℕ) (party : ℕ) → refusalOf bytes ≡ none → standsIn party (partiesIn (registerSection bytes)) ≡ stands party (parties (bookOf bytes))
-unfolding stands standsIn
+pub stands-in : (bytes : List ℕ) (party : ℕ) → refusalOf bytes ≡ none → stands party (partiesIn (registerSection bytes)) ≡ stands party (parties (bookOf bytes))
 stands-in bytes party h = ap (stands party) (parties-are bytes h)
 
 module _ (bytes : List ℕ) (party : ℕ) (lent : List ℤ) where

@@ -11,17 +11,14 @@ use settlement::judge::judge_settlement;
 use settlement::rows::ROW_WIDTH;
 use settlement::settle::fill_book;
 use settlement::settle::row_count;
+use writer::writing::in_form;
 ghost use mathlib.Core.Path.{_≡_};
 ghost use mathlib.Core.List.{_++_};
-ghost use Prim.Native.Nat.{_≤_};
-ghost use mathlib.Core.Bool.{_&&_};
 ghost use mathlib.Core.Option.{none};
-ghost use Prim.Native.Nat.{_*_};
+ghost use Prim.Native.Nat.{_*_, _≤_};
 ghost use lib.ListN.{length, take, drop};
-ghost use Rattle.moments.specs.Ids.{isTransactionId};
 ghost use Rattle.book.specs.Book.{bookOf};
 ghost use Rattle.volumes.specs.Settlement.{rowWidth, rowCount, bookRefusal};
-ghost use Rattle.message.specs.Valid.{isMoment};
 ghost use Rattle.settlement.specs.Verdicts.{refusalIn};
 ghost use Rattle.reports.specs.FileRows.{fileText};
 ghost use Rattle.reports.specs.SeriesSums.{kindIn, SettledIn};
@@ -38,18 +35,6 @@ fn copy_rows(from: &[i64], to: &mut [i64], n: usize)
         to[i] = from[i];
         i += 1;
     }
-}
-
-// Whether an ID and a moment are in form.
-fn in_form(id: &[u8], moment: &[u8]) -> bool
-    ensures { λ r. ⌜ r ≡ isTransactionId (now (id .entry)) && isMoment (now (moment .entry)) ⌝ }
-{
-    let named = moments::ids::transaction_id(id);
-    let judged = moments::read_moment(moment);
-    let moments::Judged::Real(_) = judged else {
-        return false;
-    };
-    named
 }
 
 // What is asked of an accepted book: a receiver in its role, an ID and a moment in form, and rows that are long enough.

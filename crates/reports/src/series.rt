@@ -9,6 +9,8 @@ use formats::Mark;
 use grains::Grains;
 use message::Kind;
 use settlement::rows::ROW_WIDTH;
+use sheets::cells::first_cell;
+use sheets::cells::month_quarters;
 ghost use mathlib.Core.Path.{_≡_};
 ghost use mathlib.Core.Bool.{cond};
 ghost use mathlib.Core.List.{flatMap};
@@ -22,11 +24,10 @@ ghost use Rattle.book.specs.declared.Supply.the-variants.{OffTake};
 ghost use Rattle.book.specs.declared.Direction.the-variants.{Up};
 ghost use Rattle.book.specs.declared.Situation.the-variants.{Transfer, PassThrough};
 ghost use Rattle.book.specs.declared.Direction.{Direction};
-ghost use Rattle.book.specs.Calendars.{dayStart, Ranged};
+ghost use Rattle.book.specs.Calendars.{Ranged};
 ghost use Rattle.book.specs.Register.{pointAt};
 ghost use Rattle.book.specs.Book.{Book, bookOf};
 ghost use Rattle.volumes.specs.Quarters.{monthQuarters};
-ghost use Rattle.volumes.specs.Sheets.{startPosition};
 ghost use Rattle.volumes.specs.Baseline.{pointOf};
 ghost use Rattle.volumes.specs.Series.{takes, receiverOf, partnerOf, sameSupply, sameDirection, isPoint, isEngagement, grainsAt, seriesWatts};
 ghost use Rattle.volumes.specs.SeriesLaws.{seriesOf};
@@ -155,31 +156,6 @@ pub fn is_engagement(
     is_point(kind, receiver, partner, supply, point) & same_direction(direction, delivery)
 }
 
-// The quarter-hours of the lead days.
-fn lead_quarters(c: Calendar) -> usize
-    requires { ⌜ Ranged c ⌝ }
-    ensures { λ r. ⌜ r ≡ dayStart c (c .lead) ⌝ }
-{
-    let lead = c.lead;
-    book::header::day_start(c, lead) as usize
-}
-
-// The quarter-hours of the month, which are its last position.
-pub fn month_quarters(c: Calendar) -> usize
-    requires { ⌜ Ranged c ⌝ }
-    ensures { λ r. ⌜ r ≡ monthQuarters c ⌝ }
-{
-    (book::header::quarters_of(c) as usize) - lead_quarters(c)
-}
-
-// The cell of an engagement's first position.
-fn cell_of(c: Calendar, e: Engagement) -> usize
-    requires { ⌜ Ranged c × (c .lead ≤ e .day) × (e .day < 64) ⌝ }
-    ensures { λ r. ⌜ r + 1 ≡ startPosition c e ⌝ }
-{
-    baseline::judge::start_of(c, e) - lead_quarters(c)
-}
-
 // A delivered volume, which isn't negative.
 fn volume_at(settled: &[i64], i: usize) -> u64
     requires { ⌜ (i < length (now settled)) × (dn (getD (now settled) i (pos 0)) ≡ 0) ⌝ }
@@ -257,7 +233,7 @@ fn add_engagements(
     while i < n {
         let e = book::engagements::engagement_at(engagements, i);
         let own = series_rows(register, e, kind, receiver, partner, supply, delivery);
-        let first = cell_of(c, e);
+        let first = first_cell(c, e);
         add_volumes(grains, first, settled, at, own);
         at += ROW_WIDTH * (e.count as usize);
         i += 1;

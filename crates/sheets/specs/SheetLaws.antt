@@ -49,7 +49,7 @@ unfolding correctionAt
 outside book party p e h = rw h
 
 -- positions are counted from 1
-first-cell : (c : Calendar) (e : Engagement) → startPosition c e ≡ 1 + firstCell c e
+pub first-cell : (c : Calendar) (e : Engagement) → startPosition c e ≡ 1 + firstCell c e
 unfolding position
 first-cell c e = omega arith
 

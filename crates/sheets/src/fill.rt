@@ -1,12 +1,10 @@
 // A party's sheet of a book.
 use book::Calendar;
-use book::Engagement;
 ghost use mathlib.Core.Path.{_≡_};
 ghost use mathlib.Core.List.{_++_};
 ghost use mathlib.Core.Option.{none};
 ghost use Prim.Native.Nat.{_≤_, _<_};
 ghost use lib.ListN.{length, drop};
-ghost use Rattle.book.specs.Calendars.{Ranged};
 ghost use Rattle.book.specs.Engagements.{engagementAt};
 ghost use Rattle.book.specs.Book.{bookOf};
 ghost use Rattle.book.specs.Judged.{refusalOf};
@@ -16,22 +14,6 @@ ghost use Rattle.volumes.specs.Sheets.{sheet};
 ghost use Rattle.settlement.specs.Sections.{engagementCountIn, bookIn, Sectioned};
 ghost use Rattle.sheets.specs.Adds.{adds, Addable};
 ghost use Rattle.sheets.specs.Shares.{correctionsFor, firstCell};
-
-// The quarter-hours of the month: as many as a sheet has cells.
-pub fn month_quarters(c: Calendar) -> usize
-    requires { ⌜ Ranged c ⌝ }
-    ensures { λ r. ⌜ r ≡ monthQuarters c ⌝ }
-{
-    (book::header::quarters_of(c) - book::header::day_start(c, c.lead)) as usize
-}
-
-// The cell of an engagement's first quarter-hour.
-fn first_cell(c: Calendar, e: Engagement) -> usize
-    requires { ⌜ (e .day < 64) × (c .lead ≤ e .day) ⌝ }
-    ensures { λ r. ⌜ r ≡ firstCell c e ⌝ }
-{
-    baseline::judge::start_of(c, e) - (book::header::day_start(c, c.lead) as usize)
-}
 
 // Adds a party's corrections of engagement i; 384 numbers hold the rows of a day.
 fn add_engagement(
@@ -50,7 +32,7 @@ fn add_engagement(
 {
     let e = book::engagements::engagement_at(engagements, i);
     let point = book::register::point_at(register, e.point as usize);
-    let at = first_cell(c, e);
+    let at = crate::cells::first_cell(c, e);
     let mut rows = [0i64; 384];
     settlement::settle::fill_row(
         c,
@@ -80,7 +62,7 @@ pub fn fill_cells(
     requires { ⌜ Sectioned c (now calendar) (now pairs) (now register) (now readings) (now engagements) × (settlementRefusal (bookIn c (now calendar) (now pairs) (now register) (now readings) (now engagements)) ≡ none) × (monthQuarters c ≤ length (now sums)) ⌝ }
     ensures { λ r. ⌜ now (sums .exit) ≡ sheet (bookIn c (now (calendar .entry)) (now (pairs .entry)) (now (register .entry)) (now (readings .entry)) (now (engagements .entry))) party ++ drop (monthQuarters c) (now (sums .entry)) ⌝ }
 {
-    let cells = month_quarters(c);
+    let cells = crate::cells::month_quarters(c);
     crate::cells::clear(sums, cells);
     let n = engagements.len() / 16;
     let mut i = 0;
@@ -105,7 +87,7 @@ pub fn sheet_length(book: &[u8]) -> usize
     requires { ⌜ refusalOf (now book) ≡ none ⌝ }
     ensures { λ r. ⌜ r ≡ monthQuarters (bookOf (now (book .entry)) .calendar) ⌝ }
 {
-    month_quarters(book::header::calendar_of(book))
+    crate::cells::month_quarters(book::header::calendar_of(book))
 }
 
 // Fills the sheet of a party, of a book that refusals 1 to 9 pass; what stands behind it is left.

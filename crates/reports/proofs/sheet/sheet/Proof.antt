@@ -12,7 +12,7 @@ use Rattle.volumes.specs.Settlement.{bookRefusal}
 use Rattle.volumes.specs.SettlementLaws.{passing}
 use Rattle.volumes.specs.Sheets.{parties}
 use Rattle.settlement.specs.Verdicts.{refusalIn}
-use Rattle.sheets.specs.Parties.{partiesIn, stands as standsIn}
+use Rattle.sheets.specs.Parties.{partiesIn}
 use Rattle.reports.specs.Calls.{stands}
 use Rattle.reports.specs.SheetLaws.{stands-in, sheet-refused, sheet-stranger, sheet-short, sheet-filled}
 use Rattle.reports.proofs.sheet.sheet.Statement.{statement}
@@ -52,7 +52,7 @@ column : (c : tie.After-is-party) → let a = c .before .before .before .before 
 column c =
     let a = c .before .before .before .before .before .before .args in
     c .is-party .ensures
-    ∙ ap (λ (register : List ℕ). standsIn (a .party) (partiesIn register)) (c .before .section .ensures)
+    ∙ ap (λ (register : List ℕ). stands (a .party) (partiesIn register)) (c .before .section .ensures)
     ∙ stands-in (a .book .now) (a .party) (sound (c .before .before))
 
 returns-2 : tie.Need-returns-2

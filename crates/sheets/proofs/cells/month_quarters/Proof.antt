@@ -7,8 +7,8 @@ use Rattle.book.specs.Calendars.{daysOf}
 use Rattle.book.specs.CalendarsLaws.{days-few}
 use Rattle.volumes.specs.Quarters.{monthQuarters}
 use Rattle.volumes.specs.QuartersLaws.{day-start-mono}
-use Rattle.sheets.proofs.fill.month_quarters.Statement.{statement}
-use Rattle.sheets.proofs.fill.month_quarters.Tie as tie
+use Rattle.sheets.proofs.cells.month_quarters.Statement.{statement}
+use Rattle.sheets.proofs.cells.month_quarters.Tie as tie
 
 quarters-of-requires : tie.Need-quarters-of-requires
 quarters-of-requires c κs = search needs

@@ -3,8 +3,8 @@ use borrow.Author.Needs.{needs}
 use native.Mathlib.Omega.{arith}
 use Rattle.volumes.specs.Quarters.{position}
 use Rattle.volumes.specs.QuartersLaws.{day-start-mono}
-use Rattle.sheets.proofs.fill.first_cell.Statement.{statement}
-use Rattle.sheets.proofs.fill.first_cell.Tie as tie
+use Rattle.sheets.proofs.cells.first_cell.Statement.{statement}
+use Rattle.sheets.proofs.cells.first_cell.Tie as tie
 
 start-of-requires : tie.Need-start-of-requires
 start-of-requires c κs = search needs
