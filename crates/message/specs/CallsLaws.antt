@@ -19,7 +19,7 @@ use Rattle.message.specs.declared.ReadAnswer.the-variants.{File, Refused
 use Rattle.message.specs.Bytes.{opening, element, closing, root, counter, partnerBytes, fileBytes}
 use Rattle.message.specs.Rows.{numbers, partnersOf, Message, contents}
 use Rattle.message.specs.FileLaws.{messageBytes, readMessage}
-use Rattle.message.specs.Calls.{accepted, unless, over, afterwards, kindNumbered, kindNumber, idPlace, momentPlace, factsOf, readVerdict, readSays, messageNumbers, ReadCalled}
+use Rattle.message.specs.Calls.{Verdict, accepted, refused, unless, over, afterwards, kindNumbered, kindNumber, idPlace, momentPlace, factsOf, readVerdict, readSays, messageNumbers, ReadCalled}
 
 -- ---- kinds by their numbers
 
@@ -37,22 +37,40 @@ over-first new old n e = take-at new (drop (length new) old) n e
 
 -- ---- from what is known to the record
 
-module _ (file before : List ℕ) where
+-- what a reading answers where so many numbers are lent
+abbrev pub judged : List ℕ → ℕ → ReadAnswer
+judged file lent = readSays (readVerdict (readMessage file) lent)
+
+module _ (file : List ℕ) (lent : ℕ) where
   -- 13
-  pub called-no-file : readMessage file ≡ bad → ReadCalled file before before (Refused 13 0)
-  unfolding readVerdict readSays afterwards
-  called-no-file e = record { answer = rw e; rows = rw e }
+  pub says-no-file : readMessage file ≡ bad → Refused 13 0 ≡ judged file lent
+  unfolding readVerdict readSays
+  says-no-file e = rw e
 
   module _ (m : Message) (rest : List ℕ) (e : readMessage file ≡ got m rest) where
     -- 10
-    pub called-short : length before < 6 * length (m .rows) → ReadCalled file before before (Refused 10 0)
-    unfolding readVerdict readSays afterwards
-    called-short h = let f = lt-leb (6 * length (m .rows)) (length before) h in record { answer = rw (e, f); rows = rw (e, f) }
+    pub says-short : lent < 6 * length (m .rows) → Refused 10 0 ≡ judged file lent
+    unfolding readVerdict readSays
+    says-short h = rw (e, lt-leb (6 * length (m .rows)) lent h)
 
     -- what the file says
-    pub called-file : 6 * length (m .rows) ≤ length before → ReadCalled file before (over (numbers (m .rows)) before) (File (factsOf m))
-    unfolding readVerdict readSays afterwards
-    called-file h = let f = le-leb (6 * length (m .rows)) (length before) h in record { answer = rw (e, f); rows = rw (e, f) }
+    pub says-file : 6 * length (m .rows) ≤ lent → File (factsOf m) ≡ judged file lent
+    unfolding readVerdict readSays
+    says-file h = rw (e, le-leb (6 * length (m .rows)) lent h)
+
+module _ (file before : List ℕ) where
+  -- a refusal leaves the rows
+  kept-rows : (number item : ℕ) (v : Verdict Message) → Refused number item ≡ readSays v → before ≡ afterwards messageNumbers v before
+  unfolding readSays afterwards
+  kept-rows number item (accepted m) e = let z : _≡_ {A = ℕ} 0 1 = cc in absurd (omega arith)
+  kept-rows number item (refused n i) e = refl
+
+  pub called-refused : (number item : ℕ) → Refused number item ≡ judged file (length before) → ReadCalled file before before (Refused number item)
+  called-refused number item e = record { answer = e; rows = kept-rows number item (readVerdict (readMessage file) (length before)) e }
+
+  pub called-file : (m : Message) (rest : List ℕ) → readMessage file ≡ got m rest → 6 * length (m .rows) ≤ length before → ReadCalled file before (over (numbers (m .rows)) before) (File (factsOf m))
+  unfolding readVerdict readSays afterwards
+  called-file m rest e h = let f = le-leb (6 * length (m .rows)) (length before) h in record { answer = rw (e, f); rows = rw (e, f) }
 
 -- ---- from the record to what was read
 

@@ -7,8 +7,8 @@ use lib.Seq.{drop-cons}
 use native.Mathlib.Omega.{arith}
 use native.Mathlib.Nat.{zero-add}
 use Rattle.text.specs.Written.{written}
-use Rattle.formats.specs.Format.{got, bad, readAll}
-use Rattle.formats.specs.FormatLaws.{sound-of}
+use Rattle.formats.specs.Format.{Res, got, bad, readAll}
+use Rattle.formats.specs.FormatLaws.{got-bad, sound-of}
 use Rattle.formats.specs.Combine.{mapParse}
 use Rattle.formats.specs.Place.{Parsed}
 use Rattle.formats.specs.declared.Mark.the-variants.{At, No}
@@ -19,10 +19,10 @@ use Rattle.message.specs.Bytes.{opening, ending, closing, root}
 use Rattle.message.specs.Valid.{IsFile}
 use Rattle.message.specs.FileForm.{Parts, fileOf, fileBody, file}
 use Rattle.message.specs.MessageForm.{messageForm}
-use Rattle.message.specs.Rows.{rowsOf, numbers, Message, message}
+use Rattle.message.specs.Rows.{rowsOf, Message, message}
 use Rattle.message.specs.FileLaws.{readMessage}
-use Rattle.message.specs.Calls.{over, idPlace, momentPlace, factsOf, ReadCalled}
-use Rattle.message.specs.CallsLaws.{called-no-file, called-short, called-file}
+use Rattle.message.specs.Calls.{over, idPlace, momentPlace, factsOf}
+use Rattle.message.specs.CallsLaws.{judged, says-no-file, says-short, says-file}
 use Rattle.reader.specs.ReaderItems.{folded}
 use Rattle.reader.specs.ReaderPartners.{adding}
 use Rattle.reader.specs.ReaderFile.{partners-rows, partners-month}
@@ -46,22 +46,17 @@ module _ (s : List ℕ) where
   unfolding readAll messageForm file mapParse
   bytes-left p x r e = rw e
 
--- a write from the first place on
-written-over : (d bs : List ℕ) → written d 0 bs ≡ over bs d
-unfolding written over
-written-over d bs = rw (zero-add (length bs))
-
 -- ---- 13
 
-module _ (s before : List ℕ) (p : Parts) where
-  pub judged-none : Parsed (fileBody .parse) s (At 0) No p → ReadCalled s before before (Refused 13 0)
-  judged-none h = called-no-file s before (no-body s (h .run .run))
+module _ (s : List ℕ) (lent : ℕ) (p : Parts) where
+  pub judged-none : Parsed (fileBody .parse) s (At 0) No p → Refused 13 0 ≡ judged s lent
+  judged-none h = says-no-file s lent (no-body s (h .run .run))
 
   -- bytes are left behind the file
-  pub judged-left : (q : ℕ) → Parsed (fileBody .parse) s (At 0) (At q) p → (q ≡ length s → ⊥) → ReadCalled s before before (Refused 13 0)
+  pub judged-left : (q : ℕ) → Parsed (fileBody .parse) s (At 0) (At q) p → (q ≡ length s → ⊥) → Refused 13 0 ≡ judged s lent
   judged-left q h n =
       let k : q < length s = omega (arith, h .within, n) in
-      called-no-file s before (bytes-left s p (getD s q 0) (drop (suc q) s) (h .run .run ∙ ap (got p) (drop-cons s q 0 k)))
+      says-no-file s lent (bytes-left s p (getD s q 0) (drop (suc q) s) (h .run .run ∙ ap (got p) (drop-cons s q 0 k)))
 
 -- ---- a file
 
@@ -79,13 +74,13 @@ module _ (s : List ℕ) (q : ℕ) (k : Kind) (id moment : List ℕ) (receiver co
   message-read : readMessage s ≡ got judgedMessage []
   message-read = whole-file s parts body-read
 
-  module _ (before : List ℕ) (t : (ℕ × ℕ) × ℕ) (is : folded adding ((0, 0), 0) partners ≡ t) where
+  module _ (lent : ℕ) (t : (ℕ × ℕ) × ℕ) (is : folded adding ((0, 0), 0) partners ≡ t) where
     row-count : length (rowsOf partners) ≡ t .1
     row-count = omega (arith, partners-rows ((0, 0), 0) partners, ap (λ (x : (ℕ × ℕ) × ℕ). x .1) is)
 
-    pub judged-short : length before < 6 * t .1 → ReadCalled s before before (Refused 10 0)
+    pub judged-short : lent < 6 * t .1 → Refused 10 0 ≡ judged s lent
     unfolding message fileOf
-    judged-short l = called-short s before judgedMessage [] message-read (omega (arith, row-count))
+    judged-short l = says-short s lent judgedMessage [] message-read (omega (arith, row-count))
 
     judged-facts : (i n p : ℕ) → i ≡ idPlace k → n ≡ length id → p ≡ momentPlace k id
         → factsOf judgedMessage ≡ record { kind = k; receiver = receiver; year = t .0 .0; month = t .0 .1; rows = t .1; id = i; «id_length» = n; moment = p }
@@ -103,12 +98,36 @@ module _ (s : List ℕ) (q : ℕ) (k : Kind) (id moment : List ℕ) (receiver co
           moment = sym c j;
         }
 
-    pub judged-file : (i n p : ℕ) → i ≡ idPlace k → n ≡ length id → p ≡ momentPlace k id → (after : List ℕ) → 6 * t .1 ≤ length before → after ≡ written before 0 (numbers (rowsOf partners))
-        → ReadCalled s before after (File (record { kind = k; receiver = receiver; year = t .0 .0; month = t .0 .1; rows = t .1; id = i; «id_length» = n; moment = p }))
+    pub judged-file : (i n p : ℕ) → i ≡ idPlace k → n ≡ length id → p ≡ momentPlace k id → 6 * t .1 ≤ lent
+        → File (record { kind = k; receiver = receiver; year = t .0 .0; month = t .0 .1; rows = t .1; id = i; «id_length» = n; moment = p }) ≡ judged s lent
     unfolding message fileOf
-    judged-file i n p a b c after l w =
-        let r = called-file s before judgedMessage [] message-read (omega (arith, row-count)) in
-        record { answer = sym (ap File (judged-facts i n p a b c)) ∙ r .answer; rows = w ∙ written-over before (numbers (rowsOf partners)) ∙ r .rows }
+    judged-file i n p a b c l = sym (ap File (judged-facts i n p a b c)) ∙ says-file s lent judgedMessage [] message-read (omega (arith, row-count))
+
+-- ---- the rows of what was judged a file
+
+-- the parts behind a file's reading
+pub record Read (s : List ℕ) (m : Message) : Type 0 where
+  pub parts : Parts
+  pub rest : List ℕ
+  pub parsed : fileBody .parse s ≡ got parts rest
+  pub rows : rowsOf (parts .1 .1 .1 .1 .1) ≡ m .rows
+
+same-rows : (p : Parts) (m : Message) (a b : List ℕ) → got (message (fileOf p)) a ≡ got m b → rowsOf (p .1 .1 .1 .1 .1) ≡ m .rows
+unfolding message fileOf
+same-rows p m a b e = let f : message (fileOf p) ≡ m = cc in ap (λ (x : Message). x .rows) f
+
+pub parts-read : (s : List ℕ) (m : Message) (r : List ℕ) → readMessage s ≡ got m r → Read s m
+parts-read s m r e = go (fileBody .parse s) refl
+  where
+    go : (x : Res Parts) → fileBody .parse s ≡ x → Read s m
+    go bad f = absurd (got-bad (sym e ∙ no-body s f))
+    go (got p []) f = record { parts = p; rest = []; parsed = f; rows = same-rows p m [] r (sym (whole-file s p f) ∙ e) }
+    go (got p (x ∷ l)) f = absurd (got-bad (sym e ∙ bytes-left s p x l f))
+
+-- a write from the first place on
+pub written-over : (d bs : List ℕ) → written d 0 bs ≡ over bs d
+unfolding written over
+written-over d bs = rw (zero-add (length bs))
 
 -- ---- the places, one from the other
 

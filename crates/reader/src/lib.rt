@@ -9,7 +9,8 @@ use message::FileFacts;
 use message::ReadAnswer;
 ghost use mathlib.Core.Path.{_≡_};
 ghost use Prim.Native.Nat.{_+_, _-_};
-ghost use Rattle.message.specs.Calls.{ReadCalled};
+ghost use Rattle.message.specs.FileLaws.{readMessage};
+ghost use Rattle.message.specs.Calls.{readVerdict, readSays, ReadCalled};
 ghost use Rattle.reader.specs.ReaderFacts.{placeOf, factsRead};
 
 // A place, or 0 where there is none.
@@ -56,9 +57,9 @@ fn facts(j: FileRead) -> FileFacts
     }
 }
 
-// A file is read: judged with no rows at hand, then read again into the lent rows.
-pub fn read(file: &[u8], rows: &mut [u64]) -> ReadAnswer
-    ensures { λ r. ⌜ ReadCalled (now (file .entry)) (now (rows .entry)) (now (rows .exit)) r ⌝ }
+// What reading a file answers where so many numbers of rows are lent; none is at hand.
+pub fn judge(file: &[u8], lent: usize) -> ReadAnswer
+    ensures { λ r. ⌜ r ≡ readSays (readVerdict (readMessage (now (file .entry))) lent) ⌝ }
 {
     let mut none = [0u64; 1];
     let j = crate::file::file_read(file, &mut none);
@@ -70,10 +71,21 @@ pub fn read(file: &[u8], rows: &mut [u64]) -> ReadAnswer
         return ReadAnswer::Refused(13, 0);
     }
     let count = j.rows as usize;
-    if rows.len() / 6 < count {
+    if lent / 6 < count {
         return ReadAnswer::Refused(10, 0);
     }
-    crate::file::file_read(file, rows);
     let said = facts(j);
+    ReadAnswer::File(said)
+}
+
+// A file is read: judged first, then read again into the lent rows.
+pub fn read(file: &[u8], rows: &mut [u64]) -> ReadAnswer
+    ensures { λ r. ⌜ ReadCalled (now (file .entry)) (now (rows .entry)) (now (rows .exit)) r ⌝ }
+{
+    let answer = judge(file, rows.len());
+    let ReadAnswer::File(said) = answer else {
+        return answer;
+    };
+    crate::file::file_read(file, rows);
     ReadAnswer::File(said)
 }

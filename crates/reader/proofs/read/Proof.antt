@@ -1,66 +1,46 @@
--- What the first reading said judges the file; the second fills the rows of the same parts.
-use Rattle.reader.specs.ReaderFacts.{read-none, read-left, read-short, read-file}
+-- A refusal leaves the rows; what was judged a file fills them in its second reading.
+use mathlib.Core.Path.{sym, _∙_}
+use Rattle.message.specs.CallsLaws.{called-refused}
+use Rattle.reader.specs.ReaderFacts.{read-filled}
 use borrow.Author.Needs.{needs}
 use Rattle.reader.proofs.read.Statement.{statement}
 use Rattle.reader.proofs.read.Tie as tie
 
-slice-aggregate-file-read : tie.Need-slice-aggregate-file-read
-slice-aggregate-file-read c = search needs
+judge-requires : tie.Need-judge-requires
+judge-requires c κs = search needs
 
-file-read-requires : tie.Need-file-read-requires
-file-read-requires c κs = search needs
-
-enum-known-next : tie.Need-enum-known-next
-enum-known-next c = search needs
+enum-known-answer : tie.Need-enum-known-answer
+enum-known-answer c = search needs
 
 enum-told : tie.Need-enum-told
 enum-told c = search needs
 
 returns : tie.Need-returns
 returns c =
-    let a = c .before .before .before .before .before .before .before .args in
-    read-none (a .file .now) (a .rows .now) (c .before .before .before .file-read .ensures .0) (c .enum-told .given .1)
+    let a = c .before .before .before .before .before .args in
+    let r = c .enum-told .given in
+    rw (r .1) (called-refused (a .file .now) (a .rows .now) (r .0 .0) (r .0 .1 .0) (sym (r .1) ∙ c .before .before .judge .ensures))
 
-returns-2 : tie.Need-returns-2
-returns-2 c =
-    let a = c .before .before .before .before .before .before .before .before .before .args in
-    let q = c .before .before .next .given in
-    read-left (a .file .now) (a .rows .now) (c .before .before .before .before .before .file-read .ensures .0) (q .0 .0) (q .1) (search needs)
-
-returns-3 : tie.Need-returns-3
-returns-3 c =
-    let a = c .before .before .before .before .before .before .before .before .before .before .args in
-    let q = c .before .before .before .next .given in
-    read-short (a .file .now) (a .rows .now) (c .before .before .before .before .before .before .file-read .ensures .0) (q .0 .0) (q .1) (search needs) (search needs)
-
-file-read-requires-2 : tie.Need-file-read-requires-2
-file-read-requires-2 c κs = search needs
-
-facts-requires : tie.Need-facts-requires
-facts-requires c κs = search needs
+file-read-requires : tie.Need-file-read-requires
+file-read-requires c κs = search needs
 
 same-length : tie.Need-same-length
 same-length c = search needs
 
-returns-4 : tie.Need-returns-4
-returns-4 c =
-    let a = c .before .before .before .before .before .before .before .before .before .before .before .before .before .before .before .args in
-    let q = c .before .before .before .before .before .before .before .before .next .given in
-    rw (c .facts .ensures)
-    (read-file (a .file .now) (a .rows .now) (c .before .before .before .before .before .before .before .before .before .before .before .file-read .ensures .0) (q .0 .0) (q .1) (search needs) (search needs) _ (c .before .before .before .file-read2 .ensures .1))
+returns-2 : tie.Need-returns-2
+returns-2 c =
+    let a = c .before .before .before .before .before .before .before .before .before .before .args in
+    let f = c .before .before .before .before .before .answer .given in
+    read-filled (a .file .now) (a .rows .now) _ (f .0 .0) (sym (f .1) ∙ c .before .before .before .before .before .before .before .judge .ensures) (c .before .before .file-read .ensures .1)
 
 pub read-spec : {M : Type 1} → statement M
 read-spec =
     tie.close
     (tie.spec
-    slice-aggregate-file-read
-    file-read-requires
-    enum-known-next
+    judge-requires
+    enum-known-answer
     enum-told
     returns
-    returns-2
-    returns-3
-    file-read-requires-2
-    facts-requires
+    file-read-requires
     same-length
-    returns-4)
+    returns-2)
