@@ -83,25 +83,43 @@ fn joins(
     follows(seen_year, seen_month, year, month)
 }
 
-// The next series of a partner: from place `low` on, of the month that was seen.
-fn next_series(
-    s: &[u8],
-    m: Mark,
-    kind: Kind,
-    partner: u64,
+// A partner up to its series: its number, in TOE03 its supply direction, how many series follow, and their place.
+struct Head {
+    number: u64,
     supply: u64,
-    low: u64,
-    year: u64,
-    month: u64,
-    rows: u64,
-    out: &mut [u64],
-) -> Series
-    requires { ⌜ Within (now s) m × (supply ≤ 1) ⌝ }
-    ensures { λ r. ⌜ Parsed (mapParse outline (item kind supply (low, (year, month)) .parse)) (now (s .entry)) m (r .next) ((r .supply, r .delivery), ((r .year, r .month), r .rows)) × Fills (item kind supply (low, (year, month)) .parse) (rowsOfSeries partner) (now (s .entry)) m rows (now (out .entry)) (now (out .exit)) ⌝ }
+    count: u64,
+    next: Mark,
+}
+
+// The month of the series that were read and the number of their rows, and the place behind them.
+pub struct Tally {
+    pub year: u64,
+    pub month: u64,
+    pub rows: u64,
+    pub next: Mark,
+}
+
+// The tally of these.
+fn tallied(year: u64, month: u64, rows: u64, next: Mark) -> Tally
+    ensures { λ r. ⌜ r ≡ record { year = year; month = month; rows = rows; next = next } ⌝ }
 {
-    let x = series(s, m, kind, partner, supply, rows, out);
+    Tally {
+        year,
+        month,
+        rows,
+        next,
+    }
+}
+
+// The next series of a partner: from place `low` on, behind the series that t tells of.
+fn next_series(s: &[u8], kind: Kind, h: Head, low: u64, t: Tally, out: &mut [u64]) -> Series
+    requires { ⌜ Within (now s) (t .next) × (h .supply ≤ 1) ⌝ }
+    ensures { λ r. ⌜ Parsed (mapParse outline (item kind (h .supply) (low, (t .year, t .month)) .parse)) (now (s .entry)) (t .next) (r .next) ((r .supply, r .delivery), ((r .year, r .month), r .rows)) × Fills (item kind (h .supply) (low, (t .year, t .month)) .parse) (rowsOfSeries (h .number)) (now (s .entry)) (t .next) (t .rows) (now (out .entry)) (now (out .exit)) ⌝ }
+{
+    let m = t.next;
+    let x = series(s, m, kind, h.number, h.supply, t.rows, out);
     let a = x.next;
-    let good = joins(x.supply, x.delivery, x.year, x.month, low, year, month);
+    let good = joins(x.supply, x.delivery, x.year, x.month, low, t.year, t.month);
     let next = crate::elements::kept(a, good);
     Series {
         supply: x.supply,
@@ -113,38 +131,24 @@ fn next_series(
     }
 }
 
-// The month of the series that were read and the number of their rows, and the place behind them.
-pub struct Tally {
-    pub year: u64,
-    pub month: u64,
-    pub rows: u64,
-    pub next: Mark,
-}
-
-// n series of a partner, behind so many rows and the month that was seen.
+// The series of a partner behind its head, behind so many rows and the month that was seen.
 fn series_list(
     s: &[u8],
-    m: Mark,
     kind: Kind,
-    partner: u64,
-    supply: u64,
-    n: u64,
+    h: Head,
     year: u64,
     month: u64,
     rows: u64,
     out: &mut [u64],
 ) -> Tally
-    requires { ⌜ Within (now s) m × (supply ≤ 1) × Room m rows ⌝ }
-    ensures { λ r. ⌜ Parsed (mapParse (folded counting ((year, month), rows)) (listForm kind supply n (year, month) .parse)) (now (s .entry)) m (r .next) ((r .year, r .month), r .rows) × Room (r .next) (r .rows) × Fills (listForm kind supply n (year, month) .parse) (flatMap (rowsOfSeries partner)) (now (s .entry)) m rows (now (out .entry)) (now (out .exit)) ⌝ }
+    requires { ⌜ Within (now s) (h .next) × (h .supply ≤ 1) × Room (h .next) rows ⌝ }
+    ensures { λ r. ⌜ Parsed (mapParse (folded counting ((year, month), rows)) (listForm kind (h .supply) (h .count) (year, month) .parse)) (now (s .entry)) (h .next) (r .next) ((r .year, r .month), r .rows) × Room (r .next) (r .rows) × Fills (listForm kind (h .supply) (h .count) (year, month) .parse) (flatMap (rowsOfSeries (h .number))) (now (s .entry)) (h .next) rows (now (out .entry)) (now (out .exit)) ⌝ }
 {
+    let m = h.next;
     let Mark::At(start) = m else {
-        return Tally {
-            year,
-            month,
-            rows,
-            next: Mark::No,
-        };
+        return tallied(year, month, rows, Mark::No);
     };
+    let n = h.count;
     let mut at = start;
     let mut low: u64 = 0;
     let mut seen_year = year;
@@ -152,26 +156,11 @@ fn series_list(
     let mut count = rows;
     let mut i: u64 = 0;
     while i < n {
-        let o = next_series(
-            s,
-            Mark::At(at),
-            kind,
-            partner,
-            supply,
-            low,
-            seen_year,
-            seen_month,
-            count,
-            out,
-        );
+        let t = tallied(seen_year, seen_month, count, Mark::At(at));
+        let o = next_series(s, kind, h, low, t, out);
         let next = o.next;
         let Mark::At(q) = next else {
-            return Tally {
-                year,
-                month,
-                rows,
-                next: Mark::No,
-            };
+            return tallied(year, month, rows, Mark::No);
         };
         at = q;
         low = o.supply * 2 + o.delivery + 1;
@@ -180,20 +169,7 @@ fn series_list(
         count += o.rows;
         i += 1;
     }
-    Tally {
-        year: seen_year,
-        month: seen_month,
-        rows: count,
-        next: Mark::At(at),
-    }
-}
-
-// A partner up to its series: its number, in TOE03 its supply direction, how many series follow, and their place.
-struct Head {
-    number: u64,
-    supply: u64,
-    count: u64,
-    next: Mark,
+    tallied(seen_year, seen_month, count, Mark::At(at))
 }
 
 // The head of a supplier or an FSP, by the tags before and behind its number.
@@ -301,18 +277,7 @@ fn partner(
             next: Mark::No,
         };
     };
-    let t = series_list(
-        s,
-        a,
-        kind,
-        h.number,
-        h.supply,
-        h.count,
-        year,
-        month,
-        rows,
-        out,
-    );
+    let t = series_list(s, kind, h, year, month, rows, out);
     let b = t.next;
     let next = group_end(s, b, kind);
     PartnerRead {
@@ -358,12 +323,7 @@ fn partners(s: &[u8], m: Mark, kind: Kind, n: u64, out: &mut [u64]) -> Tally
     ensures { λ r. ⌜ Parsed (mapParse (folded adding ((0, 0), 0)) (partnersForm kind n .parse)) (now (s .entry)) m (r .next) ((r .year, r .month), r .rows) × Room (r .next) (r .rows) × Fills (partnersForm kind n .parse) (flatMap rowsOfPartner) (now (s .entry)) m 0 (now (out .entry)) (now (out .exit)) ⌝ }
 {
     let Mark::At(start) = m else {
-        return Tally {
-            year: 0,
-            month: 0,
-            rows: 0,
-            next: Mark::No,
-        };
+        return tallied(0, 0, 0, Mark::No);
     };
     let mut at = start;
     let mut low: u64 = 0;
@@ -375,12 +335,7 @@ fn partners(s: &[u8], m: Mark, kind: Kind, n: u64, out: &mut [u64]) -> Tally
         let p = next_partner(s, Mark::At(at), kind, low, year, month, rows, out);
         let next = p.next;
         let Mark::At(q) = next else {
-            return Tally {
-                year: 0,
-                month: 0,
-                rows: 0,
-                next: Mark::No,
-            };
+            return tallied(0, 0, 0, Mark::No);
         };
         at = q;
         low = p.number + 1;
@@ -389,12 +344,7 @@ fn partners(s: &[u8], m: Mark, kind: Kind, n: u64, out: &mut [u64]) -> Tally
         rows = p.rows;
         i += 1;
     }
-    Tally {
-        year,
-        month,
-        rows,
-        next: Mark::At(at),
-    }
+    tallied(year, month, rows, Mark::At(at))
 }
 
 // A kind that was read, and the place behind it.
