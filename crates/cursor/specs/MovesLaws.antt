@@ -1,5 +1,5 @@
 -- The cursor's moves against a reading at a place (`Parsed`): each is the other.
-use mathlib.Core.Path.{_≡_, refl, sym, ap, _∙_}
+use mathlib.Core.Path.{_≡_, refl, sym, ap}
 use mathlib.Core.Bool.{Bool, true, false, _&&_}
 use mathlib.Core.List.{List, [], _∷_}
 use Prim.Native.Nat.{ℕ, _-_, _≤_, _<_}
@@ -9,7 +9,7 @@ use native.Mathlib.Omega.{arith}
 use borrow.Author.Tests.{le-leb, lt-leb, leb-true}
 use Rattle.formats.specs.declared.Mark.{Mark}
 use Rattle.formats.specs.declared.Mark.the-variants.{At, No}
-use Rattle.formats.specs.Format.{Res, got, bad, bind}
+use Rattle.formats.specs.Format.{Res, bad, bind}
 use Rattle.formats.specs.Combine.{strip}
 use Rattle.formats.specs.Words.{wordsParse}
 use Rattle.formats.specs.Exactly.{fixedDigits}
@@ -17,7 +17,6 @@ use Rattle.formats.specs.Numbers.{numberParse}
 use Rattle.formats.specs.Name.{nameByte, nameParse}
 use Rattle.formats.specs.Place.{Within, Parsed, placed}
 use Rattle.cursor.specs.declared.Cursor.{Cursor}
-use Rattle.cursor.specs.declared.Read.{Read}
 use Rattle.cursor.specs.Moves.{cursorAt, readOf, markIf, standing, behind, taken, readAt, pastTag, pastNumber, pastFixed, pastWord, pastName}
 
 back : (s : List ℕ) (q : ℕ) → q ≤ length s → length s - length (drop q s) ≡ q

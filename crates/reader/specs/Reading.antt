@@ -35,10 +35,6 @@ abbrev pub keep : Bool → Mark → Mark
 keep true m = m
 keep false m = No
 
-pub within-keep : (s : List ℕ) (t : Bool) (m : Mark) → Within s m → Within s (keep t m)
-within-keep s true m h = h
-within-keep s false m h = tt
-
 -- an observation of the month, from position low on
 abbrev pub inOrder : ℕ → ℕ → ℕ × ℕ → Bool
 inOrder low last p = observable last p && leb low (p .0)

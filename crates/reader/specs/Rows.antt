@@ -5,6 +5,7 @@ use Rattle.text.specs.Ascii.{bytes}
 use Rattle.cursor.specs.declared.Cursor.{Cursor}
 use Rattle.cursor.specs.Moves.{pastTag, pastNumber, pastFixed, pastWord, pastName}
 use Rattle.reader.specs.declared.rows.ObservationRow.{ObservationRow}
+use Rattle.reader.specs.declared.rows.WordRow.{WordRow}
 use Rattle.reader.specs.declared.rows.PeriodRow.{PeriodRow}
 use Rattle.reader.specs.declared.rows.VolumeRow.{VolumeRow}
 use Rattle.reader.specs.declared.rows.SupplyRow.{SupplyRow}
@@ -56,6 +57,9 @@ module _ (s : List ℕ) (c : Cursor) where
   module _ (t u : List ℕ) where
     abbrev pub behindRow : Cursor
     behindRow = pastTag s (bytes "</PeriodEnd><PeriodResolution>PT15M</PeriodResolution>") (pastTag s u (pastTag s (bytes "</PeriodStart><PeriodEnd>") (pastTag s t c)))
+
+    abbrev pub wordRow : WordRow
+    wordRow = let x = pastWord s t u c in record { value = x .value; to = x .to }
 
     abbrev pub companyRow : CompanyRow
     companyRow =

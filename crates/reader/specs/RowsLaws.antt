@@ -1,7 +1,7 @@
 -- The rows of calls as readings at places (`Parsed`): each move is one, from where the cursor stood to where it then stands.
 use mathlib.Core.Path.{_≡_, refl, ap, subst, _∙_}
 use mathlib.Core.Bool.{Bool, true, false}
-use mathlib.Core.List.{List, _++_}
+use mathlib.Core.List.{List, [], _∷_, _++_}
 use Prim.Native.Nat.{ℕ, _+_, _*_, _≤_, _<_}
 use lib.ListN.{drop}
 use lib.Dec.{ltb}
@@ -23,6 +23,7 @@ use Rattle.message.specs.Bytes.{opening, ending, closing, element, counter, gro
 use Rattle.message.specs.declared.Kind.{Kind}
 use Rattle.message.specs.ObservationForm.{plainNumber, observationBody, behindMonth}
 use Rattle.reader.specs.declared.rows.ObservationRow.{ObservationRow}
+use Rattle.reader.specs.declared.rows.WordRow.{WordRow}
 use Rattle.reader.specs.declared.rows.PeriodRow.{PeriodRow}
 use Rattle.reader.specs.declared.rows.VolumeRow.{VolumeRow}
 use Rattle.reader.specs.declared.rows.SupplyRow.{SupplyRow}
@@ -30,7 +31,7 @@ use Rattle.reader.specs.declared.rows.CompanyRow.{CompanyRow}
 use Rattle.reader.specs.declared.rows.AccessRow.{AccessRow}
 use Rattle.reader.specs.declared.rows.MessageRow.{MessageRow}
 use Rattle.reader.specs.declared.rows.ReceiverRow.{ReceiverRow}
-use Rattle.reader.specs.Rows.{observationRow, behindRow, periodRow, volumeRow, supplyRow, companyRow, accessRow, messageRow, receiverRow}
+use Rattle.reader.specs.Rows.{wordRow, observationRow, behindRow, periodRow, volumeRow, supplyRow, companyRow, accessRow, messageRow, receiverRow}
 use Rattle.reader.specs.Reading.{keep, quantity-parsed, body-parsed, behind-parsed}
 use Rattle.reader.specs.ReaderPartner.{companyForm, accessForm, counter-parsed, company-parsed, access-parsed}
 
@@ -93,6 +94,12 @@ pub record ReceiverSteps (s : List ℕ) (m e : Mark) (k : Kind) (company n : ℕ
 module _ (s : List ℕ) (m : Mark) (h : Within s m) (c : Cursor) (e : c ≡ cursorAt m) where
   starts : {A : Type 0} {f : List ℕ → Res A} {r : Mark} {v : A} → Parsed f s (standing s c) r v → Parsed f s m r v
   starts {f = f} {r} {v} p = subst (λ (k : Mark). Parsed f s k r v) (ap (standing s) e ∙ stands-at s m h) p
+
+  pub tag-read : (t : List ℕ) (r : Cursor) → r ≡ pastTag s t c → (u : Mark) → u ≡ standing s r → Parsed (strip t) s m u tt
+  tag-read t r er u eu = rw (eu, er) (starts (tag-parsed s c t))
+
+  pub word-read : (v w : List ℕ) (r : WordRow) → r ≡ wordRow s c v w → (u : Mark) → u ≡ standing s (r .to) → Parsed (wordsParse (v ∷ w ∷ [])) s m u (r .value)
+  word-read v w r er u eu = rw (eu, er) (starts (word-parsed s c v w))
 
   pub observation-read : (r : ObservationRow) → r ≡ observationRow s c → (u : Mark) → u ≡ standing s (r .to) → Parsed (observationBody .parse) s m u (r .position, r .whole * 1000 + r .part)
   unfolding opening ending closing bytes

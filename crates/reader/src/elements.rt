@@ -1,14 +1,41 @@
 // The elements of a file from its observations up to its series, as the reader finds them.
 use formats::Mark;
+use formats::Val;
 ghost use mathlib.Core.Path.{_≡_};
-ghost use mathlib.Core.List.{flatMap};
+ghost use mathlib.Core.List.{[], _∷_, flatMap};
 ghost use Rattle.formats.specs.Place.{Within, Parsed};
 ghost use Rattle.formats.specs.Combine.{strip, mapParse};
+ghost use Rattle.formats.specs.Words.{wordsParse};
 ghost use Rattle.message.specs.ObservationForm.{observed, behindMonth, period};
 ghost use Rattle.message.specs.SeriesForm.{volumeBody, ofVolume};
 ghost use Rattle.message.specs.Valid.{IsPeriod};
 ghost use Rattle.reader.specs.Reading.{observing, inOrder, keep, Passed, observationsOf, VolumeRead, outline, ownParse, sharedParse};
 ghost use Rattle.reader.specs.Filling.{Fills, Stored, rowsOfObservation, rowsOfSeries};
+
+// A tag, from a place to the place behind it.
+pub fn tag(s: &[u8], m: Mark, t: &[u8]) -> Mark
+    requires { ⌜ Within (now s) m ⌝ }
+    ensures { λ r. ⌜ Parsed (strip (now (t .entry))) (now (s .entry)) m r tt ⌝ }
+{
+    let start = cursor::at_mark(m);
+    let to = crate::rows::tag(s, start, t);
+    cursor::place(to, s)
+}
+
+// One of two words, as 0 or 1.
+pub fn word(s: &[u8], m: Mark, v: &[u8], w: &[u8]) -> Val
+    requires { ⌜ Within (now s) m ⌝ }
+    ensures { λ r. ⌜ Parsed (wordsParse (now (v .entry) ∷ now (w .entry) ∷ [])) (now (s .entry)) m (r .next) (r .value) ⌝ }
+{
+    let start = cursor::at_mark(m);
+    let r = crate::rows::word(s, start, v, w);
+    let to = r.to;
+    let next = cursor::place(to, s);
+    Val {
+        value: r.value,
+        next,
+    }
+}
 
 // A mark where a test holds.
 pub fn kept(m: Mark, good: bool) -> Mark
@@ -186,7 +213,7 @@ fn volume(s: &[u8], m: Mark, partner: u64, supply: u64, rows: u64, out: &mut [u6
         delivery: x.delivery,
     };
     let g = observations(s, f, x.count, q.year, q.month, key, rows, out);
-    let h = formats::tag(s, g, b"</TimeSeriesPeriod>");
+    let h = tag(s, g, b"</TimeSeriesPeriod>");
     TimeSeries {
         delivery: x.delivery,
         year: q.year,
@@ -217,7 +244,7 @@ pub fn own_series(s: &[u8], m: Mark, partner: u64, rows: u64, out: &mut [u64]) -
     let c = cursor::place(to, s);
     let v = volume(s, c, partner, x.supply, rows, out);
     let d = v.next;
-    let e = formats::tag(s, d, b"</ToETimeSeries>");
+    let e = tag(s, d, b"</ToETimeSeries>");
     Series {
         supply: x.supply,
         delivery: v.delivery,
@@ -240,10 +267,10 @@ pub fn shared_series(
     requires { ⌜ Within (now s) m ⌝ }
     ensures { λ r. ⌜ Parsed (mapParse outline (sharedParse supply)) (now (s .entry)) m (r .next) ((r .supply, r .delivery), ((r .year, r .month), r .rows)) × Fills (sharedParse supply) (rowsOfSeries partner) (now (s .entry)) m rows (now (out .entry)) (now (out .exit)) ⌝ }
 {
-    let a = formats::tag(s, m, b"<ToETimeSeries>");
+    let a = tag(s, m, b"<ToETimeSeries>");
     let v = volume(s, a, partner, supply, rows, out);
     let b = v.next;
-    let c = formats::tag(s, b, b"</ToETimeSeries>");
+    let c = tag(s, b, b"</ToETimeSeries>");
     Series {
         supply,
         delivery: v.delivery,

@@ -238,9 +238,9 @@ fn group_end(s: &[u8], m: Mark, kind: Kind) -> Mark
     ensures { λ r. ⌜ Parsed (strip (closing (group kind))) (now (s .entry)) m r tt ⌝ }
 {
     match kind {
-        Kind::Toe01 => formats::tag(s, m, b"</SupplierSeries>"),
-        Kind::Toe02 => formats::tag(s, m, b"</FspSeries>"),
-        Kind::Toe03 => formats::tag(s, m, b"</SDPSupplySeries>"),
+        Kind::Toe01 => crate::elements::tag(s, m, b"</SupplierSeries>"),
+        Kind::Toe02 => crate::elements::tag(s, m, b"</FspSeries>"),
+        Kind::Toe03 => crate::elements::tag(s, m, b"</SDPSupplySeries>"),
     }
 }
 
@@ -365,14 +365,14 @@ fn file_root(s: &[u8], m: Mark) -> Root
     requires { ⌜ Within (now s) m ⌝ }
     ensures { λ r. ⌜ Parsed (kindForm .parse) (now (s .entry)) m (r .next) (r .kind) ⌝ }
 {
-    let a = formats::tag(s, m, b"<AggregatedToEVolumesForFSP>");
+    let a = crate::elements::tag(s, m, b"<AggregatedToEVolumesForFSP>");
     if let Mark::At(_) = a {
         return Root {
             kind: Kind::Toe01,
             next: a,
         };
     }
-    let w = formats::word(
+    let w = crate::elements::word(
         s,
         m,
         b"<AggregatedToEVolumesForSupplier>",
@@ -433,9 +433,9 @@ fn root_end(s: &[u8], m: Mark, kind: Kind) -> Mark
     ensures { λ r. ⌜ Parsed (strip (closing (root kind))) (now (s .entry)) m r tt ⌝ }
 {
     match kind {
-        Kind::Toe01 => formats::tag(s, m, b"</AggregatedToEVolumesForFSP>"),
-        Kind::Toe02 => formats::tag(s, m, b"</AggregatedToEVolumesForSupplier>"),
-        Kind::Toe03 => formats::tag(s, m, b"</IndividualToEVolumesForSupplier>"),
+        Kind::Toe01 => crate::elements::tag(s, m, b"</AggregatedToEVolumesForFSP>"),
+        Kind::Toe02 => crate::elements::tag(s, m, b"</AggregatedToEVolumesForSupplier>"),
+        Kind::Toe03 => crate::elements::tag(s, m, b"</IndividualToEVolumesForSupplier>"),
     }
 }
 

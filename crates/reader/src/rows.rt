@@ -1,7 +1,31 @@
 // The parts of a file that are read in a row: a cursor in a local is lent to one call after another.
 use cursor::Cursor;
 ghost use mathlib.Core.Path.{_≡_};
-ghost use Rattle.reader.specs.Rows.{observationRow, behindRow, periodRow, volumeRow, supplyRow, companyRow, accessRow, messageRow, receiverRow};
+ghost use Rattle.cursor.specs.Moves.{pastTag};
+ghost use Rattle.reader.specs.Rows.{wordRow, observationRow, behindRow, periodRow, volumeRow, supplyRow, companyRow, accessRow, messageRow, receiverRow};
+
+// A tag by itself.
+pub fn tag(s: &[u8], start: Cursor, t: &[u8]) -> Cursor
+    ensures { λ r. ⌜ r ≡ pastTag (now (s .entry)) (now (t .entry)) start ⌝ }
+{
+    let mut c = start;
+    cursor::past_tag(&mut c, s, t);
+    c
+}
+
+// One of two words, as 0 or 1.
+pub struct WordRow {
+    pub value: u64,
+    pub to: Cursor,
+}
+
+pub fn word(s: &[u8], start: Cursor, v: &[u8], w: &[u8]) -> WordRow
+    ensures { λ r. ⌜ r ≡ wordRow (now (s .entry)) start (now (v .entry)) (now (w .entry)) ⌝ }
+{
+    let mut c = start;
+    let value = cursor::past_word(&mut c, s, v, w);
+    WordRow { value, to: c }
+}
 
 // An observation's position and its kilowatts, whole and three decimals.
 pub struct ObservationRow {
