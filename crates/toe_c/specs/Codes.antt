@@ -3,6 +3,7 @@ use mathlib.Core.Path.{_≡_}
 use mathlib.Core.List.{List, [], _∷_}
 use Prim.Native.Nat.{ℕ, _+_, _*_, _^_}
 use lib.IntN.{ℤ}
+use lib.Dec.{leb}
 use lib.ListN.{length}
 use Rattle.book.specs.Book.{bookOf}
 use Rattle.message.specs.declared.FileFacts.{FileFacts}
@@ -12,7 +13,7 @@ use Rattle.message.specs.declared.WriteAnswer.{WriteAnswer}
 use Rattle.message.specs.declared.WriteAnswer.the-variants.{Bytes, Refused as WriteRefused}
 use Rattle.message.specs.Rows.{Message}
 use Rattle.message.specs.FileLaws.{readMessage}
-use Rattle.message.specs.Calls.{afterwards, kindNumbered, kindNumber, factsOf, readVerdict, readSays, messageNumbers, writeSays}
+use Rattle.message.specs.Calls.{Verdict, accepted, refused, unless, afterwards, kindNumbered, kindNumber, factsOf, readVerdict, readSays, messageNumbers, writeSays}
 use Rattle.writer.specs.WriteCalls.{writeVerdict}
 use Rattle.volumes.specs.Settlement.{rows, rowCount, settlingRefusal}
 use Rattle.settlement.specs.declared.settle.Settled.{Settled}
@@ -47,6 +48,11 @@ abbrev pub readCode : ReadAnswer → ℕ
 readCode (FileRead f) = f .rows
 readCode (ReadRefused number item) = refusalCode number item
 
+-- a reading that is lent too few facts
+abbrev pub shortCode : ReadAnswer → ℕ
+shortCode (FileRead f) = refusalCode 10 1
+shortCode (ReadRefused number item) = refusalCode number item
+
 abbrev pub writeCode : WriteAnswer → ℕ
 writeCode (Bytes count) = count
 writeCode (WriteRefused number item) = refusalCode number item
@@ -74,11 +80,19 @@ factNumbers f = kindNumber (f .kind) ∷ f .receiver ∷ f .year ∷ f .month �
 abbrev pub messageFacts : Message → List ℕ
 messageFacts m = factNumbers (factsOf m)
 
--- reading a file, given rows and room for eight facts, answers so and leaves both so
+-- at this boundary alone: facts for which fewer than eight numbers are lent are 10 with item 1, after 13 and 10 with item 0
+unfoldable pub withFacts : Verdict Message → ℕ → Verdict Message
+withFacts (accepted m) lent = unless (leb 8 lent) 10 1 (accepted m)
+withFacts (refused number item) lent = refused number item
+
+abbrev pub codedVerdict : List ℕ → ℕ → ℕ → Verdict Message
+codedVerdict file rowsLent factsLent = withFacts (readVerdict (readMessage file) rowsLent) factsLent
+
+-- reading a file, given rows and room for facts, answers so and leaves both so
 pub record ReadCoded (file rowsBefore rowsAfter factsBefore factsAfter : List ℕ) (code : ℕ) : Type 0 where
-  pub answered : code ≡ readCode (readSays (readVerdict (readMessage file) (length rowsBefore)))
-  pub rows : rowsAfter ≡ afterwards messageNumbers (readVerdict (readMessage file) (length rowsBefore)) rowsBefore
-  pub facts : factsAfter ≡ afterwards messageFacts (readVerdict (readMessage file) (length rowsBefore)) factsBefore
+  pub answered : code ≡ readCode (readSays (codedVerdict file (length rowsBefore) (length factsBefore)))
+  pub rows : rowsAfter ≡ afterwards messageNumbers (codedVerdict file (length rowsBefore) (length factsBefore)) rowsBefore
+  pub facts : factsAfter ≡ afterwards messageFacts (codedVerdict file (length rowsBefore) (length factsBefore)) factsBefore
 
 -- writing from rows, given a file's buffer, answers so and leaves the buffer so
 pub record WriteCoded (kind receiver year month : ℕ) (rows id moment before after : List ℕ) (code : ℕ) : Type 0 where

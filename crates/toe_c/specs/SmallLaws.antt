@@ -256,6 +256,8 @@ unfolding readSays
 read-said (accepted m) h = tt
 read-said (sent number item) h = h
 
+pub judged-small : (file : List ℕ) (lent : ℕ) {r : ReadAnswer} → r ≡ readSays (readVerdict (readMessage file) lent) → ReadSmall r
+judged-small file lent e = rw e (read-said (readVerdict (readMessage file) lent) (read-judged (readMessage file) lent))
+
 pub read-small : {file before after : List ℕ} {r : ReadAnswer} → ReadCalled file before after r → ReadSmall r
-read-small {file} {before} c =
-    rw (c .answer) (read-said (readVerdict (readMessage file) (length before)) (read-judged (readMessage file) (length before)))
+read-small {file} {before} c = judged-small file (length before) (c .answer)

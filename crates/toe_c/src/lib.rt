@@ -10,8 +10,8 @@ ghost use mathlib.Core.Path.{_≡_};
 ghost use Prim.Native.Nat.{_≤_};
 ghost use lib.ListN.{length};
 ghost use Rattle.message.specs.Calls.{over, kindNumber};
-ghost use Rattle.toe_c.specs.Codes.{refusalCode, settleCode, sheetCode, fileCode, writeCode, factNumbers, SettleCoded, SheetCoded, FileCoded, ReadCoded, WriteCoded};
-ghost use Rattle.toe_c.specs.Small.{Small, SettledSmall, SheetSmall, FiledSmall, WrittenSmall};
+ghost use Rattle.toe_c.specs.Codes.{refusalCode, settleCode, sheetCode, fileCode, shortCode, writeCode, factNumbers, SettleCoded, SheetCoded, FileCoded, ReadCoded, WriteCoded};
+ghost use Rattle.toe_c.specs.Small.{Small, SettledSmall, SheetSmall, FiledSmall, ReadSmall, WrittenSmall};
 
 // A refusal as one number.
 fn refusal_code(number: u64, item: usize) -> u64
@@ -119,11 +119,26 @@ fn put_facts(f: FileFacts, facts: &mut [u64])
     facts[7] = 29;
 }
 
+// What a reading answers that is lent fewer than eight facts: 13 and 10 with item 0 come first.
+fn short_facts(answer: ReadAnswer) -> u64
+    requires { ⌜ ReadSmall answer ⌝ }
+    ensures { λ r. ⌜ r ≡ shortCode answer ⌝ }
+{
+    match answer {
+        ReadAnswer::File(_) => refusal_code(10, 1),
+        ReadAnswer::Refused(number, item) => refusal_code(number as u64, item),
+    }
+}
+
 // Reads a file into rows of six numbers, and what it says beside them into `facts`; answers how many rows.
 #[no_mangle]
-pub extern "C" fn toe_read(file: &[u8], rows: &mut [u64], facts: &mut [u64; 8]) -> u64
+pub extern "C" fn toe_read(file: &[u8], rows: &mut [u64], facts: &mut [u64]) -> u64
     ensures { λ r. ⌜ ReadCoded (now (file .entry)) (now (rows .entry)) (now (rows .exit)) (now (facts .entry)) (now (facts .exit)) r ⌝ }
 {
+    if facts.len() < 8 {
+        let judged = reader::judge(file, rows.len());
+        return short_facts(judged);
+    }
     let answer = reader::read(file, rows);
     match answer {
         ReadAnswer::File(f) => {
