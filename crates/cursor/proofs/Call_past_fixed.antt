@@ -1,4 +1,4 @@
--- The rule by which a walk calls `cursor::past_fixed` on a cursor that it holds (`Lent.antt`).. Assumes `Given`.
+-- The rule by which a walk calls `cursor::past_fixed` on a cursor that it holds (`Lent.antt`). Assumes `Given`.
 use mathlib.Core.Path.{_≡_, refl, ap, subst, _∙_}
 use Prim.Native.Nat.{ℕ, _<_, _^_}
 use mathlib.Core.List.{[], _∷_, List}

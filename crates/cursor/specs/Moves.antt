@@ -1,4 +1,5 @@
--- Where a cursor stands behind what it moves past, and what it finds there: the reading of a form from the cursor's place on.
+-- "The reader goes through the file once, from its first byte to its last" (document 01, The file): where a cursor stands behind what it
+-- moves past, and what it finds there. A move is the reading of a form from the cursor's place on; where the form isn't there, the cursor is lost.
 use mathlib.Core.Bool.{Bool, true, false, _&&_}
 use mathlib.Core.List.{List, [], _∷_}
 use Prim.Native.Nat.{ℕ, _-_}

@@ -57,6 +57,7 @@ fn read_of(v: Val) -> Read
     }
 }
 
+// The cursor behind a tag.
 pub fn tag_by(c: Cursor, s: &[u8], t: &[u8]) -> Cursor
     ensures { λ r. ⌜ r ≡ pastTag (now (s .entry)) (now (t .entry)) c ⌝ }
 {
@@ -65,6 +66,7 @@ pub fn tag_by(c: Cursor, s: &[u8], t: &[u8]) -> Cursor
     at_mark(behind)
 }
 
+// A number without leading zeros, at most max, which is 9 or more, and the cursor behind the byte that ends it.
 pub fn number_by(c: Cursor, s: &[u8], stop: u8, max: u64) -> Read
     ensures { λ r. ⌜ r ≡ pastNumber (now (s .entry)) stop max c ⌝ }
 {
@@ -79,6 +81,7 @@ pub fn number_by(c: Cursor, s: &[u8], stop: u8, max: u64) -> Read
     read_of(v)
 }
 
+// A number of n digits, at most 18, and the cursor behind it.
 pub fn fixed_by(c: Cursor, s: &[u8], n: usize) -> Read
     ensures { λ r. ⌜ r ≡ pastFixed (now (s .entry)) n c ⌝ }
 {
@@ -93,6 +96,7 @@ pub fn fixed_by(c: Cursor, s: &[u8], n: usize) -> Read
     read_of(v)
 }
 
+// One of two words, as 0 or 1, and the cursor behind it.
 pub fn word_by(c: Cursor, s: &[u8], v: &[u8], w: &[u8]) -> Read
     ensures { λ r. ⌜ r ≡ pastWord (now (s .entry)) (now (v .entry)) (now (w .entry)) c ⌝ }
 {
@@ -101,6 +105,7 @@ pub fn word_by(c: Cursor, s: &[u8], v: &[u8], w: &[u8]) -> Read
     read_of(x)
 }
 
+// The cursor behind a name and the byte that ends it.
 pub fn name_by(c: Cursor, s: &[u8], least: usize, most: usize, stop: u8) -> Cursor
     ensures { λ r. ⌜ r ≡ pastName (now (s .entry)) least most stop c ⌝ }
 {
