@@ -1,13 +1,12 @@
 // The sheets and files of a book: the calls' answers, and demand 3 of the calls' contracts. Definitions and laws stand in specs/.
 mod emission;
 pub mod file;
-pub mod partners;
+mod partners;
 pub mod series;
+pub mod sheet;
 
 ghost use Rattle.reports.specs.Demand3.{Demand3, Possible};
 ghost use Rattle.reports.specs.Small.{Shown};
-
-pub mod sheet;
 
 // What a sheet call answers: the sums that it filled, or a number and an item of document 01.
 pub enum SheetAnswer {
