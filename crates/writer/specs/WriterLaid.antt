@@ -26,6 +26,16 @@ pub record Laid (live : Bool) (before : List ℕ) (m : Mark) (bs after : List �
   pub dry : live ≡ false → after ≡ before
   pub wrote : live ≡ true → (p q : ℕ) → m ≡ At p → next ≡ At q → after ≡ written before p bs
 
+-- a mark that stands in a list of that length, or at no place
+pub record Stands (len : ℕ) (m : Mark) : Type 0 where
+  pub still : ahead len m 0 ≡ m
+
+-- what is laid so far, and the rest, are the whole
+pub record Laying (live : Bool) (before : List ℕ) (m : Mark) (whole rest after : List ℕ) (next : Mark) : Type 0 where
+  pub done : List ℕ
+  pub laid : Laid live before m done after next
+  pub both : done ++ rest ≡ whole
+
 -- ---- places
 
 pub ahead-fits : (len p n : ℕ) → p + n ≤ len → ahead len (At p) n ≡ At (p + n)
@@ -124,10 +134,6 @@ room-for len p n q m next e f g = reached len p n q (ap (λ (k : Mark). ahead le
 
 -- ---- nothing laid
 
--- a mark that stands in a list of that length, or at no place
-pub record Stands (len : ℕ) (m : Mark) : Type 0 where
-  pub still : ahead len m 0 ≡ m
-
 pub stands-at : (len p : ℕ) → p ≤ len → Stands len (At p)
 stands-at len p h = record { still = ahead-fits len p 0 (omega arith) ∙ ap At (add-zero p) }
 
@@ -140,12 +146,6 @@ laid-none live d m s =
     record { keeps = refl; behind = sym (s .still); dry = λ e. refl; wrote = λ e p q f g. sym (written-nil d p) }
 
 -- ---- part by part
-
--- what is laid so far, and the rest, are the whole
-pub record Laying (live : Bool) (before : List ℕ) (m : Mark) (whole rest after : List ℕ) (next : Mark) : Type 0 where
-  pub done : List ℕ
-  pub laid : Laid live before m done after next
-  pub both : done ++ rest ≡ whole
 
 pub laying-none : (live : Bool) (d : List ℕ) (m : Mark) (whole : List ℕ) → Stands (length d) m → Laying live d m whole whole d m
 laying-none live d m whole s = record { done = []; laid = laid-none live d m s; both = refl }
