@@ -9,10 +9,10 @@ use native.Mathlib.Omega.{arith}
 use lib.Dec.{T, leb, ltb}
 use lib.IntN.{ℤ, pos, negsuc, natAbs}
 use lib.Signed.{nonNeg}
-use mir.Syntax.{w64}
-use mir.Val.{Fits, SFits}
 use lib.ListN.{length, getD, take, drop, set, length-append, length-take, length-drop, length-map, length-set, List·getD-append}
 use lib.Seq.{take-all, take-suc, drop-cons, append-snoc, split-at, set-at, drop-at, getD-at, getD-append-add, getD-take, getD-set-other}
+use mir.Syntax.{w64}
+use mir.Val.{Fits, SFits}
 use borrow.Author.Tests.{leb-true, ltb-true, ltb-false, le-leb, lt-ltb, le-ltb}
 use Rattle.integers.specs.Ranges.{range, length-range, range-more}
 use Rattle.integers.specs.Running.{upTo, floorAt, floorAt-cong}
@@ -29,7 +29,7 @@ use Rattle.book.specs.declared.Engagement.{Engagement}
 use Rattle.book.specs.Engagements.{engagementAt}
 use Rattle.book.specs.Header.{calendarOf, registerSection, engagementSection}
 use Rattle.book.specs.Book.{Book, bookOf}
-use Rattle.volumes.specs.Quarters.{quarterHours, position, monthQuarters}
+use Rattle.volumes.specs.Quarters.{quarterHours, monthQuarters}
 use Rattle.volumes.specs.QuartersLaws.{map-range-cong, flatMap-append, position-inside}
 use Rattle.volumes.specs.Settlement.{delivered, rowWidth, row, rowsOf, rows, rowCount}
 use Rattle.volumes.specs.SettlementLaws.{row-length, rowsOf-length, rows-length-of, rows-length, passing}

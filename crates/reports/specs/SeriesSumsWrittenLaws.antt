@@ -1,14 +1,13 @@
 -- Observations one position after the other, and those of a series' watts: they are the series' own.
-use mathlib.Core.Path.{_≡_, refl, sym, ap, ap₂, _∙_}
+use mathlib.Core.Path.{_≡_, refl, sym, ap, _∙_}
 use mathlib.Core.Bool.{Bool, true, false, cond}
 use mathlib.Core.List.{List, [], _∷_, _++_, map, flatMap, map-append, append-nil}
 use Prim.Native.Nat.{ℕ, suc, _+_, _<_, _≤_}
 use native.Mathlib.Numerals.{add-one}
 use native.Mathlib.Omega.{arith}
-use lib.Dec.{ltb}
 use lib.IntN.{ℤ}
-use lib.ListN.{length, getD, length-append}
-use borrow.Author.Tests.{le-ltb, lt-ltb}
+use lib.ListN.{length, getD}
+use borrow.Author.Tests.{lt-ltb}
 use Rattle.integers.specs.Ranges.{range, range-more}
 use Rattle.calendar.specs.Dates.{calendarDays}
 use Rattle.calendar.specs.DatesLaws.{month-length}

@@ -1,13 +1,14 @@
 -- The cells hold the grains of the engagements passed; a turn adds those of one more.
 use mathlib.Core.Path.{_≡_, refl, sym, ap, _∙_}
 use mathlib.Core.Bool.{cond}
-use Prim.Native.Nat.{ℕ, _+_, _*_, _-_, _≤_, _<_}
+use Prim.Native.Nat.{_+_, _*_, _-_, _≤_, _<_}
+use native.Mathlib.Omega.{arith}
 use lib.ListN.{length}
+use borrow.Author.Needs.{needs}
 use Rattle.book.specs.declared.Engagement.{Engagement}
 use Rattle.book.specs.CalendarsLaws.{days-few}
 use Rattle.book.specs.Engagements.{engagementAt}
 use Rattle.book.specs.Book.{Book}
-use Rattle.volumes.specs.Baseline.{pointOf}
 use Rattle.volumes.specs.Quarters.{monthQuarters}
 use Rattle.volumes.specs.Settlement.{rowWidth}
 use Rattle.volumes.specs.Sheets.{startPosition}
@@ -17,8 +18,6 @@ use Rattle.settlement.specs.Sections.{engagementCountIn}
 use Rattle.settlement.specs.SettlingLaws.{rowCountTo, count-none, count-more}
 use Rattle.reports.specs.SeriesSums.{kindIn, byPosition, grainsTo, Parts}
 use Rattle.reports.specs.SeriesSumsLaws.{by-cong, added-length, rows-few, placed, rows-room, grains-none, grains-all, turn-adds, turn-sums}
-use borrow.Author.Needs.{needs}
-use native.Mathlib.Omega.{arith}
 use Rattle.reports.proofs.series.add_engagements.Statement.{statement}
 use Rattle.reports.proofs.series.add_engagements.Tie as tie
 
@@ -29,9 +28,11 @@ Inv-loop c register engagements settled kind receiver partner supply delivery gr
 abbrev μ-loop : tie.MeasureT-loop
 μ-loop c register engagements settled kind receiver partner supply delivery grains₀ n at₀ i₀ grains at i = n - i
 
+-- an engagement of the section
 inside : (c : tie.In-loop Inv-loop μ-loop) → c .before .loop .i < engagementCountIn (c .before .before .before .before .before .args .engagements .now)
 inside c = search needs
 
+-- what was read of it: its rows in the series, and the cell of its first position
 rows-are : (c : tie.After-cell-of Inv-loop μ-loop) → let a = c .before .before .before .before .before .before .before .before .args in
     let i = c .before .before .before .before .loop .i in
     (b : Book) → Parts (a .c) (a .register .now) (a .engagements .now) (a .settled .now) b

@@ -1,13 +1,13 @@
 -- A turn adds the volume of row k to the k-th cell, which the turns before left alone.
-use native.Mathlib.Omega.{arith}
 use mathlib.Core.Path.{_≡_, refl, sym, ap, ap₂, _∙_}
 use mathlib.Core.List.{List}
 use Prim.Native.Nat.{ℕ, _+_, _-_, _≤_}
+use native.Mathlib.Omega.{arith}
 use lib.ListN.{length, getD, set, length-set}
+use borrow.Author.Needs.{needs}
 use Rattle.integers.specs.Z.{up}
 use Rattle.reports.specs.SeriesSums.{volumeIn, added}
-use Rattle.reports.specs.SeriesSumsLaws.{added-none, added-length, added-behind, added-more}
-use borrow.Author.Needs.{needs}
+use Rattle.reports.specs.SeriesSumsLaws.{added-none, added-behind, added-more}
 use Rattle.reports.proofs.series.add_volumes.Statement.{statement}
 use Rattle.reports.proofs.series.add_volumes.Tie as tie
 

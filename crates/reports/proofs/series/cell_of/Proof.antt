@@ -1,8 +1,8 @@
 -- Its quarter-hour of the calendar less those of the lead days: its position less one.
-use Rattle.volumes.specs.Quarters.{position}
-use Rattle.volumes.specs.QuartersLaws.{day-start-mono}
 use native.Mathlib.Omega.{arith}
 use borrow.Author.Needs.{needs}
+use Rattle.volumes.specs.Quarters.{position}
+use Rattle.volumes.specs.QuartersLaws.{day-start-mono}
 use Rattle.reports.proofs.series.cell_of.Statement.{statement}
 use Rattle.reports.proofs.series.cell_of.Tie as tie
 

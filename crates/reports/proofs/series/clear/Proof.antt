@@ -4,9 +4,9 @@ use mathlib.Core.List.{List}
 use Prim.Native.Nat.{ℕ, _-_, _≤_}
 use native.Mathlib.Omega.{arith}
 use lib.ListN.{length, set, length-set}
+use borrow.Author.Needs.{needs}
 use Rattle.reports.specs.SeriesSums.{byPosition}
 use Rattle.reports.specs.SeriesSumsLaws.{by-none, by-more}
-use borrow.Author.Needs.{needs}
 use Rattle.reports.proofs.series.clear.Statement.{statement}
 use Rattle.reports.proofs.series.clear.Tie as tie
 

@@ -1,18 +1,19 @@
 -- The watts of the month's positions are the series', so those that are written are its observations.
-use Prim.Native.Nat.{ℕ}
-use Rattle.reports.specs.SeriesSumsWritten.{observationsIn}
 use mathlib.Core.Path.{_≡_, refl, ap, _∙_}
+use Prim.Native.Nat.{ℕ}
 use native.Mathlib.Omega.{arith}
 use lib.ListN.{length}
+use borrow.Author.Needs.{needs}
 use Rattle.book.specs.Book.{bookOf}
 use Rattle.volumes.specs.Quarters.{monthQuarters}
 use Rattle.volumes.specs.SeriesLaws.{seriesOf}
+use Rattle.reports.specs.SeriesSumsWritten.{observationsIn}
 use Rattle.reports.specs.SeriesSums.{kindIn}
 use Rattle.reports.specs.SeriesSumsWrittenLaws.{observations-are, Opened, opened}
-use borrow.Author.Needs.{needs}
 use Rattle.reports.proofs.series.count_observations.Statement.{statement}
 use Rattle.reports.proofs.series.count_observations.Tie as tie
 
+-- the book's calendar, and the positions of its month
 calendar : (c : tie.Start) → Opened (c .args .book .now)
 calendar c = opened (c .args .book .now) (c .args .settled .now) (c .pre)
 

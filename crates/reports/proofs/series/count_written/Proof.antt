@@ -3,9 +3,9 @@ use mathlib.Core.Path.{_≡_, sym, ap, _∙_}
 use Prim.Native.Nat.{ℕ, _+_, _-_, _≤_}
 use native.Mathlib.Omega.{arith}
 use lib.ListN.{length, getD, length-append}
+use borrow.Author.Needs.{needs}
 use Rattle.reports.specs.SeriesSumsWritten.{observationIf, observationsIn}
 use Rattle.reports.specs.SeriesSumsWrittenLaws.{observations-none, observations-more}
-use borrow.Author.Needs.{needs}
 use Rattle.reports.proofs.series.count_written.Statement.{statement}
 use Rattle.reports.proofs.series.count_written.Tie as tie
 

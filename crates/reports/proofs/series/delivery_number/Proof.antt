@@ -1,6 +1,6 @@
 -- The definition's own cases.
-use Rattle.reports.specs.FileRows.{deliveryNumber}
 use borrow.Author.Needs.{needs}
+use Rattle.reports.specs.FileRows.{deliveryNumber}
 use Rattle.reports.proofs.series.delivery_number.Statement.{statement}
 use Rattle.reports.proofs.series.delivery_number.Tie as tie
 

@@ -2,13 +2,13 @@
 use mathlib.Core.Path.{ap, _∙_}
 use mathlib.Core.List.{_++_, flatMap}
 use Prim.Native.Nat.{ℕ}
+use borrow.Author.Needs.{needs}
 use Rattle.message.specs.Bytes.{observationBytes}
 use Rattle.writer.specs.WriterLaid.{laid-then, laid-is, laid-stands}
 use Rattle.writer.specs.WriterParts.{seriesHead, seriesEnd}
 use Rattle.writer.specs.WriterPartsLaws.{series-parts}
 use Rattle.reports.specs.SeriesSumsWritten.{observationsIn, seriesIn}
 use Rattle.reports.specs.SeriesSumsWrittenLaws.{period-of}
-use borrow.Author.Needs.{needs}
 use Rattle.reports.proofs.series.emit_counted.Statement.{statement}
 use Rattle.reports.proofs.series.emit_counted.Tie as tie
 

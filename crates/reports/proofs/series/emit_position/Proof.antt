@@ -1,8 +1,8 @@
 -- One observation is laid, or nothing.
 use native.Mathlib.Omega.{arith}
+use borrow.Author.Needs.{needs}
 use Rattle.writer.specs.WriterLaid.{laid-is, laid-none}
 use Rattle.reports.specs.SeriesSumsWrittenLaws.{bytes-none, bytes-one}
-use borrow.Author.Needs.{needs}
 use Rattle.reports.proofs.series.emit_position.Statement.{statement}
 use Rattle.reports.proofs.series.emit_position.Tie as tie
 

@@ -3,6 +3,7 @@ use mathlib.Core.Path.{_≡_, refl, ap, _∙_}
 use Prim.Native.Nat.{_≤_}
 use native.Mathlib.Omega.{arith}
 use lib.ListN.{length}
+use borrow.Author.Needs.{needs}
 use Rattle.book.specs.Book.{bookOf}
 use Rattle.volumes.specs.Quarters.{monthQuarters}
 use Rattle.volumes.specs.SeriesLaws.{seriesOf}
@@ -11,7 +12,6 @@ use Rattle.reports.specs.FileRows.{observationsOf}
 use Rattle.reports.specs.SeriesSums.{kindIn}
 use Rattle.reports.specs.SeriesSumsWritten.{observationsIn}
 use Rattle.reports.specs.SeriesSumsWrittenLaws.{observations-are, series-none, series-some, Opened, opened}
-use borrow.Author.Needs.{needs}
 use Rattle.reports.proofs.series.emit_series.Statement.{statement}
 use Rattle.reports.proofs.series.emit_series.Tie as tie
 

@@ -3,11 +3,11 @@ use mathlib.Core.Path.{_≡_}
 use mathlib.Core.List.{flatMap}
 use Prim.Native.Nat.{_-_, _≤_}
 use native.Mathlib.Omega.{arith}
+use borrow.Author.Needs.{needs}
 use Rattle.message.specs.Bytes.{observationBytes}
 use Rattle.writer.specs.WriterLaid.{Laid, laid-then, laid-is, laid-none, laid-stands}
 use Rattle.reports.specs.SeriesSumsWritten.{observationsIn}
 use Rattle.reports.specs.SeriesSumsWrittenLaws.{no-bytes, bytes-more}
-use borrow.Author.Needs.{needs}
 use Rattle.reports.proofs.series.emit_watts.Statement.{statement}
 use Rattle.reports.proofs.series.emit_watts.Tie as tie
 

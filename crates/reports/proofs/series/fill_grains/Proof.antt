@@ -1,11 +1,9 @@
 -- The sections and the calendar are the book's own, and its month's cells are cleared first.
 use mathlib.Core.Path.{_≡_, sym, ap, _∙_}
 use mathlib.Core.Option.{none}
-use mathlib.Core.List.{List}
-use Prim.Native.Nat.{ℕ, _≤_}
-use lib.ListN.{length}
+use Prim.Native.Nat.{ℕ}
 use native.Mathlib.Omega.{arith}
-use Rattle.book.specs.declared.Calendar.{Calendar}
+use borrow.Author.Needs.{needs}
 use Rattle.book.specs.Header.{calendarOf, registerSection, engagementSection}
 use Rattle.book.specs.Judged.{refusalOf}
 use Rattle.book.specs.Book.{bookOf}
@@ -16,10 +14,10 @@ use Rattle.volumes.specs.SeriesLaws.{seriesOf}
 use Rattle.settlement.specs.SectionsLaws.{bytes-long}
 use Rattle.reports.specs.SeriesSums.{kindIn, byPosition, Parts}
 use Rattle.reports.specs.SeriesSumsLaws.{by-again, by-own, parts-of}
-use borrow.Author.Needs.{needs}
 use Rattle.reports.proofs.series.fill_grains.Statement.{statement}
 use Rattle.reports.proofs.series.fill_grains.Tie as tie
 
+-- the book passes refusals 1 to 7, and these are its parts
 passed : (c : tie.Start) → refusalOf (c .args .book .now) ≡ none
 passed c = passing (c .args .book .now) (c .pre .0 .accepted) .passed
 
@@ -27,11 +25,13 @@ parts : (c : tie.Start) → let bytes = c .args .book .now in
     Parts (calendarOf bytes) (registerSection bytes) (engagementSection bytes) (c .args .settled .now) (bookOf bytes)
 parts c = parts-of (c .args .book .now) (c .args .settled .now) (c .pre .0)
 
+-- the cells of its month
 month : (c : tie.After-month-quarters) → c .month-quarters .result ≡ monthQuarters (bookOf (c .before .before .before .before .before .before .before .args .book .now) .calendar)
 month c =
     let s = c .before .before .before .before .before .before .before in
     c .month-quarters .ensures ∙ ap monthQuarters (c .before .before .calendar-of .ensures ∙ sym (parts s .when))
 
+-- the parts as they were read
 read : (c : tie.After-clear) → let s = c .before .before .before .before .before .before .before .before in
     Parts (c .before .before .before .calendar-of .result) (c .before .before .before .before .before .section .result .now) (c .before .before .before .before .section2 .result .now) (s .args .settled .now) (bookOf (s .args .book .now))
 read c =

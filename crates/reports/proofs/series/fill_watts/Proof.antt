@@ -1,15 +1,15 @@
 -- The carry is what the positions passed leave over 30,240; the cells passed hold watts, the others their grains.
-use mathlib.Core.Path.{_≡_, refl, sym, ap, ap₂, _∙_}
+use mathlib.Core.Path.{_≡_, refl, sym, ap, _∙_}
 use mathlib.Core.List.{List}
-use Prim.Native.Nat.{ℕ, _+_, _-_, _/_, _%_, _≤_}
+use Prim.Native.Nat.{ℕ, _+_, _-_, _%_, _≤_}
 use native.Mathlib.Numerals.{add-one}
 use native.Mathlib.Omega.{arith}
 use lib.ListN.{length, getD, set, length-set}
+use borrow.Author.Needs.{needs}
 use Rattle.integers.specs.Running.{upTo, floorAt}
 use Rattle.grains.specs.Grains.{perWatt}
 use Rattle.reports.specs.SeriesSums.{byPosition, cellAt}
 use Rattle.reports.specs.SeriesSumsLaws.{by-none, by-rest, by-more, carried, carry-none}
-use borrow.Author.Needs.{needs}
 use Rattle.reports.proofs.series.fill_watts.Statement.{statement}
 use Rattle.reports.proofs.series.fill_watts.Tie as tie
 

@@ -1,10 +1,10 @@
 -- Its point and its direction are the series'.
 use mathlib.Core.Path.{ap, ap₂, _∙_}
 use mathlib.Core.Bool.{_&&_}
+use borrow.Author.Needs.{needs}
 use Rattle.volumes.specs.Series.{isPoint, isEngagement}
 use Rattle.volumes.specs.SeriesLaws.{seriesOf}
 use Rattle.reports.specs.SeriesSums.{kindIn}
-use borrow.Author.Needs.{needs}
 use Rattle.reports.proofs.series.is_engagement.Statement.{statement}
 use Rattle.reports.proofs.series.is_engagement.Tie as tie
 

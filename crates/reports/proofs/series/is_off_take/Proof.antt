@@ -1,6 +1,6 @@
 -- The definition's own cases.
-use Rattle.volumes.specs.Series.{sameSupply}
 use borrow.Author.Needs.{needs}
+use Rattle.volumes.specs.Series.{sameSupply}
 use Rattle.reports.proofs.series.is_off_take.Statement.{statement}
 use Rattle.reports.proofs.series.is_off_take.Tie as tie
 

@@ -3,8 +3,8 @@ use mathlib.Core.Path.{ap, ap₂}
 use mathlib.Core.Bool.{_&&_}
 use Prim.Native.Nat.{ℕ}
 use lib.Dec.{eqb}
-use Rattle.volumes.specs.Series.{isPoint}
 use borrow.Author.Needs.{needs}
+use Rattle.volumes.specs.Series.{isPoint}
 use Rattle.reports.proofs.series.is_point.Statement.{statement}
 use Rattle.reports.proofs.series.is_point.Tie as tie
 

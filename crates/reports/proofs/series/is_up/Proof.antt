@@ -1,6 +1,6 @@
 -- The definition's own cases.
-use Rattle.volumes.specs.Series.{sameDirection}
 use borrow.Author.Needs.{needs}
+use Rattle.volumes.specs.Series.{sameDirection}
 use Rattle.reports.proofs.series.is_up.Statement.{statement}
 use Rattle.reports.proofs.series.is_up.Tie as tie
 

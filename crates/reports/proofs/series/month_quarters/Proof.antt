@@ -1,12 +1,12 @@
 -- The calendar's quarter-hours less those of the lead days.
 use mathlib.Core.Path.{ap₂}
 use Prim.Native.Nat.{_-_}
+use native.Mathlib.Omega.{arith}
+use borrow.Author.Needs.{needs}
 use Rattle.book.specs.Calendars.{daysOf}
 use Rattle.book.specs.CalendarsLaws.{days-few}
 use Rattle.volumes.specs.Quarters.{monthQuarters}
 use Rattle.volumes.specs.QuartersLaws.{day-start-mono}
-use native.Mathlib.Omega.{arith}
-use borrow.Author.Needs.{needs}
 use Rattle.reports.proofs.series.month_quarters.Statement.{statement}
 use Rattle.reports.proofs.series.month_quarters.Tie as tie
 

@@ -1,7 +1,7 @@
 -- The definition's own cases.
+use borrow.Author.Needs.{needs}
 use Rattle.volumes.specs.Series.{receiverOf}
 use Rattle.reports.specs.SeriesSums.{kindIn}
-use borrow.Author.Needs.{needs}
 use Rattle.reports.proofs.series.receiver_of.Statement.{statement}
 use Rattle.reports.proofs.series.receiver_of.Tie as tie
 

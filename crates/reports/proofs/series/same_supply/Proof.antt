@@ -1,8 +1,8 @@
 -- Of two, the second is the one or the other.
 use mathlib.Core.Path.{sym, ap, _∙_}
 use mathlib.Core.Bool.{not}
-use Rattle.reports.specs.SeriesSumsLaws.{injection-is}
 use borrow.Author.Needs.{needs}
+use Rattle.reports.specs.SeriesSumsLaws.{injection-is}
 use Rattle.reports.proofs.series.same_supply.Statement.{statement}
 use Rattle.reports.proofs.series.same_supply.Tie as tie
 

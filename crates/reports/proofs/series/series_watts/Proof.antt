@@ -3,6 +3,7 @@ use mathlib.Core.Path.{_≡_, sym, ap, _∙_}
 use Prim.Native.Nat.{ℕ}
 use native.Mathlib.Omega.{arith}
 use lib.ListN.{length}
+use borrow.Author.Needs.{needs}
 use Rattle.integers.specs.Running.{floorAt}
 use Rattle.grains.specs.Grains.{perWatt}
 use Rattle.book.specs.Header.{calendarOf, registerSection, engagementSection}
@@ -14,7 +15,6 @@ use Rattle.volumes.specs.SeriesLaws.{seriesOf}
 use Rattle.settlement.specs.SectionsLaws.{bytes-long}
 use Rattle.reports.specs.SeriesSums.{kindIn, byPosition, cellAt, Parts}
 use Rattle.reports.specs.SeriesSumsLaws.{by-length, parts-of, carry-fits, watts-are}
-use borrow.Author.Needs.{needs}
 use Rattle.reports.proofs.series.series_watts.Statement.{statement}
 use Rattle.reports.proofs.series.series_watts.Tie as tie
 

@@ -1,6 +1,6 @@
 -- The definition's own cases.
-use Rattle.reports.specs.FileRows.{supplyNumber}
 use borrow.Author.Needs.{needs}
+use Rattle.reports.specs.FileRows.{supplyNumber}
 use Rattle.reports.proofs.series.supply_number.Statement.{statement}
 use Rattle.reports.proofs.series.supply_number.Tie as tie
 

@@ -1,8 +1,8 @@
 -- Transfer and pass-through points by the kind, the rest in none.
-use Rattle.reports.specs.SeriesSums.{kindIn}
-use Rattle.reports.specs.SeriesSumsLaws.{takes-no-opt-out, takes-no-injector}
 use mathlib.Core.Path.{sym}
 use borrow.Author.Needs.{needs}
+use Rattle.reports.specs.SeriesSums.{kindIn}
+use Rattle.reports.specs.SeriesSumsLaws.{takes-no-opt-out, takes-no-injector}
 use Rattle.reports.proofs.series.takes.Statement.{statement}
 use Rattle.reports.proofs.series.takes.Tie as tie
 

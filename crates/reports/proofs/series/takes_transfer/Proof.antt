@@ -1,7 +1,7 @@
 -- The definition's own cases.
+use borrow.Author.Needs.{needs}
 use Rattle.volumes.specs.Series.{takes}
 use Rattle.reports.specs.SeriesSums.{kindIn}
-use borrow.Author.Needs.{needs}
 use Rattle.reports.proofs.series.takes_transfer.Statement.{statement}
 use Rattle.reports.proofs.series.takes_transfer.Tie as tie
 

@@ -4,8 +4,8 @@ use lib.IntN.{pos}
 use lib.ListN.{getD}
 use mir.Syntax.{w64}
 use mir.Val.{SFits, toZ, ofZ}
-use Rattle.reports.specs.SeriesSumsLaws.{unsigned, unsigned-is}
 use borrow.Author.Needs.{needs}
+use Rattle.reports.specs.SeriesSumsLaws.{unsigned, unsigned-is}
 use Rattle.reports.proofs.series.volume_at.Statement.{statement}
 use Rattle.reports.proofs.series.volume_at.Tie as tie
 

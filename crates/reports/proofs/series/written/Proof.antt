@@ -1,9 +1,9 @@
 -- One observation, or none.
 use mathlib.Core.Path.{sym, ap}
-use lib.ListN.{length}
 use native.Mathlib.Omega.{arith}
-use Rattle.reports.specs.SeriesSumsWrittenLaws.{no-observation, one-observation}
+use lib.ListN.{length}
 use borrow.Author.Needs.{needs}
+use Rattle.reports.specs.SeriesSumsWrittenLaws.{no-observation, one-observation}
 use Rattle.reports.proofs.series.written.Statement.{statement}
 use Rattle.reports.proofs.series.written.Tie as tie
 
