@@ -24,8 +24,6 @@ use Rattle.volumes.specs.Series.{Kind, partnerOf}
 use Rattle.message.specs.declared.Kind.{Kind as Form}
 use Rattle.message.specs.Contents.{Series as TimeSeries, Partner}
 use Rattle.message.specs.Bytes.{seriesBytes, supplyOf, partnerBytes}
-use Rattle.formats.specs.declared.Mark.{Mark}
-use Rattle.writer.specs.WriterLaid.{Laid, laid-then, laid-is, Stands, laid-stands, laid-none}
 use Rattle.writer.specs.WriterParts.{partnerHead, partnerEnd, fileHead, fileEnd}
 use Rattle.writer.specs.WriterPartsLaws.{partner-parts, file-parts}
 use Rattle.reports.specs.declared.emission.Present.{Present}
@@ -183,12 +181,12 @@ module _ (book : Book) (kind : Kind) (receiver : ℕ) where
 
   -- the next partner's, and then the others'
   pub partners-bytes : (form : Form) (low next : ℕ) → Next low (partnerColumn (book .points) kind receiver) next → next < noPartner
-      → flatMap (partnerBytes form) (partnerIf book kind receiver next) ++ flatMap (partnerBytes form) (partnersFrom book kind receiver (next + 1)) ≡ flatMap (partnerBytes form) (partnersFrom book kind receiver low)
-  partners-bytes form low next s h = sym (ap (flatMap (partnerBytes form)) (partners-next book kind receiver low next s h) ∙ flatMap-append (partnerBytes form) (partnerIf book kind receiver next) (partnersFrom book kind receiver (next + 1)))
+      → flatMap (partnerBytes form) (partnersFrom book kind receiver low) ≡ flatMap (partnerBytes form) (partnerIf book kind receiver next) ++ flatMap (partnerBytes form) (partnersFrom book kind receiver (next + 1))
+  partners-bytes form low next s h = ap (flatMap (partnerBytes form)) (partners-next book kind receiver low next s h) ∙ flatMap-append (partnerBytes form) (partnerIf book kind receiver next) (partnersFrom book kind receiver (next + 1))
 
-  pub partners-end-bytes : (form : Form) → Registered book → (low next : ℕ) → Next low (partnerColumn (book .points) kind receiver) next → noPartner ≤ next → [] ≡ flatMap (partnerBytes form) (partnersFrom book kind receiver low)
+  pub partners-end-bytes : (form : Form) → Registered book → (low next : ℕ) → Next low (partnerColumn (book .points) kind receiver) next → noPartner ≤ next → flatMap (partnerBytes form) (partnersFrom book kind receiver low) ≡ []
   unfolding flatMap
-  partners-end-bytes form r low next s h = ap (flatMap (partnerBytes form)) (sym (partners-end book kind receiver r low next s h))
+  partners-end-bytes form r low next s h = ap (flatMap (partnerBytes form)) (partners-end book kind receiver r low next s h)
 
   pub partners-count : (low next : ℕ) → Next low (partnerColumn (book .points) kind receiver) next → next < noPartner
       → length (partnersFrom book kind receiver low) ≡ length (partnerIf book kind receiver next) + length (partnersFrom book kind receiver (next + 1))
@@ -206,23 +204,6 @@ scan-falls column next later h s = go (ltb later noPartner) refl
     go : (b : Bool) → ltb later noPartner ≡ b → noPartner - later < noPartner - next
     go true e = omega (arith, s .member (ltb-true later noPartner e) .1)
     go false e = omega (arith, ltb-false later noPartner e)
-
--- ---- parts laid in a loop
-
--- so much is laid that, with what is left, all is
-pub record Begun (live : Bool) (before : List ℕ) (start : Mark) (all out : List ℕ) (m : Mark) (left : List ℕ) : Type 0 where
-  pub stands : Stands (length out) m
-  pub keeps : length out ≡ length before
-  pub with-left : (after : List ℕ) (next : Mark) → Laid live out m left after next → Laid live before start all after next
-
-pub begun-none : (live : Bool) (d : List ℕ) (m : Mark) {all left : List ℕ} → left ≡ all → Stands (length d) m → Begun live d m all d m left
-begun-none live d m e s = record { stands = s; keeps = refl; with-left = λ after next v. laid-is _ e v }
-
-pub begun-more : {live : Bool} {d : List ℕ} {start : Mark} {all out : List ℕ} {m : Mark} {left a b out′ : List ℕ} {m′ : Mark} → Begun live d start all out m left → a ++ b ≡ left → Laid live out m a out′ m′ → Begun live d start all out′ m′ b
-begun-more g e v = record { stands = laid-stands v; keeps = v .keeps ∙ g .keeps; with-left = λ after next w. g .with-left after next (laid-is _ e (laid-then v w)) }
-
-pub begun-all : {live : Bool} {d : List ℕ} {start : Mark} {all out : List ℕ} {m : Mark} {left : List ℕ} → Begun live d start all out m left → [] ≡ left → Laid live d start all out m
-begun-all {live} {d} {start} {all} {out} {m} g e = g .with-left out m (laid-is _ e (laid-none live out m (g .stands)))
 
 -- ---- the file
 

@@ -8,9 +8,7 @@ use native.Mathlib.Omega.{arith}
 use lib.Dec.{leb}
 use lib.IntN.{ℤ}
 use lib.ListN.{length, take, drop}
-use native.Mathlib.Nat.{zero-add}
-use borrow.Author.Tests.{leb-true, leb-false, le-leb, lt-leb}
-use Rattle.text.specs.Written.{written}
+use borrow.Author.Tests.{leb-true, le-leb, lt-leb}
 use Rattle.formats.specs.declared.Mark.{Mark}
 use Rattle.formats.specs.declared.Mark.the-variants.{At, No}
 use Rattle.moments.specs.Ids.{isTransactionId}
@@ -20,7 +18,8 @@ use Rattle.volumes.specs.Settlement.{rowWidth, rows, rowCount, orElse, bookRefu
 use Rattle.volumes.specs.SettlementLaws.{rows-length}
 use Rattle.volumes.specs.Series.{Kind}
 use Rattle.message.specs.Valid.{isMoment}
-use Rattle.writer.specs.WriterLaid.{ahead, ahead-fits, reached, Laid}
+use Rattle.message.specs.Calls.{over as overText}
+use Rattle.writer.specs.WriterLaid.{Laid, laid-over, laid-no-room}
 use Rattle.reports.specs.declared.FileAnswer.{FileAnswer}
 use Rattle.reports.specs.declared.FileAnswer.the-variants.{File, Refused}
 use Rattle.reports.specs.FileRows.{fileText}
@@ -149,32 +148,17 @@ module _ (book : Book) (text : List ℕ) (lent : List ℤ) (before : List ℕ) w
   pub file-short : (dry : List ℕ) (m : Mark) → m ≡ No → Laid false before (At 0) text dry m → FileFilled book text lent lent before dry (Refused 10 1)
   unfolding fileSays afterwards roomFor
   file-short dry m e v =
-      let over-long : length before < length text = no-room (length before) (length text) (sym e ∙ v .behind) in
-      let h = lt-leb (length text) (length before) over-long in
-      record { answer = rw h; rows = rw h; file = rw h (v .dry refl) }
-    where
-      no-room : (len n : ℕ) → No ≡ ahead len (At 0) n → len < n
-      no-room len n e = go (leb n len) refl
-        where
-          go : (b : Bool) → leb n len ≡ b → len < n
-          go true t = let z : _≡_ {A = ℕ} 0 1 = cc (ahead-fits len 0 n (omega (arith, leb-true n len t))) in absurd (omega arith)
-          go false t = leb-false n len t
-
-  -- laid over what stood there
-  laid-over : (after : List ℕ) (r : Mark) → length text ≤ length before → Laid true before (At 0) text after r → after ≡ over text before
-  unfolding over written
-  laid-over after r h v = v .wrote refl 0 (0 + length text) refl (v .behind ∙ ahead-fits (length before) 0 (length text) (omega arith)) ∙ rw zero-add
+      let n = laid-no-room (rw e at v) in
+      let h = lt-leb (length text) (length before) (n .short) in
+      record { answer = rw h; rows = rw h; file = rw h (n .same) }
 
   -- the rows that stand in the first places of a list are copied, and the file written
   pub file-fits : (count n : ℕ) (settled rowsAfter : List ℤ) (dry after : List ℕ) (m r : Mark) → take (length (rows book)) settled ≡ rows book → count ≡ rowCount book → m ≡ At n
       → Laid false before (At 0) text dry m → rowsAfter ≡ take (rowWidth * count) settled ++ drop (rowWidth * count) lent → Laid true dry (At 0) text after r
       → FileFilled book text lent rowsAfter before after (File count n)
-  unfolding fileSays afterwards roomFor over
+  unfolding fileSays afterwards roomFor over overText
   file-fits count n settled rowsAfter dry after m r s c e v f w =
-      let k = reached (length before) 0 (length text) n (sym (v .behind) ∙ e) in
-      let h : length text ≤ length before = omega (arith, k .room) in
-      let t : n ≡ length text = omega (arith, k .is) in
-      let b = le-leb (length text) (length before) h in
+      let k = laid-over (rw e at v) w in
+      let b = le-leb (length text) (length before) (k .room) in
       let j : length (rows book) ≡ rowWidth * count = rows-length book ∙ ap (λ i. rowWidth * i) (sym c) in
-      let same : dry ≡ before = v .dry refl in
-      record { answer = rw (b, c, t); rows = rw b (f ∙ rw (← j, s)); file = rw b (laid-over after r h (rw same at w)) }
+      record { answer = rw (b, c, k .count); rows = rw b (f ∙ rw (← j, s)); file = rw b (k .list) }

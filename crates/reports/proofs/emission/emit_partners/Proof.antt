@@ -1,16 +1,16 @@
 -- What is laid, and the partners from `low` on, make all; `next` is the first of these.
-use mathlib.Core.Path.{ap}
 use mathlib.Core.List.{flatMap}
 use Prim.Native.Nat.{_+_, _-_}
 use Rattle.book.specs.Book.{bookOf}
 use Rattle.volumes.specs.SettlementLaws.{passing}
 use Rattle.message.specs.Bytes.{partnerBytes}
+use Rattle.writer.specs.WriterLaid.{Laying, laid-stands, laying-none, laying-then, laying-all}
 use Rattle.reports.specs.FileRows.{partnersOf}
 use Rattle.reports.specs.RegisteredLaws.{registered}
 use Rattle.reports.specs.SeriesSums.{kindIn}
 use Rattle.reports.specs.Partners.{partnerColumn, noPartner, Next, partnersFrom}
 use Rattle.reports.specs.PartnersLaws.{partners-all}
-use Rattle.reports.specs.EmissionLaws.{next-in, scan-falls, partners-bytes, partners-end-bytes, Begun, begun-none, begun-more, begun-all}
+use Rattle.reports.specs.EmissionLaws.{next-in, scan-falls, partners-bytes, partners-end-bytes}
 use borrow.Author.Needs.{needs}
 use Rattle.reports.proofs.emission.emit_partners.Statement.{statement}
 use Rattle.reports.proofs.emission.emit_partners.Tie as tie
@@ -18,7 +18,7 @@ use Rattle.reports.proofs.emission.emit_partners.Tie as tie
 abbrev Inv-loop : tie.InvT-loop
 Inv-loop out₀ book settled kind receiver live register m₀ low₀ next₀ out m low next =
     Next low (partnerColumn (bookOf book .points) (kindIn kind) receiver) next
-    × Begun live out₀ m₀ (flatMap (partnerBytes kind) (partnersOf (bookOf book) (kindIn kind) receiver)) out m (flatMap (partnerBytes kind) (partnersFrom (bookOf book) (kindIn kind) receiver low))
+    × Laying live out₀ m₀ (flatMap (partnerBytes kind) (partnersOf (bookOf book) (kindIn kind) receiver)) (flatMap (partnerBytes kind) (partnersFrom (bookOf book) (kindIn kind) receiver low)) out m
 
 abbrev μ-loop : tie.MeasureT-loop
 μ-loop out₀ book settled kind receiver live register m₀ low₀ next₀ out m low next = noPartner - next
@@ -35,11 +35,11 @@ loop-holds c =
     let a = s .args in
     let cut = c .before .section in (
       next-in (a .book .now) (cut .result .now) (kindIn (a .kind)) (a .receiver) 0 _ (passing _ (s .pre .0 .accepted) .passed) (cut .ensures) (c .next-partner .ensures),
-      begun-none (a .live) (a .out .now) (a .start) (ap (flatMap (partnerBytes (a .kind))) (partners-all (bookOf (a .book .now)) (kindIn (a .kind)) (a .receiver))) (s .pre .1),
+      rw (partners-all (bookOf (a .book .now)) (kindIn (a .kind)) (a .receiver)) (laying-none (a .live) (a .out .now) (a .start) _ (s .pre .1)),
     )
 
 emit-partner-requires : tie.Need-emit-partner-requires Inv-loop μ-loop
-emit-partner-requires c κs = (c .before .before .before .before .before .before .before .pre .0, c .before .before .loop .inv .1 .stands)
+emit-partner-requires c κs = (c .before .before .before .before .before .before .before .pre .0, laid-stands (c .before .before .loop .inv .1 .laid))
 
 add-low : tie.Need-add-low Inv-loop μ-loop
 add-low c = search needs
@@ -62,7 +62,7 @@ loop-again : tie.Need-loop-again Inv-loop μ-loop
 loop-again c =
     let l = c .before .before .before .before .before .before in
     let a = l .before .before .before .before .before .args in
-    (later c, begun-more (l .loop .inv .1) (partners-bytes (bookOf (a .book .now)) (kindIn (a .kind)) (a .receiver) (a .kind) _ _ (l .loop .inv .0) (c .before .before .before .before .before .loop-test .taken)) (c .before .before .before .emit-partner .ensures))
+    (later c, laying-then _ (l .loop .inv .1) (c .before .before .before .emit-partner .ensures) (partners-bytes (bookOf (a .book .now)) (kindIn (a .kind)) (a .receiver) (a .kind) _ _ (l .loop .inv .0) (c .before .before .before .before .before .loop-test .taken)))
 
 same-length : tie.Need-same-length Inv-loop μ-loop
 same-length c = search needs
@@ -72,7 +72,7 @@ returns c =
     let l = c .before in
     let s = l .before .before .before .before .before in
     let a = s .args in
-    begun-all (l .loop .inv .1) (partners-end-bytes (bookOf (a .book .now)) (kindIn (a .kind)) (a .receiver) (a .kind) (registered (a .book .now) (passing _ (s .pre .0 .accepted) .passed)) _ _ (l .loop .inv .0) (c .loop-test .left))
+    laying-all (l .loop .inv .1) (partners-end-bytes (bookOf (a .book .now)) (kindIn (a .kind)) (a .receiver) (a .kind) (registered (a .book .now) (passing _ (s .pre .0 .accepted) .passed)) _ _ (l .loop .inv .0) (c .loop-test .left))
 
 pub emit-partners-spec : {M : Type 1} → statement M
 emit-partners-spec =
