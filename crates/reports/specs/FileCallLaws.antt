@@ -21,11 +21,12 @@ use Rattle.volumes.specs.SettlementLaws.{rows-length}
 use Rattle.volumes.specs.Series.{Kind}
 use Rattle.message.specs.Valid.{isMoment}
 use Rattle.writer.specs.WriterLaid.{ahead, ahead-fits, reached, Laid}
+use Rattle.message.specs.Calls.{kindNumbered}
 use Rattle.reports.specs.declared.FileAnswer.{FileAnswer}
 use Rattle.reports.specs.declared.FileAnswer.the-variants.{File, Refused}
 use Rattle.reports.specs.FileRows.{fileText}
 use Rattle.reports.specs.Roles.{receivers}
-use Rattle.reports.specs.Calls.{stands, over, afterwards, kindOf, textOf, shortRefusal, askedRefusal, fileRefusal, fileSays, fileAnswer, FileCalled}
+use Rattle.reports.specs.Calls.{stands, over, afterwards, textOf, shortRefusal, askedRefusal, fileRefusal, fileSays, fileAnswer, FileCalled}
 
 -- ---- what is asked of an accepted book, before its file is written
 
@@ -116,17 +117,17 @@ module _ (bytes : List ℕ) (kind receiver : ℕ) (id moment : List ℕ) (lent :
   unfolding fileRefusal orElse
   call-refused r h = refused-as r (rw (← h))
 
-  pub call-unknown : bookRefusal bytes ≡ none → none ≡ kindOf kind → FileCalled bytes kind receiver id moment lent lent before before (Refused 12 0)
+  pub call-unknown : bookRefusal bytes ≡ none → none ≡ kindNumbered kind → FileCalled bytes kind receiver id moment lent lent before before (Refused 12 0)
   unfolding fileRefusal orElse askedRefusal
   call-unknown h k = refused-as (record { number = 12; item = 0 }) (rw (h, ← k))
 
-  module _ (k : Kind) (passed : bookRefusal bytes ≡ none) (known : some k ≡ kindOf kind) where
+  module _ (k : Kind) (passed : bookRefusal bytes ≡ none) (known : some k ≡ kindNumbered kind) where
     refusal-is : fileRefusal bytes kind receiver id moment (length lent) (length before)
         ≡ orElse (askedVerdict (bookOf bytes) k receiver id moment (length lent)) (roomFor (fileText (bookOf bytes) k receiver id moment) before)
     unfolding fileRefusal orElse
     refusal-is = rw (passed, ← known) (asked-then (bookOf bytes) k receiver id moment (length lent) before)
 
-    text-is : textOf (bookOf bytes) (kindOf kind) receiver id moment ≡ fileText (bookOf bytes) k receiver id moment
+    text-is : textOf (bookOf bytes) (kindNumbered kind) receiver id moment ≡ fileText (bookOf bytes) k receiver id moment
     unfolding textOf
     text-is = rw (← known)
 

@@ -29,18 +29,9 @@ use Rattle.reports.specs.FileRows.{isTaken, partnerNumbers, partnerAt, p
 use Rattle.reports.specs.Registered.{Numbered, Registered}
 use Rattle.reports.specs.ScanLaws.{next-least, all-from, no-next}
 use Rattle.reports.specs.Roles.{receivers}
-use Rattle.reports.specs.Calls.{stands, kindOf}
+use Rattle.reports.specs.Calls.{stands}
 use Rattle.reports.specs.CallsLaws.{stands-mem, mem-stands}
 use Rattle.reports.specs.Partners.{pointsIn, partnerColumn, noPartner, Next, partnerIf, partnersFrom}
-
--- ---- the kind
-
-pub kind-else : (n : ℕ) → (n ≡ 1 → ⊥) → (n ≡ 2 → ⊥) → (n ≡ 3 → ⊥) → none ≡ kindOf n
-kind-else zero a b c = refl
-kind-else (suc zero) a b c = absurd (a refl)
-kind-else (suc (suc zero)) a b c = absurd (b refl)
-kind-else (suc (suc (suc zero))) a b c = absurd (c refl)
-kind-else (suc (suc (suc (suc n)))) a b c = refl
 
 -- ---- the points of the register
 

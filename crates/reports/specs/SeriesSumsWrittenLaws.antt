@@ -23,14 +23,13 @@ use Rattle.volumes.specs.SettlementLaws.{passing}
 use Rattle.volumes.specs.Series.{Kind, Series, seriesWatts}
 use Rattle.volumes.specs.SeriesLaws.{seriesOf}
 use Rattle.settlement.specs.SectionsLaws.{bytes-long}
-use Rattle.message.specs.declared.Kind.{Kind as Form}
 use Rattle.message.specs.Contents.{Observation}
 use Rattle.message.specs.Valid.{IsPeriod}
 use Rattle.message.specs.Bytes.{observationBytes, seriesBytes}
 use Rattle.message.specs.ObservationForm.{observed}
 use Rattle.reports.specs.Keep.{keep, isSome}
 use Rattle.reports.specs.FileRows.{positions, observationAt, isWritten, observationsOf, supplyNumber, deliveryNumber, timeSeries}
-use Rattle.reports.specs.SeriesSums.{kindIn, byPosition, cellAt, SettledIn}
+use Rattle.reports.specs.SeriesSums.{byPosition, cellAt, SettledIn}
 use Rattle.reports.specs.SeriesSumsLaws.{parts-of, cell-is}
 use Rattle.reports.specs.SeriesSumsWritten.{observationIf, observationsIn, seriesIn, seriesIf}
 
@@ -106,18 +105,18 @@ some-length [] h = absurd (omega arith)
 some-length (a ∷ l) h = refl
 
 -- a series without observations isn't written, one with some is
-module _ (form : Form) (book : Book) (receiver partner : ℕ) (u : Supply) (v : Direction) (l : List Observation)
-    (own : l ≡ observationsOf book (kindIn form) receiver (seriesOf partner u v)) where
-  pub series-none : length l ≡ 0 → [] ≡ flatMap (seriesBytes form) (seriesIf book (kindIn form) receiver partner (u, v))
+module _ (kind : Kind) (book : Book) (receiver partner : ℕ) (u : Supply) (v : Direction) (l : List Observation)
+    (own : l ≡ observationsOf book kind receiver (seriesOf partner u v)) where
+  pub series-none : length l ≡ 0 → [] ≡ flatMap (seriesBytes kind) (seriesIf book kind receiver partner (u, v))
   unfolding seriesIf timeSeries keep flatMap
   series-none e = rw (ap isSome (sym own) ∙ no-length l e)
 
   pub series-some : (supply delivery : ℕ) (c : Calendar) → supply ≡ supplyNumber u → delivery ≡ deliveryNumber v → c ≡ book .calendar → 0 < length l
-      → seriesBytes form (seriesIn supply delivery c l) ≡ flatMap (seriesBytes form) (seriesIf book (kindIn form) receiver partner (u, v))
+      → seriesBytes kind (seriesIn supply delivery c l) ≡ flatMap (seriesBytes kind) (seriesIf book kind receiver partner (u, v))
   unfolding seriesIf timeSeries keep flatMap
   series-some supply delivery c e f g h =
-      let is : seriesIn supply delivery c l ≡ timeSeries book (kindIn form) receiver partner (u, v) = λ i. seriesIn (e i) (f i) (g i) (own i) in
-      rw (ap isSome (sym own) ∙ some-length l h) (ap (seriesBytes form) is ∙ sym (append-nil (seriesBytes form (timeSeries book (kindIn form) receiver partner (u, v)))))
+      let is : seriesIn supply delivery c l ≡ timeSeries book kind receiver partner (u, v) = λ i. seriesIn (e i) (f i) (g i) (own i) in
+      rw (ap isSome (sym own) ∙ some-length l h) (ap (seriesBytes kind) is ∙ sym (append-nil (seriesBytes kind (timeSeries book kind receiver partner (u, v)))))
 
 -- ---- the month
 
