@@ -1,6 +1,6 @@
 -- What an accepted call says of what was passed, and what a call in role and form with long enough buffers answers.
 use mathlib.Core.Path.{_≡_, refl, sym, ap, _∙_}
-use mathlib.Core.Bool.{Bool, true, false, _&&_}
+use mathlib.Core.Bool.{true, _&&_}
 use mathlib.Core.List.{List, List·Memᴰ}
 use mathlib.Core.Option.{Option, none, some}
 use Prim.Native.Nat.{ℕ, zero, suc, _*_, _≤_}
@@ -15,6 +15,7 @@ use Rattle.book.specs.Book.{Book, bookOf}
 use Rattle.book.specs.Refusals.{Refusal, unless}
 use Rattle.volumes.specs.Quarters.{monthQuarters}
 use Rattle.volumes.specs.Settlement.{rowWidth, rowCount, orElse, bookRefusal}
+use Rattle.volumes.specs.SoundLaws.{never, not-refused}
 use Rattle.volumes.specs.Sheets.{parties}
 use Rattle.volumes.specs.Series.{Kind, Toe01, Toe02, Toe03}
 use Rattle.message.specs.Valid.{isMoment}
@@ -37,17 +38,10 @@ unfolding stands
 mem-stands x l m = le-leb 1 (times x l) (mem-times x l m)
 
 -- a refusal that did not come
-never : (r : Refusal) → some r ≡ none → ⊥
-never r e = let z : _≡_ {A = ℕ} 0 1 = cc in omega arith
-
-not-refused : (test : Bool) (number : ℕ) (later : Option Refusal) → unless test number later ≡ none → (test ≡ true) × (later ≡ none)
-not-refused true number later e = (refl, e)
-not-refused false number later e = absurd (never _ e)
-
 later-none : (first later : Option Refusal) → orElse first later ≡ none → later ≡ none
 unfolding orElse
 later-none none later e = e
-later-none (some r) later e = absurd (never r e)
+later-none (some r) later e = absurd (never (r .number) e)
 
 -- ---- the sheet call
 
@@ -84,7 +78,7 @@ unfolding fileAnswer fileRefusal askedRefusal
 kind-asked bytes n receiver id moment rowsLent fileLent e k =
     let asked : Option Kind → Option Refusal = λ o. askedRefusal (bookOf bytes) o receiver id moment rowsLent fileLent in
     let passed = file-says-none (orElse (bookRefusal bytes) (asked (kindNumbered n))) (rowCount (bookOf bytes)) (length (textOf (bookOf bytes) (kindNumbered n) receiver id moment)) e in
-    never (record { number = 12; item = 0 }) (sym (ap asked k) ∙ later-none (bookRefusal bytes) (asked (kindNumbered n)) passed)
+    never 12 (sym (ap asked k) ∙ later-none (bookRefusal bytes) (asked (kindNumbered n)) passed)
 
 pub kind-is : (bytes : List ℕ) (n receiver : ℕ) (id moment : List ℕ) (rowsLent fileLent : ℕ) → isFile (fileAnswer bytes n receiver id moment rowsLent fileLent) ≡ true → (kind : Kind) × (n ≡ kindNumber kind)
 kind-is bytes zero receiver id moment rowsLent fileLent e = absurd (kind-asked bytes zero receiver id moment rowsLent fileLent e refl)

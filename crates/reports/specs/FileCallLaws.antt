@@ -18,6 +18,7 @@ use Rattle.book.specs.Refusals.{Refusal, refused, unless}
 use Rattle.book.specs.Book.{Book, bookOf}
 use Rattle.volumes.specs.Settlement.{rowWidth, rows, rowCount, orElse, bookRefusal}
 use Rattle.volumes.specs.SettlementLaws.{rows-length}
+use Rattle.volumes.specs.SoundLaws.{not-refused}
 use Rattle.volumes.specs.Series.{Kind}
 use Rattle.message.specs.Valid.{isMoment}
 use Rattle.writer.specs.WriterLaid.{ahead, ahead-fits, reached, Laid}
@@ -57,16 +58,11 @@ module _ (book : Book) (kind : Kind) (receiver : ℕ) (id moment : List ℕ) (le
   -- the rows have room where nothing is refused
   pub asked-room : askedVerdict book kind receiver id moment lent ≡ none → rowWidth * rowCount book ≤ lent
   unfolding askedVerdict
-  asked-room e = go (stands receiver (receivers book kind)) (isTransactionId id && isMoment moment) (leb (rowWidth * rowCount book) lent) refl e
-    where
-      never : (r : Refusal) → some r ≡ none → ⊥
-      never r e = let z : _≡_ {A = ℕ} 0 1 = cc in omega arith
-
-      go : (s f b : Bool) → leb (rowWidth * rowCount book) lent ≡ b → unless s 11 (unless f 12 (unless b 10 none)) ≡ none → rowWidth * rowCount book ≤ lent
-      go true true true t e = leb-true (rowWidth * rowCount book) lent t
-      go true true false t e = absurd (never _ e)
-      go true false b t e = absurd (never _ e)
-      go false f b t e = absurd (never _ e)
+  asked-room e =
+      let short = unless (leb (rowWidth * rowCount book) lent) 10 none in
+      let e₁ = not-refused (stands receiver (receivers book kind)) 11 (unless (isTransactionId id && isMoment moment) 12 short) e in
+      let e₂ = not-refused (isTransactionId id && isMoment moment) 12 short (e₁ .1) in
+      leb-true (rowWidth * rowCount book) lent (not-refused (leb (rowWidth * rowCount book) lent) 10 none (e₂ .1) .0)
 
 -- and then 10 with item 1
 unfoldable pub roomFor : List ℕ → List ℕ → Option Refusal

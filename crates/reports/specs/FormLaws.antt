@@ -1,7 +1,7 @@
 -- The file that a sound book gives is a valid one: so its bytes are read, and read as its rows.
 use mathlib.Core.Path.{_≡_, refl, sym, ap, subst, _∙_}
 use mathlib.Core.Bool.{Bool, true, false, cond, _&&_}
-use mathlib.Core.List.{List, [], _∷_, _++_, map, flatMap, List·Memᴰ, List·Memᴰ·head, List·Memᴰ·tail, Memᴰ·of-map}
+use mathlib.Core.List.{List, [], _∷_, map, flatMap, List·Memᴰ, List·Memᴰ·head, List·Memᴰ·tail, Memᴰ·of-map}
 use Prim.Native.Nat.{ℕ, zero, suc, _*_, _^_, _≤_, _<_}
 use native.Mathlib.Nat.{mul-suc, mul-le-mul-left}
 use native.Mathlib.Omega.{arith}
@@ -33,6 +33,7 @@ use Rattle.volumes.specs.WidthsLaws.{most, delivered-most}
 use Rattle.message.specs.Contents.{Observation, Series as TimeSeries, Partner, place, position, number}
 use Rattle.message.specs.Bytes.{digits, supplyOf}
 use Rattle.message.specs.Valid.{lastPosition, IsObservation, IsVolume, IsSeries, OneSupply, IsPartner, isMoment, monthOf, periods, firstOf, IsFile}
+use Rattle.message.specs.Months.{all-append}
 use Rattle.reports.specs.Keep.{keep, isSome}
 use Rattle.reports.specs.KeepLaws.{keep-length, mem-keep, keep-rises, each-all, some-length, some-member}
 use Rattle.reports.specs.AscendingLaws.{ascending-rises, ascending-once, ascending-length}
@@ -51,11 +52,6 @@ range-rises : (a n : ℕ) → rises a (range a n) ≡ true
 unfolding rises range
 range-rises a zero = refl
 range-rises a (suc n) = and-both (le-leb a a (omega arith)) (range-rises (suc a) n)
-
-all-append : {A : Type 0} (P : A → Type 0) (l m : List A) → All P l → All P m → All P (l ++ m)
-unfolding All
-all-append P [] m h k = k
-all-append P (a ∷ l) m h k = (h .0, all-append P l m (h .1) k)
 
 all-flatMap : {A B : Type 0} (P : B → Type 0) (f : A → List B) (l : List A) → ((a : A) → List·Memᴰ a l → All P (f a)) → All P (flatMap f l)
 unfolding All flatMap

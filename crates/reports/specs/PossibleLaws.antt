@@ -1,6 +1,6 @@
 -- Of every accepted book there are calls as demand 3 wants them: one for each party and receiver, with buffers of just the length.
 use mathlib.Core.Path.{_≡_, refl, ap, ap₂, _∙_}
-use mathlib.Core.Bool.{Bool, true, false, cond}
+use mathlib.Core.Bool.{Bool, true, false}
 use mathlib.Core.List.{List, [], _∷_, _++_, map, map-append, List·Memᴰ, List·Memᴰ·head, List·Memᴰ·tail}
 use Prim.Native.Nat.{ℕ, _+_, _*_}
 use native.Mathlib.Omega.{arith}
@@ -18,6 +18,7 @@ use Rattle.volumes.specs.Series.{Kind, Toe01, Toe02, Toe03}
 use Rattle.message.specs.Valid.{isMoment}
 use Rattle.message.specs.Calls.{kindNumbered, kindNumber}
 use Rattle.reports.specs.Keep.{keep}
+use Rattle.reports.specs.KeepLaws.{keep-append}
 use Rattle.reports.specs.Ascending.{ascending}
 use Rattle.reports.specs.AscendingLaws.{ascending-once}
 use Rattle.reports.specs.FileRows.{fileText}
@@ -38,15 +39,6 @@ module _ {A : Type 0} (test : A → Bool) (f : A → ℕ) (g : ℕ → A) where
   unfolding keep
   none-kept [] h = refl
   none-kept (x ∷ l) h = rw (h x) (none-kept l h)
-
-keep-append : {A : Type 0} (test : A → Bool) (l m : List A) → keep test (l ++ m) ≡ keep test l ++ keep test m
-unfolding keep
-keep-append test [] m = refl
-keep-append test (a ∷ l) m = go (test a) (keep-append test l m)
-  where
-    go : (t : Bool) → keep test (l ++ m) ≡ keep test l ++ keep test m → cond t (a ∷ keep test (l ++ m)) (keep test (l ++ m)) ≡ cond t (a ∷ keep test l) (keep test l) ++ keep test m
-    go true e = ap (λ r. a ∷ r) e
-    go false e = e
 
 wrote-append : (bytes : List ℕ) (kind : Kind) (l m : List (FileCall bytes)) → wroteFor kind (l ++ m) ≡ wroteFor kind l ++ wroteFor kind m
 unfolding wroteFor
