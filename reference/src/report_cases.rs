@@ -339,6 +339,9 @@ pub fn file_cases() -> Vec<FileCase> {
         cases.changed(&what, 1, 7, &f, |case| (case.rows_length, case.file_length) = (rows_length, file_length));
     }
     order_of_refusals(&mut cases, &f);
+    let pumps = heat_pumps();
+    cases.add("case two: 180 points, a provider's file", 1, 7, &pumps);
+    cases.add("case two: 180 points, a supplier's file", 2, 4, &pumps);
     let mut random = Random::new(8);
     for number in 1..=50 {
         let book = random_book(&mut random);

@@ -34,3 +34,10 @@ fn message_vectors() {
     let answers = message_cases::write_answers(&writing) + &message_cases::read_answers(&reading);
     assert!(stored("message_vectors", "stdout") == answers);
 }
+
+#[test]
+fn file_vectors() {
+    let cases = report_cases::file_cases_text();
+    assert!(stored("file_vectors", "stdin") == cases);
+    assert!(stored("file_vectors", "stdout") == report_cases::file_answers(&cases));
+}

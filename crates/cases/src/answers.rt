@@ -28,6 +28,25 @@ pub fn signed(z: i64) {
     io::print_decimal(1, magnitude(z));
 }
 
+// The numbers of a row are parted by spaces, and a line feed ends it.
+fn end_number(i: usize) {
+    if i % 4 == 3 {
+        io::write_all(1, b"\n");
+    } else {
+        io::write_all(1, b" ");
+    }
+}
+
+// Settlement rows, four numbers each.
+pub fn rows(numbers: &[i64]) {
+    let mut i = 0;
+    while i < numbers.len() {
+        signed(numbers[i]);
+        end_number(i);
+        i += 1;
+    }
+}
+
 // `refused NUMBER ITEM`
 pub fn refused(number: u64, item: u64) {
     io::write_all(1, b"refused ");

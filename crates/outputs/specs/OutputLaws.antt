@@ -25,7 +25,7 @@ use Rattle.volumes.specs.Settlement.{rows, rowCount}
 use Rattle.reports.specs.Calls.{over, afterwards, kindOf, textOf, fileRefusal, fileSays, fileAnswer, FileCalled}
 use Rattle.reports.specs.declared.FileAnswer.{FileAnswer}
 use Rattle.reports.specs.declared.FileAnswer.the-variants.{File, Refused}
-use Rattle.outputs.specs.Output.{inputMost, rowsLent, fileLent, refusedLine, printed, fileFor, refusalFor, judged, fileIn, rowsIn, output, Printed}
+use Rattle.outputs.specs.Output.{inputMost, rowsLent, fileLent, refusedLine, fileFor, refusalFor, judged, fileIn, rowsIn, output, Printed}
 
 -- ---- a number of 64 bits has at most 20 digits
 

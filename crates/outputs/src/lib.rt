@@ -1,8 +1,14 @@
 // What the program prints for its input.
+use reports::FileAnswer;
+use requests::Asked;
+use requests::Request;
+ghost use mathlib.Core.Path.{_≡_};
 ghost use Prim.Native.Nat.{_≤_};
 ghost use lib.ListN.{length};
 ghost use Rattle.text.specs.Written.{Wrote};
-ghost use Rattle.outputs.specs.Output.{refusedLine};
+ghost use Rattle.requests.specs.Line.{requestOf};
+ghost use Rattle.requests.specs.declared.Request.the-variants.{Line};
+ghost use Rattle.outputs.specs.Output.{inputMost, rowsLent, fileLent, refusedLine, Printed};
 
 // Writes `refused NUMBER ITEM` and a line feed; answers how many bytes.
 pub fn put_refused(out: &mut [u8], number: u64, item: u64) -> usize
@@ -14,4 +20,43 @@ pub fn put_refused(out: &mut [u8], number: u64, item: u64) -> usize
     let c = text::put(out, b, b" ");
     let d = text::put_plain(out, c, item);
     text::put(out, d, b"\n")
+}
+
+// The file that a line asks for, or the refusal of the file call.
+fn put_file(input: &[u8], asked: Asked, rows: &mut [i64], out: &mut [u8]) -> usize
+    requires { ⌜ (Line asked ≡ requestOf (now input)) × (length (now input) ≤ inputMost) × (length (now rows) ≡ rowsLent) × (length (now out) ≡ fileLent) ⌝ }
+    ensures { λ r. ⌜ Printed (now (input .entry)) (now (rows .entry)) (now (rows .exit)) (now (out .entry)) (now (out .exit)) r ⌝ }
+{
+    let id = asked.id;
+    let id_end = id + asked.id_length;
+    let moment = asked.moment;
+    let moment_end = moment + 29;
+    let book = asked.book;
+    let answer = reports::file::file(
+        &input[book..],
+        asked.kind,
+        asked.receiver,
+        &input[id..id_end],
+        &input[moment..moment_end],
+        rows,
+        out,
+    );
+    match answer {
+        FileAnswer::File(_, count) => count,
+        FileAnswer::Refused(number, item) => put_refused(out, number, item as u64),
+    }
+}
+
+// The output, in front of `out`; answers how many bytes.
+pub fn answer(input: &[u8], rows: &mut [i64; 8192], out: &mut [u8; 65536]) -> usize
+    ensures { λ r. ⌜ Printed (now (input .entry)) (now (rows .entry)) (now (rows .exit)) (now (out .entry)) (now (out .exit)) r ⌝ }
+{
+    let request = requests::read_request(input);
+    let Request::Line(asked) = request else {
+        return put_refused(out, 12, 0);
+    };
+    if 65536 < input.len() {
+        return put_refused(out, 2, 0);
+    }
+    put_file(input, asked, rows, out)
 }

@@ -1,9 +1,11 @@
+pub mod Rows
 pub mod Reading
 pub mod ReaderItems
 pub mod Filling
 pub mod FillingLaws
 pub mod ReaderSeries
 pub mod ReaderPartner
+pub mod RowsLaws
 pub mod ReaderPartners
 pub mod FillingParts
 pub mod ReaderPlaces

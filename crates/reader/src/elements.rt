@@ -1,41 +1,14 @@
 // The elements of a file from its observations up to its series, as the reader finds them.
 use formats::Mark;
-use formats::Val;
 ghost use mathlib.Core.Path.{_≡_};
 ghost use mathlib.Core.List.{flatMap};
 ghost use Rattle.formats.specs.Place.{Within, Parsed};
 ghost use Rattle.formats.specs.Combine.{strip, mapParse};
-ghost use Rattle.message.specs.ObservationForm.{quantity, observed, behindMonth, period};
+ghost use Rattle.message.specs.ObservationForm.{observed, behindMonth, period};
 ghost use Rattle.message.specs.SeriesForm.{volumeBody, ofVolume};
 ghost use Rattle.message.specs.Valid.{IsPeriod};
 ghost use Rattle.reader.specs.Reading.{observing, inOrder, keep, Passed, observationsOf, VolumeRead, outline, ownParse, sharedParse};
 ghost use Rattle.reader.specs.Filling.{Fills, Stored, rowsOfObservation, rowsOfSeries};
-
-// Kilowatts with three decimals, as watts.
-fn quantity(s: &[u8], m: Mark) -> Val
-    ensures { λ r. ⌜ Parsed (quantity .parse) (now (s .entry)) m (r .next) (r .value) ⌝ }
-{
-    let k = formats::number(s, m, 46, 999999999);
-    let a = k.next;
-    let Mark::At(_) = a else {
-        return Val {
-            value: 0,
-            next: Mark::No,
-        };
-    };
-    let f = formats::fixed(s, a, 3);
-    let b = f.next;
-    let Mark::At(_) = b else {
-        return Val {
-            value: 0,
-            next: Mark::No,
-        };
-    };
-    Val {
-        value: k.value * 1000 + f.value,
-        next: b,
-    }
-}
 
 // A mark where a test holds.
 pub fn kept(m: Mark, good: bool) -> Mark
@@ -69,18 +42,16 @@ fn observation(s: &[u8], m: Mark, low: u64, last: u64) -> Seen
     requires { ⌜ Within (now s) m ⌝ }
     ensures { λ r. ⌜ Parsed (observing last low) (now (s .entry)) m (r .next) (observed (r .position, r .watts)) ⌝ }
 {
-    let a = formats::tag(s, m, b"<Observation><Position>");
-    let p = formats::number(s, a, 60, 18446744073709551615);
-    let b = p.next;
-    let c = formats::tag(s, b, b"/Position><Quantity>");
-    let w = quantity(s, c);
-    let d = w.next;
-    let e = formats::tag(s, d, b"</Quantity></Observation>");
-    let good = in_order(p.value, w.value, low, last);
+    let start = cursor::at_mark(m);
+    let r = crate::rows::observation(s, start);
+    let to = r.to;
+    let e = cursor::place(to, s);
+    let watts = r.whole * 1000 + r.part;
+    let good = in_order(r.position, watts, low, last);
     let next = kept(e, good);
     Seen {
-        position: p.value,
-        watts: w.value,
+        position: r.position,
+        watts,
         next,
     }
 }
@@ -153,14 +124,9 @@ fn behind_month(s: &[u8], m: Mark, year: u64, month: u64) -> Mark
 {
     let start = message::moment_text(moments::period_start(year, month));
     let end = message::moment_text(moments::period_end(year, month));
-    let a = formats::tag(s, m, &start[7..29]);
-    let b = formats::tag(s, a, b"</PeriodStart><PeriodEnd>");
-    let c = formats::tag(s, b, &end);
-    formats::tag(
-        s,
-        c,
-        b"</PeriodEnd><PeriodResolution>PT15M</PeriodResolution>",
-    )
+    let from = cursor::at_mark(m);
+    let to = crate::rows::behind_month(s, from, &start[7..29], &end);
+    cursor::place(to, s)
 }
 
 // The month of a period, and the place behind it.
@@ -175,25 +141,21 @@ fn period(s: &[u8], m: Mark) -> Month
     requires { ⌜ Within (now s) m ⌝ }
     ensures { λ r. ⌜ Parsed (period .parse) (now (s .entry)) m (r .next) (r .year, r .month) ⌝ }
 {
-    let a = formats::tag(s, m, b"<PeriodStart>");
-    let y = formats::fixed(s, a, 4);
-    let b = y.next;
-    let c = formats::tag(s, b, b"-");
-    let n = formats::fixed(s, c, 2);
-    let d = n.next;
-    if !message::is_period(y.value, n.value) {
+    let start = cursor::at_mark(m);
+    let r = crate::rows::period(s, start);
+    let to = r.to;
+    let d = cursor::place(to, s);
+    let year = r.year;
+    let month = r.month;
+    if !message::is_period(year, month) {
         return Month {
-            year: y.value,
-            month: n.value,
+            year,
+            month,
             next: Mark::No,
         };
     }
-    let e = behind_month(s, d, y.value, n.value);
-    Month {
-        year: y.value,
-        month: n.value,
-        next: e,
-    }
+    let next = behind_month(s, d, year, month);
+    Month { year, month, next }
 }
 
 // A time series that was read, and the place behind it.
@@ -210,33 +172,26 @@ fn volume(s: &[u8], m: Mark, partner: u64, supply: u64, rows: u64, out: &mut [u6
     requires { ⌜ Within (now s) m ⌝ }
     ensures { λ r. ⌜ VolumeRead (now (s .entry)) m (r .next) (r .delivery) (r .year) (r .month) (r .rows) × Fills (volumeBody .parse) (λ v. rowsOfSeries partner (ofVolume supply v)) (now (s .entry)) m rows (now (out .entry)) (now (out .exit)) ⌝ }
 {
-    let a = formats::tag(s, m, b"<DeliveryDirection>");
-    let x = formats::word(s, a, b"DeliveryUp", b"DeliveryDown");
-    let b = x.next;
-    let c = formats::tag(
-        s,
-        b,
-        b"</DeliveryDirection><UnitType>KWT</UnitType><ObservationCounter>",
-    );
-    let n = formats::number(s, c, 60, 18446744073709551615);
-    let u = n.next;
-    let some = 0 < n.value;
-    let d = kept(u, some);
-    let e = formats::tag(s, d, b"/ObservationCounter><TimeSeriesPeriod>");
+    let start = cursor::at_mark(m);
+    let x = crate::rows::volume(s, start);
+    let to = x.to;
+    let d = cursor::place(to, s);
+    let some = 0 < x.count;
+    let e = kept(d, some);
     let q = period(s, e);
     let f = q.next;
     let key = Key {
         partner,
         supply,
-        delivery: x.value,
+        delivery: x.delivery,
     };
-    let g = observations(s, f, n.value, q.year, q.month, key, rows, out);
+    let g = observations(s, f, x.count, q.year, q.month, key, rows, out);
     let h = formats::tag(s, g, b"</TimeSeriesPeriod>");
     TimeSeries {
-        delivery: x.value,
+        delivery: x.delivery,
         year: q.year,
         month: q.month,
-        rows: n.value,
+        rows: x.count,
         next: h,
     }
 }
@@ -256,15 +211,15 @@ pub fn own_series(s: &[u8], m: Mark, partner: u64, rows: u64, out: &mut [u64]) -
     requires { ⌜ Within (now s) m ⌝ }
     ensures { λ r. ⌜ Parsed (mapParse outline ownParse) (now (s .entry)) m (r .next) ((r .supply, r .delivery), ((r .year, r .month), r .rows)) × Fills ownParse (rowsOfSeries partner) (now (s .entry)) m rows (now (out .entry)) (now (out .exit)) ⌝ }
 {
-    let a = formats::tag(s, m, b"<ToETimeSeries><SupplyDirection>");
-    let x = formats::word(s, a, b"Off-take", b"Injection");
-    let b = x.next;
-    let c = formats::tag(s, b, b"</SupplyDirection>");
-    let v = volume(s, c, partner, x.value, rows, out);
+    let start = cursor::at_mark(m);
+    let x = crate::rows::supply(s, start);
+    let to = x.to;
+    let c = cursor::place(to, s);
+    let v = volume(s, c, partner, x.supply, rows, out);
     let d = v.next;
     let e = formats::tag(s, d, b"</ToETimeSeries>");
     Series {
-        supply: x.value,
+        supply: x.supply,
         delivery: v.delivery,
         year: v.year,
         month: v.month,

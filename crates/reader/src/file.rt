@@ -1,7 +1,8 @@
 // A file is judged, its rows are counted, and they fill the lent numbers as far as these go.
 use crate::elements::Series;
+use crate::rows::ReceiverRow;
+use cursor::Cursor;
 use formats::Mark;
-use formats::Val;
 use message::Kind;
 ghost use mathlib.Core.Path.{_≡_};
 ghost use mathlib.Core.List.{_++_, flatMap};
@@ -19,7 +20,8 @@ ghost use Rattle.reader.specs.Filling.{Fills, rowsOfSeries, rowsOfPartne
 ghost use Rattle.message.specs.Bytes.{opening, ending, closing, root, counter, group};
 ghost use Rattle.message.specs.PartnerForm.{partnerForm};
 ghost use Rattle.message.specs.FileForm.{kindOf, kindForm, partnersForm, fileBody};
-ghost use Rattle.reader.specs.ReaderPartner.{directionCounter, companyForm, accessForm, headParse, partnerKept};
+ghost use Rattle.reader.specs.Rows.{receiverRow};
+ghost use Rattle.reader.specs.ReaderPartner.{companyForm, accessForm, headParse, partnerKept};
 ghost use Rattle.reader.specs.ReaderPartners.{partnerItem, adding};
 ghost use Rattle.reader.specs.ReaderFile.{Filed, rowsOfParts};
 ghost use Rattle.reader.specs.ReaderSeries.{seriesForm, joins, item, counting, listForm, Room};
@@ -81,25 +83,43 @@ fn joins(
     follows(seen_year, seen_month, year, month)
 }
 
-// The next series of a partner: from place `low` on, of the month that was seen.
-fn next_series(
-    s: &[u8],
-    m: Mark,
-    kind: Kind,
-    partner: u64,
+// A partner up to its series: its number, in TOE03 its supply direction, how many series follow, and their place.
+struct Head {
+    number: u64,
     supply: u64,
-    low: u64,
-    year: u64,
-    month: u64,
-    rows: u64,
-    out: &mut [u64],
-) -> Series
-    requires { ⌜ Within (now s) m × (supply ≤ 1) ⌝ }
-    ensures { λ r. ⌜ Parsed (mapParse outline (item kind supply (low, (year, month)) .parse)) (now (s .entry)) m (r .next) ((r .supply, r .delivery), ((r .year, r .month), r .rows)) × Fills (item kind supply (low, (year, month)) .parse) (rowsOfSeries partner) (now (s .entry)) m rows (now (out .entry)) (now (out .exit)) ⌝ }
+    count: u64,
+    next: Mark,
+}
+
+// The month of the series that were read and the number of their rows, and the place behind them.
+pub struct Tally {
+    pub year: u64,
+    pub month: u64,
+    pub rows: u64,
+    pub next: Mark,
+}
+
+// The tally of these.
+fn tallied(year: u64, month: u64, rows: u64, next: Mark) -> Tally
+    ensures { λ r. ⌜ r ≡ record { year = year; month = month; rows = rows; next = next } ⌝ }
 {
-    let x = series(s, m, kind, partner, supply, rows, out);
+    Tally {
+        year,
+        month,
+        rows,
+        next,
+    }
+}
+
+// The next series of a partner: from place `low` on, behind the series that t tells of.
+fn next_series(s: &[u8], kind: Kind, h: Head, low: u64, t: Tally, out: &mut [u64]) -> Series
+    requires { ⌜ Within (now s) (t .next) × (h .supply ≤ 1) ⌝ }
+    ensures { λ r. ⌜ Parsed (mapParse outline (item kind (h .supply) (low, (t .year, t .month)) .parse)) (now (s .entry)) (t .next) (r .next) ((r .supply, r .delivery), ((r .year, r .month), r .rows)) × Fills (item kind (h .supply) (low, (t .year, t .month)) .parse) (rowsOfSeries (h .number)) (now (s .entry)) (t .next) (t .rows) (now (out .entry)) (now (out .exit)) ⌝ }
+{
+    let m = t.next;
+    let x = series(s, m, kind, h.number, h.supply, t.rows, out);
     let a = x.next;
-    let good = joins(x.supply, x.delivery, x.year, x.month, low, year, month);
+    let good = joins(x.supply, x.delivery, x.year, x.month, low, t.year, t.month);
     let next = crate::elements::kept(a, good);
     Series {
         supply: x.supply,
@@ -111,38 +131,24 @@ fn next_series(
     }
 }
 
-// The month of the series that were read and the number of their rows, and the place behind them.
-pub struct Tally {
-    pub year: u64,
-    pub month: u64,
-    pub rows: u64,
-    pub next: Mark,
-}
-
-// n series of a partner, behind so many rows and the month that was seen.
+// The series of a partner behind its head, behind so many rows and the month that was seen.
 fn series_list(
     s: &[u8],
-    m: Mark,
     kind: Kind,
-    partner: u64,
-    supply: u64,
-    n: u64,
+    h: Head,
     year: u64,
     month: u64,
     rows: u64,
     out: &mut [u64],
 ) -> Tally
-    requires { ⌜ Within (now s) m × (supply ≤ 1) × Room m rows ⌝ }
-    ensures { λ r. ⌜ Parsed (mapParse (folded counting ((year, month), rows)) (listForm kind supply n (year, month) .parse)) (now (s .entry)) m (r .next) ((r .year, r .month), r .rows) × Room (r .next) (r .rows) × Fills (listForm kind supply n (year, month) .parse) (flatMap (rowsOfSeries partner)) (now (s .entry)) m rows (now (out .entry)) (now (out .exit)) ⌝ }
+    requires { ⌜ Within (now s) (h .next) × (h .supply ≤ 1) × Room (h .next) rows ⌝ }
+    ensures { λ r. ⌜ Parsed (mapParse (folded counting ((year, month), rows)) (listForm kind (h .supply) (h .count) (year, month) .parse)) (now (s .entry)) (h .next) (r .next) ((r .year, r .month), r .rows) × Room (r .next) (r .rows) × Fills (listForm kind (h .supply) (h .count) (year, month) .parse) (flatMap (rowsOfSeries (h .number))) (now (s .entry)) (h .next) rows (now (out .entry)) (now (out .exit)) ⌝ }
 {
+    let m = h.next;
     let Mark::At(start) = m else {
-        return Tally {
-            year,
-            month,
-            rows,
-            next: Mark::No,
-        };
+        return tallied(year, month, rows, Mark::No);
     };
+    let n = h.count;
     let mut at = start;
     let mut low: u64 = 0;
     let mut seen_year = year;
@@ -150,26 +156,11 @@ fn series_list(
     let mut count = rows;
     let mut i: u64 = 0;
     while i < n {
-        let o = next_series(
-            s,
-            Mark::At(at),
-            kind,
-            partner,
-            supply,
-            low,
-            seen_year,
-            seen_month,
-            count,
-            out,
-        );
+        let t = tallied(seen_year, seen_month, count, Mark::At(at));
+        let o = next_series(s, kind, h, low, t, out);
         let next = o.next;
         let Mark::At(q) = next else {
-            return Tally {
-                year,
-                month,
-                rows,
-                next: Mark::No,
-            };
+            return tallied(year, month, rows, Mark::No);
         };
         at = q;
         low = o.supply * 2 + o.delivery + 1;
@@ -178,35 +169,7 @@ fn series_list(
         count += o.rows;
         i += 1;
     }
-    Tally {
-        year: seen_year,
-        month: seen_month,
-        rows: count,
-        next: Mark::At(at),
-    }
-}
-
-// The counter of a partner's series.
-fn direction_counter(s: &[u8], m: Mark) -> Val
-    ensures { λ r. ⌜ Parsed (directionCounter .parse) (now (s .entry)) m (r .next) (r .value) ⌝ }
-{
-    let n = formats::number(s, m, 60, 18446744073709551615);
-    let a = n.next;
-    let some = 0 < n.value;
-    let b = crate::elements::kept(a, some);
-    let next = formats::tag(s, b, b"/DirectionCounter>");
-    Val {
-        value: n.value,
-        next,
-    }
-}
-
-// A partner up to its series: its number, in TOE03 its supply direction, how many series follow, and their place.
-struct Head {
-    number: u64,
-    supply: u64,
-    count: u64,
-    next: Mark,
+    tallied(seen_year, seen_month, count, Mark::At(at))
 }
 
 // The head of a supplier or an FSP, by the tags before and behind its number.
@@ -214,16 +177,16 @@ fn company_head(s: &[u8], m: Mark, before: &[u8], behind: &[u8]) -> Head
     requires { ⌜ Within (now s) m ⌝ }
     ensures { λ r. ⌜ Parsed (companyForm (now (before .entry)) (now (behind .entry)) .parse) (now (s .entry)) m (r .next) (r .number, r .count) × (r .supply ≡ 0) ⌝ }
 {
-    let a = formats::tag(s, m, before);
-    let k = formats::fixed(s, a, 10);
-    let b = k.next;
-    let c = formats::tag(s, b, behind);
-    let n = direction_counter(s, c);
-    let next = n.next;
+    let start = cursor::at_mark(m);
+    let r = crate::rows::company(s, start, before, behind);
+    let to = r.to;
+    let d = cursor::place(to, s);
+    let some = 0 < r.count;
+    let next = crate::elements::kept(d, some);
     Head {
-        number: k.value,
+        number: r.number,
         supply: 0,
-        count: n.value,
+        count: r.count,
         next,
     }
 }
@@ -233,19 +196,16 @@ fn access_head(s: &[u8], m: Mark) -> Head
     requires { ⌜ Within (now s) m ⌝ }
     ensures { λ r. ⌜ Parsed (accessForm .parse) (now (s .entry)) m (r .next) (r .number, (r .supply, r .count)) ⌝ }
 {
-    let a = formats::tag(s, m, b"<SDPSupplySeries><SDPSupply>");
-    let k = formats::fixed(s, a, 18);
-    let b = k.next;
-    let c = formats::tag(s, b, b"</SDPSupply><SupplyDirection>");
-    let x = formats::word(s, c, b"Off-take", b"Injection");
-    let d = x.next;
-    let e = formats::tag(s, d, b"</SupplyDirection><DirectionCounter>");
-    let n = direction_counter(s, e);
-    let next = n.next;
+    let start = cursor::at_mark(m);
+    let p = crate::rows::access_point(s, start);
+    let to = p.to;
+    let d = cursor::place(to, s);
+    let some = 0 < p.count;
+    let next = crate::elements::kept(d, some);
     Head {
-        number: k.value,
-        supply: x.value,
-        count: n.value,
+        number: p.number,
+        supply: p.supply,
+        count: p.count,
         next,
     }
 }
@@ -317,18 +277,7 @@ fn partner(
             next: Mark::No,
         };
     };
-    let t = series_list(
-        s,
-        a,
-        kind,
-        h.number,
-        h.supply,
-        h.count,
-        year,
-        month,
-        rows,
-        out,
-    );
+    let t = series_list(s, kind, h, year, month, rows, out);
     let b = t.next;
     let next = group_end(s, b, kind);
     PartnerRead {
@@ -374,12 +323,7 @@ fn partners(s: &[u8], m: Mark, kind: Kind, n: u64, out: &mut [u64]) -> Tally
     ensures { λ r. ⌜ Parsed (mapParse (folded adding ((0, 0), 0)) (partnersForm kind n .parse)) (now (s .entry)) m (r .next) ((r .year, r .month), r .rows) × Room (r .next) (r .rows) × Fills (partnersForm kind n .parse) (flatMap rowsOfPartner) (now (s .entry)) m 0 (now (out .entry)) (now (out .exit)) ⌝ }
 {
     let Mark::At(start) = m else {
-        return Tally {
-            year: 0,
-            month: 0,
-            rows: 0,
-            next: Mark::No,
-        };
+        return tallied(0, 0, 0, Mark::No);
     };
     let mut at = start;
     let mut low: u64 = 0;
@@ -391,12 +335,7 @@ fn partners(s: &[u8], m: Mark, kind: Kind, n: u64, out: &mut [u64]) -> Tally
         let p = next_partner(s, Mark::At(at), kind, low, year, month, rows, out);
         let next = p.next;
         let Mark::At(q) = next else {
-            return Tally {
-                year: 0,
-                month: 0,
-                rows: 0,
-                next: Mark::No,
-            };
+            return tallied(0, 0, 0, Mark::No);
         };
         at = q;
         low = p.number + 1;
@@ -405,12 +344,7 @@ fn partners(s: &[u8], m: Mark, kind: Kind, n: u64, out: &mut [u64]) -> Tally
         rows = p.rows;
         i += 1;
     }
-    Tally {
-        year,
-        month,
-        rows,
-        next: Mark::At(at),
-    }
+    tallied(year, month, rows, Mark::At(at))
 }
 
 // A kind that was read, and the place behind it.
@@ -467,27 +401,29 @@ fn file_moment(s: &[u8], m: Mark) -> Mark
     Mark::At(p + 29)
 }
 
-// What stands between the receiver and the counter of partners.
-fn receiver_end(s: &[u8], m: Mark, kind: Kind) -> Mark
-    requires { ⌜ Within (now s) m ⌝ }
-    ensures { λ r. ⌜ Parsed (strip (closing "ReceiverID" ++ opening (counter kind))) (now (s .entry)) m r tt ⌝ }
+// The receiver and the counter of partners, in a file of a kind.
+fn receiver(s: &[u8], start: Cursor, kind: Kind) -> ReceiverRow
+    ensures { λ r. ⌜ r ≡ receiverRow (now (s .entry)) start (closing "ReceiverID" ++ opening (counter kind)) (ending (counter kind)) ⌝ }
 {
     match kind {
-        Kind::Toe01 => formats::tag(s, m, b"</ReceiverID><SupplierCounter>"),
-        Kind::Toe02 => formats::tag(s, m, b"</ReceiverID><FSPCounter>"),
-        Kind::Toe03 => formats::tag(s, m, b"</ReceiverID><SDPSupplyCounter>"),
-    }
-}
-
-// The tag that ends the counter of partners, without the byte that ends the number.
-fn counter_end(s: &[u8], m: Mark, kind: Kind) -> Mark
-    requires { ⌜ Within (now s) m ⌝ }
-    ensures { λ r. ⌜ Parsed (strip (ending (counter kind))) (now (s .entry)) m r tt ⌝ }
-{
-    match kind {
-        Kind::Toe01 => formats::tag(s, m, b"/SupplierCounter>"),
-        Kind::Toe02 => formats::tag(s, m, b"/FSPCounter>"),
-        Kind::Toe03 => formats::tag(s, m, b"/SDPSupplyCounter>"),
+        Kind::Toe01 => crate::rows::receiver(
+            s,
+            start,
+            b"</ReceiverID><SupplierCounter>",
+            b"/SupplierCounter>",
+        ),
+        Kind::Toe02 => crate::rows::receiver(
+            s,
+            start,
+            b"</ReceiverID><FSPCounter>",
+            b"/FSPCounter>",
+        ),
+        Kind::Toe03 => crate::rows::receiver(
+            s,
+            start,
+            b"</ReceiverID><SDPSupplyCounter>",
+            b"/SDPSupplyCounter>",
+        ),
     }
 }
 
@@ -523,23 +459,25 @@ pub fn file_read(s: &[u8], out: &mut [u64]) -> FileRead
     let r = file_root(s, Mark::At(0));
     let a = r.next;
     let kind = r.kind;
-    let id = formats::tag(s, a, b"<TransactionID>");
-    let id_end = formats::name(s, id, 1, 36, 60);
-    let moment = formats::tag(s, id_end, b"/TransactionID><MessageCreateDateTime>");
+    let start = cursor::at_mark(a);
+    let w = crate::rows::message(s, start);
+    let at_id = w.id;
+    let at_end = w.end;
+    let at_moment = w.to;
+    let id = cursor::place(at_id, s);
+    let id_end = cursor::place(at_end, s);
+    let moment = cursor::place(at_moment, s);
     let b = file_moment(s, moment);
-    let c = formats::tag(s, b, b"</MessageCreateDateTime><ReceiverID>");
-    let v = formats::fixed(s, c, 10);
-    let d = v.next;
-    let e = receiver_end(s, d, kind);
-    let n = formats::number(s, e, 60, 18446744073709551615);
-    let f = n.next;
-    let g = counter_end(s, f, kind);
-    let t = partners(s, g, kind, n.value, out);
+    let c = cursor::at_mark(b);
+    let v = receiver(s, c, kind);
+    let to = v.to;
+    let g = cursor::place(to, s);
+    let t = partners(s, g, kind, v.count, out);
     let h = t.next;
     let next = root_end(s, h, kind);
     FileRead {
         kind,
-        receiver: v.value,
+        receiver: v.receiver,
         year: t.year,
         month: t.month,
         rows: t.rows,

@@ -1,6 +1,7 @@
 // The reader of a file.
 mod elements;
 mod file;
+mod rows;
 
 use crate::file::FileRead;
 use formats::Mark;

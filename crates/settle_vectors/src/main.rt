@@ -7,24 +7,6 @@ ghost use Prim.Native.Nat.{_*_, _≤_};
 ghost use lib.ListN.{length};
 ghost use Rattle.settle_vectors.specs.Fits.{Fits};
 
-// The numbers of a row are parted by spaces, and a line feed ends it.
-fn end_number(i: usize) {
-    if i % 4 == 3 {
-        cases::answers::text(b"\n");
-    } else {
-        cases::answers::text(b" ");
-    }
-}
-
-fn print_rows(rows: &[i64]) {
-    let mut i = 0;
-    while i < rows.len() {
-        cases::answers::signed(rows[i]);
-        end_number(i);
-        i += 1;
-    }
-}
-
 // The number of rows, and the rows; the numbers behind them are to be kept.
 fn answer_rows(rows: &[i64], count: usize)
     requires { ⌜ 4 * count ≤ length (now rows) ⌝ }
@@ -33,7 +15,7 @@ fn answer_rows(rows: &[i64], count: usize)
     cases::answers::number(count as u64);
     cases::answers::text(b"\n");
     let end = 4 * count;
-    print_rows(&rows[..end]);
+    cases::answers::rows(&rows[..end]);
     cases::lent::kept(&rows[end..]);
 }
 

@@ -12,3 +12,4 @@ pub mod VerdictsLaws
 pub mod Settling
 pub mod SettlingLaws
 pub mod CallsLaws
+pub mod AcceptedLaws

@@ -1,18 +1,30 @@
 -- A call's answer as one number, which the functions that C links give back.
 use mathlib.Core.Path.{_≡_}
-use mathlib.Core.List.{List}
+use mathlib.Core.List.{List, [], _∷_}
 use Prim.Native.Nat.{ℕ, _+_, _*_, _^_}
 use lib.IntN.{ℤ}
 use lib.ListN.{length}
 use Rattle.book.specs.Book.{bookOf}
+use Rattle.message.specs.declared.FileFacts.{FileFacts}
+use Rattle.message.specs.declared.ReadAnswer.{ReadAnswer}
+use Rattle.message.specs.declared.ReadAnswer.the-variants.{File as FileRead, Refused as ReadRefused}
 use Rattle.message.specs.declared.WriteAnswer.{WriteAnswer}
 use Rattle.message.specs.declared.WriteAnswer.the-variants.{Bytes, Refused as WriteRefused}
-use Rattle.message.specs.Calls.{afterwards, kindNumbered, writeSays}
+use Rattle.message.specs.Rows.{Message}
+use Rattle.message.specs.FileLaws.{readMessage}
+use Rattle.message.specs.Calls.{afterwards, kindNumbered, kindNumber, factsOf, readVerdict, readSays, messageNumbers, writeSays}
 use Rattle.writer.specs.WriteCalls.{writeVerdict}
 use Rattle.volumes.specs.Settlement.{rows, rowCount, settlingRefusal}
 use Rattle.settlement.specs.declared.settle.Settled.{Settled}
 use Rattle.settlement.specs.declared.settle.Settled.the-variants.{Rows, Refused as SettleRefused}
 use Rattle.settlement.specs.Settling.{answerBy, filledBy}
+use Rattle.volumes.specs.Sheets.{sheet}
+use Rattle.reports.specs.declared.SheetAnswer.{SheetAnswer}
+use Rattle.reports.specs.declared.SheetAnswer.the-variants.{Sheet, Refused as SheetRefused}
+use Rattle.reports.specs.declared.FileAnswer.{FileAnswer}
+use Rattle.reports.specs.declared.FileAnswer.the-variants.{File, Refused as FileRefused}
+use Rattle.reports.specs.Calls.{sheetRefusal, sheetAnswer, kindOf, textOf, fileRefusal, fileAnswer}
+use Rattle.reports.specs.Calls as reports
 
 -- refused: 2^63, the number times 2^32, and the item
 unfoldable pub refusalCode : ℕ → ℕ → ℕ
@@ -23,6 +35,18 @@ abbrev pub settleCode : Settled → ℕ
 settleCode (Rows count) = count
 settleCode (SettleRefused number item) = refusalCode number item
 
+abbrev pub sheetCode : SheetAnswer → ℕ
+sheetCode (Sheet count) = count
+sheetCode (SheetRefused number item) = refusalCode number item
+
+abbrev pub fileCode : FileAnswer → ℕ
+fileCode (File rowCount count) = count
+fileCode (FileRefused number item) = refusalCode number item
+
+abbrev pub readCode : ReadAnswer → ℕ
+readCode (FileRead f) = f .rows
+readCode (ReadRefused number item) = refusalCode number item
+
 abbrev pub writeCode : WriteAnswer → ℕ
 writeCode (Bytes count) = count
 writeCode (WriteRefused number item) = refusalCode number item
@@ -31,6 +55,30 @@ writeCode (WriteRefused number item) = refusalCode number item
 pub record SettleCoded (bytes : List ℕ) (lent : List ℤ) (code : ℕ) (left : List ℤ) : Type 0 where
   pub answered : code ≡ settleCode (answerBy (settlingRefusal bytes (length lent)) (rowCount (bookOf bytes)))
   pub filled : left ≡ filledBy (settlingRefusal bytes (length lent)) (rows (bookOf bytes)) lent
+
+-- a party's sheet, given room for the sums, answers so and leaves the sums so
+pub record SheetCoded (bytes : List ℕ) (party : ℕ) (before after : List ℤ) (code : ℕ) : Type 0 where
+  pub answered : code ≡ sheetCode (sheetAnswer bytes party (length before))
+  pub sums : after ≡ reports.afterwards (sheetRefusal bytes party (length before)) (sheet (bookOf bytes) party) before
+
+-- a receiver's file, given rows and a file's buffer, answers so and leaves both so
+pub record FileCoded (bytes : List ℕ) (kind receiver : ℕ) (id moment : List ℕ) (rowsBefore rowsAfter : List ℤ) (before after : List ℕ) (code : ℕ) : Type 0 where
+  pub answered : code ≡ fileCode (fileAnswer bytes kind receiver id moment (length rowsBefore) (length before))
+  pub filled : rowsAfter ≡ reports.afterwards (fileRefusal bytes kind receiver id moment (length rowsBefore) (length before)) (rows (bookOf bytes)) rowsBefore
+  pub file : after ≡ reports.afterwards (fileRefusal bytes kind receiver id moment (length rowsBefore) (length before)) (textOf (bookOf bytes) (kindOf kind) receiver id moment) before
+
+-- "kind, receiver, year, month", and "where ID and moment stand": each place and length; a moment has 29 bytes
+unfoldable pub factNumbers : FileFacts → List ℕ
+factNumbers f = kindNumber (f .kind) ∷ f .receiver ∷ f .year ∷ f .month ∷ f .id ∷ f .«id_length» ∷ f .moment ∷ 29 ∷ []
+
+abbrev pub messageFacts : Message → List ℕ
+messageFacts m = factNumbers (factsOf m)
+
+-- reading a file, given rows and room for eight facts, answers so and leaves both so
+pub record ReadCoded (file rowsBefore rowsAfter factsBefore factsAfter : List ℕ) (code : ℕ) : Type 0 where
+  pub answered : code ≡ readCode (readSays (readVerdict (readMessage file) (length rowsBefore)))
+  pub rows : rowsAfter ≡ afterwards messageNumbers (readVerdict (readMessage file) (length rowsBefore)) rowsBefore
+  pub facts : factsAfter ≡ afterwards messageFacts (readVerdict (readMessage file) (length rowsBefore)) factsBefore
 
 -- writing from rows, given a file's buffer, answers so and leaves the buffer so
 pub record WriteCoded (kind receiver year month : ℕ) (rows id moment before after : List ℕ) (code : ℕ) : Type 0 where

@@ -1,3 +1,4 @@
 pub mod Codes
 pub mod Small
 pub mod SmallLaws
+pub mod CodesLaws

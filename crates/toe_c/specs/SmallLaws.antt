@@ -29,15 +29,26 @@ use Rattle.volumes.specs.Settlement.{needed, tooFew, rowWidth, rowCount, refusa
 use Rattle.settlement.specs.declared.settle.Settled.{Settled}
 use Rattle.settlement.specs.Settling.{answerBy, SettleCall}
 use Rattle.moments.specs.Ids.{isTransactionId}
-use Rattle.message.specs.declared.Kind.{Kind}
+use Rattle.message.specs.declared.Kind.{Kind as FileKind}
+use Rattle.message.specs.declared.ReadAnswer.{ReadAnswer}
 use Rattle.message.specs.declared.WriteAnswer.{WriteAnswer}
 use Rattle.message.specs.Valid.{isMoment}
-use Rattle.message.specs.FileLaws.{messageBytes}
-use Rattle.message.specs.Calls.{Verdict, accepted, refused as sent, unless as judge, kindNumbered, writeSays}
+use Rattle.message.specs.FileLaws.{messageBytes, readMessage}
+use Rattle.message.specs.Calls.{Verdict, accepted, refused as sent, unless as judge, kindNumbered, readVerdict, readSays, ReadCalled, writeSays}
+use Rattle.message.specs.Rows.{Message}
+use Rattle.formats.specs.Format.{Res, got, bad}
 use Rattle.writer.specs.WriterRows.{isRows, rowsMessage}
 use Rattle.writer.specs.WriteCalls.{fitting, writeVerdict, WriteCalled}
 use Rattle.toe_c.specs.Codes.{refusalCode}
-use Rattle.toe_c.specs.Small.{Small, SettledSmall, WrittenSmall}
+use Rattle.volumes.specs.Quarters.{monthQuarters}
+use Rattle.volumes.specs.Sheets.{parties}
+use Rattle.reports.specs.declared.SheetAnswer.{SheetAnswer}
+use Rattle.reports.specs.declared.FileAnswer.{FileAnswer}
+use Rattle.reports.specs.FileRows.{fileText}
+use Rattle.reports.specs.Roles.{receivers}
+use Rattle.reports.specs.Calls.{stands, sheetRefusal, sheetSays, sheetAnswer, SheetCalled, kindOf, textOf, shortRefusal, askedRefusal, fileRefusal, fileSays, fileAnswer, FileCalled}
+use Rattle.volumes.specs.Series.{Kind}
+use Rattle.toe_c.specs.Small.{Small, SettledSmall, SheetSmall, FiledSmall, ReadSmall, WrittenSmall}
 
 abbrev pub AllSmall : Option Refusal → Type 0
 AllSmall none = Unit {0}
@@ -156,6 +167,57 @@ settled-small (some r) count h = h
 pub settle-small : {bytes : List ℕ} {lent left : List ℤ} {answer : Settled} → SettleCall bytes lent answer left → SettledSmall answer
 settle-small {bytes} {lent} s = rw (s .answered) (settled-small (settlingRefusal bytes (length lent)) (rowCount (bookOf bytes)) (settling-small bytes (length lent)))
 
+-- 1 to 9, 11 and 10
+sheet-judged : (bytes : List ℕ) (party lent : ℕ) → AllSmall (sheetRefusal bytes party lent)
+unfolding sheetRefusal
+sheet-judged bytes party lent =
+    small-else (bookRefusal bytes) _ (book-small bytes) (λ e.
+    small-unless (stands party (parties (bookOf bytes))) 11 _ (omega arith) (λ f.
+    small-unless (leb (monthQuarters (bookOf bytes .calendar)) lent) 10 none (omega arith) (λ g. tt)))
+
+sheet-said : (x : Option Refusal) (count : ℕ) → AllSmall x → SheetSmall (sheetSays x count)
+unfolding sheetSays
+sheet-said none count h = tt
+sheet-said (some r) count h = h
+
+pub sheet-small : {bytes : List ℕ} {party : ℕ} {before after : List ℤ} {r : SheetAnswer} → SheetCalled bytes party before after r → SheetSmall r
+unfolding sheetAnswer
+sheet-small {bytes} {party} {before} s =
+    rw (s .answer) (sheet-said (sheetRefusal bytes party (length before)) (monthQuarters (bookOf bytes .calendar)) (sheet-judged bytes party (length before)))
+
+-- 1 to 9, 12, 11, 12 and 10
+short-judged : (rowNumbers rowsLent fileLength fileLent : ℕ) → AllSmall (shortRefusal rowNumbers rowsLent fileLength fileLent)
+unfolding shortRefusal
+short-judged rowNumbers rowsLent fileLength fileLent = small-unless (leb rowNumbers rowsLent) 10 _ (omega arith) (λ e. go (leb fileLength fileLent))
+  where
+    go : (t : Bool) → AllSmall (cond t none (refused 10 1))
+    go true = tt
+    go false = record { number-few = omega arith; item-few = omega arith }
+
+asked-judged : (book : Book) (kind : Option Kind) (receiver : ℕ) (id moment : List ℕ) (rowsLent fileLent : ℕ) → AllSmall (askedRefusal book kind receiver id moment rowsLent fileLent)
+unfolding askedRefusal
+asked-judged book none receiver id moment rowsLent fileLent = record { number-few = omega arith; item-few = omega arith }
+asked-judged book (some kind) receiver id moment rowsLent fileLent =
+    small-unless (stands receiver (receivers book kind)) 11 _ (omega arith) (λ e.
+    small-unless (isTransactionId id && isMoment moment) 12 _ (omega arith) (λ f.
+    short-judged (rowWidth * rowCount book) rowsLent (length (fileText book kind receiver id moment)) fileLent))
+
+file-judged : (bytes : List ℕ) (kind receiver : ℕ) (id moment : List ℕ) (rowsLent fileLent : ℕ) → AllSmall (fileRefusal bytes kind receiver id moment rowsLent fileLent)
+unfolding fileRefusal
+file-judged bytes kind receiver id moment rowsLent fileLent =
+    small-else (bookRefusal bytes) _ (book-small bytes) (λ e. asked-judged (bookOf bytes) (kindOf kind) receiver id moment rowsLent fileLent)
+
+file-said : (x : Option Refusal) (rowCount count : ℕ) → AllSmall x → FiledSmall (fileSays x rowCount count)
+unfolding fileSays
+file-said none rowCount count h = tt
+file-said (some r) rowCount count h = h
+
+pub file-small : {bytes : List ℕ} {kind receiver : ℕ} {id moment : List ℕ} {rowsBefore rowsAfter : List ℤ} {before after : List ℕ} {r : FileAnswer} → FileCalled bytes kind receiver id moment rowsBefore rowsAfter before after r → FiledSmall r
+unfolding fileAnswer
+file-small {bytes} {kind} {receiver} {id} {moment} {rowsBefore} {before = before} c =
+    let x = fileRefusal bytes kind receiver id moment (length rowsBefore) (length before) in
+    rw (c .answer) (file-said x (rowCount (bookOf bytes)) (length (textOf (bookOf bytes) (kindOf kind) receiver id moment)) (file-judged bytes kind receiver id moment (length rowsBefore) (length before)))
+
 -- writing from rows: 12, 13, 12 and 10
 verdict-small : {A : Type 0} (t : Bool) (number item : ℕ) (later : Verdict A) → Small number item → VerdictSmall later → VerdictSmall (judge t number item later)
 verdict-small true number item later h k = k
@@ -169,7 +231,7 @@ written-small (sent number item) h = h
 few : (number item : ℕ) → number ≤ 13 → item ≤ 512 → Small number item
 few number item h k = record { number-few = h; item-few = k }
 
-verdict-written : (kind : Option Kind) (receiver year month : ℕ) (rows id moment : List ℕ) (lent : ℕ) → VerdictSmall (writeVerdict kind receiver year month rows id moment lent)
+verdict-written : (kind : Option FileKind) (receiver year month : ℕ) (rows id moment : List ℕ) (lent : ℕ) → VerdictSmall (writeVerdict kind receiver year month rows id moment lent)
 unfolding writeVerdict fitting
 verdict-written none receiver year month rows id moment lent = few 12 0 (omega arith) (omega arith)
 verdict-written (some kind) receiver year month rows id moment lent =
@@ -182,3 +244,18 @@ pub write-small : {kind receiver year month : ℕ} {rows id moment before after 
 write-small {kind} {receiver} {year} {month} {rows} {id} {moment} {before} w =
     let v = writeVerdict (kindNumbered kind) receiver year month rows id moment (length before) in
     rw (w .answer) (written-small v (verdict-written (kindNumbered kind) receiver year month rows id moment (length before)))
+
+-- reading: 13 and 10
+read-judged : (m : Res Message) (lent : ℕ) → VerdictSmall (readVerdict m lent)
+unfolding readVerdict
+read-judged bad lent = few 13 0 (omega arith) (omega arith)
+read-judged (got m rest) lent = verdict-small (leb (6 * length (m .rows)) lent) 10 0 (accepted m) (few 10 0 (omega arith) (omega arith)) tt
+
+read-said : (v : Verdict Message) → VerdictSmall v → ReadSmall (readSays v)
+unfolding readSays
+read-said (accepted m) h = tt
+read-said (sent number item) h = h
+
+pub read-small : {file before after : List ℕ} {r : ReadAnswer} → ReadCalled file before after r → ReadSmall r
+read-small {file} {before} c =
+    rw (c .answer) (read-said (readVerdict (readMessage file) (length before)) (read-judged (readMessage file) (length before)))

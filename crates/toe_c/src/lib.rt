@@ -1,9 +1,17 @@
 // The calls as functions that C and Rust can link: each answers one number.
+use message::FileFacts;
+use message::Kind;
+use message::ReadAnswer;
 use message::WriteAnswer;
+use reports::FileAnswer;
+use reports::SheetAnswer;
 use settlement::settle::Settled;
 ghost use mathlib.Core.Path.{_≡_};
-ghost use Rattle.toe_c.specs.Codes.{refusalCode, settleCode, writeCode, SettleCoded, WriteCoded};
-ghost use Rattle.toe_c.specs.Small.{Small, SettledSmall, WrittenSmall};
+ghost use Prim.Native.Nat.{_≤_};
+ghost use lib.ListN.{length};
+ghost use Rattle.message.specs.Calls.{over, kindNumber};
+ghost use Rattle.toe_c.specs.Codes.{refusalCode, settleCode, sheetCode, fileCode, writeCode, factNumbers, SettleCoded, SheetCoded, FileCoded, ReadCoded, WriteCoded};
+ghost use Rattle.toe_c.specs.Small.{Small, SettledSmall, SheetSmall, FiledSmall, WrittenSmall};
 
 // A refusal as one number.
 fn refusal_code(number: u64, item: usize) -> u64
@@ -23,6 +31,26 @@ fn settle_code(answer: Settled) -> u64
     }
 }
 
+fn sheet_code(answer: SheetAnswer) -> u64
+    requires { ⌜ SheetSmall answer ⌝ }
+    ensures { λ r. ⌜ r ≡ sheetCode answer ⌝ }
+{
+    match answer {
+        SheetAnswer::Sheet(count) => count as u64,
+        SheetAnswer::Refused(number, item) => refusal_code(number, item),
+    }
+}
+
+fn file_code(answer: FileAnswer) -> u64
+    requires { ⌜ FiledSmall answer ⌝ }
+    ensures { λ r. ⌜ r ≡ fileCode answer ⌝ }
+{
+    match answer {
+        FileAnswer::File(_, count) => count as u64,
+        FileAnswer::Refused(number, item) => refusal_code(number, item),
+    }
+}
+
 fn write_code(answer: WriteAnswer) -> u64
     requires { ⌜ WrittenSmall answer ⌝ }
     ensures { λ r. ⌜ r ≡ writeCode answer ⌝ }
@@ -39,6 +67,71 @@ pub extern "C" fn toe_settle(book: &[u8], rows: &mut [i64]) -> u64
     ensures { λ r. ⌜ SettleCoded (now (book .entry)) (now (rows .entry)) r (now (rows .exit)) ⌝ }
 {
     settle_code(settlement::settle::settle(book, rows))
+}
+
+// Fills a party's sheet; answers how many sums.
+#[no_mangle]
+pub extern "C" fn toe_sheet(book: &[u8], party: u16, sums: &mut [i64]) -> u64
+    ensures { λ r. ⌜ SheetCoded (now (book .entry)) party (now (sums .entry)) (now (sums .exit)) r ⌝ }
+{
+    sheet_code(reports::sheet::sheet(book, party, sums))
+}
+
+// A receiver's file of a book, and the book's settlement rows; answers how many bytes.
+#[no_mangle]
+pub extern "C" fn toe_file(
+    book: &[u8],
+    kind: u8,
+    receiver: u64,
+    id: &[u8],
+    moment: &[u8],
+    rows: &mut [i64],
+    file: &mut [u8],
+) -> u64
+    ensures { λ r. ⌜ FileCoded (now (book .entry)) kind receiver (now (id .entry)) (now (moment .entry)) (now (rows .entry)) (now (rows .exit)) (now (file .entry)) (now (file .exit)) r ⌝ }
+{
+    file_code(reports::file::file(book, kind, receiver, id, moment, rows, file))
+}
+
+fn kind_number(kind: Kind) -> u64
+    ensures { λ r. ⌜ r ≡ kindNumber kind ⌝ }
+{
+    match kind {
+        Kind::Toe01 => 1,
+        Kind::Toe02 => 2,
+        Kind::Toe03 => 3,
+    }
+}
+
+// Kind, receiver, year and month of a file, and where its ID and its moment stand.
+fn put_facts(f: FileFacts, facts: &mut [u64])
+    requires { ⌜ 8 ≤ length (now facts) ⌝ }
+    ensures { λ r. ⌜ now (facts .exit) ≡ over (factNumbers f) (now (facts .entry)) ⌝ }
+{
+    let kind = f.kind;
+    facts[0] = kind_number(kind);
+    facts[1] = f.receiver;
+    facts[2] = f.year;
+    facts[3] = f.month;
+    facts[4] = f.id as u64;
+    facts[5] = f.id_length as u64;
+    facts[6] = f.moment as u64;
+    facts[7] = 29;
+}
+
+// Reads a file into rows of six numbers, and what it says beside them into `facts`; answers how many rows.
+#[no_mangle]
+pub extern "C" fn toe_read(file: &[u8], rows: &mut [u64], facts: &mut [u64; 8]) -> u64
+    ensures { λ r. ⌜ ReadCoded (now (file .entry)) (now (rows .entry)) (now (rows .exit)) (now (facts .entry)) (now (facts .exit)) r ⌝ }
+{
+    let answer = reader::read(file, rows);
+    match answer {
+        ReadAnswer::File(f) => {
+            put_facts(f, facts);
+            f.rows as u64
+        }
+        ReadAnswer::Refused(number, item) => refusal_code(number as u64, item),
+    }
 }
 
 // Writes a file from rows of six numbers; answers how many bytes.

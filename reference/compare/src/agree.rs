@@ -9,10 +9,8 @@ use reference::message::{self, FileRead};
 use reference::message_cases::random_file;
 use reference::random::Random;
 use reference::refusal::Refusal;
-#[cfg(feature = "file")]
 use reference::series;
 use reference::settle;
-#[cfg(feature = "sheet")]
 use reference::sheet;
 
 const LONG: usize = 1 << 22;
@@ -66,9 +64,12 @@ impl Comparison {
         self.tally.count("settle", &expected);
     }
 
-    #[cfg(feature = "sheet")]
     fn sheet(&mut self, bytes: &[u8]) {
-        let party = self.random.range(0, 7) as u16;
+        let any = self.random.range(0, 9) as u16;
+        let party = match decode(bytes) {
+            Ok(book) if !self.random.once_in(6) => self.random.pick(&sheet::parties(&book)),
+            _ => any,
+        };
         let needed = sheet::sheet(bytes, party, LONG).map_or(8, |sums| sums.len());
         let length = near(&mut self.random, needed);
         let expected = sheet::sheet(bytes, party, length);
@@ -79,11 +80,7 @@ impl Comparison {
         self.tally.count("sheet", &expected);
     }
 
-    #[cfg(not(feature = "sheet"))]
-    fn sheet(&mut self, _bytes: &[u8]) {}
-
     /// A kind, a receiver that is mostly in its role, and an ID and a moment that are mostly in form.
-    #[cfg(feature = "file")]
     fn named(&mut self, bytes: &[u8]) -> (u8, u64, Vec<u8>, Vec<u8>) {
         let kind = if self.random.once_in(12) { self.random.range(0, 5) } else { self.random.range(1, 3) } as u8;
         let any = self.random.pick(&[0, 1, 2, 3, 9_999_999_999, 10_000_000_000]);
@@ -108,7 +105,6 @@ impl Comparison {
         (kind, receiver, id, moment)
     }
 
-    #[cfg(feature = "file")]
     fn file(&mut self, bytes: &[u8]) {
         let (kind, receiver, id, moment) = self.named(bytes);
         let call = |rows, file| series::file_call(bytes, kind, receiver, &id, &moment, rows, file);
@@ -131,11 +127,6 @@ impl Comparison {
         }
     }
 
-    #[cfg(not(feature = "file"))]
-    fn file(&mut self, bytes: &[u8]) {
-        let _ = decode(bytes);
-    }
-
     /// Kind, receiver, year, month, start and length of ID, start and length of moment.
     fn facts(read: &FileRead) -> Vec<u64> {
         let (id, moment) = (&read.id, &read.moment);
@@ -152,26 +143,18 @@ impl Comparison {
         }
     }
 
-    #[cfg(feature = "read")]
     fn read_once(&mut self, file: &[u8]) {
         let needed = message::read(file, LONG).map_or(6, |read| read.numbers.len());
         let length = near(&mut self.random, needed);
-        let facts_length = near(&mut self.random, 8);
-        let short = |read: FileRead| if facts_length < 8 { Err(Refusal { number: 10, item: 1 }) } else { Ok(read) };
-        let expected = message::read(file, length).and_then(short);
+        let expected = message::read(file, length);
         let mut rows = Lent::new(&mut self.random, length, |n| n);
-        let mut facts = Lent::new(&mut self.random, facts_length, |n| n);
-        let answer = calls::read(file, rows.slice(), facts.slice());
+        let mut facts = Lent::new(&mut self.random, 8, |n| n);
+        let answer = calls::read(file, rows.slice(), facts.slice().try_into().unwrap());
         let alike = answer == expected.as_ref().map(|read| read.numbers.len() / 6).map_err(|r| *r)
             && rows.is_as(&expected.clone().map(|read| read.numbers))
             && facts.is_as(&expected.as_ref().map(Comparison::facts).map_err(|r| *r));
         check(alike, "read", &format!("{answer:?}"), file);
         self.tally.count("read", &expected);
-    }
-
-    #[cfg(not(feature = "read"))]
-    fn read_once(&mut self, file: &[u8]) {
-        let _ = message::read(file, LONG).map(|read| Comparison::facts(&read));
     }
 
     /// Rows as they are, and with a number or a word changed.

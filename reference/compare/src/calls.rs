@@ -4,9 +4,7 @@ use reference::refusal::Refusal;
 
 extern "C" {
     fn toe_settle(book: *const u8, book_length: usize, rows: *mut i64, rows_length: usize) -> u64;
-    #[cfg(feature = "sheet")]
     fn toe_sheet(book: *const u8, book_length: usize, party: u16, sums: *mut i64, sums_length: usize) -> u64;
-    #[cfg(feature = "file")]
     fn toe_file(
         book: *const u8,
         book_length: usize,
@@ -21,15 +19,7 @@ extern "C" {
         file: *mut u8,
         file_length: usize,
     ) -> u64;
-    #[cfg(feature = "read")]
-    fn toe_read(
-        file: *const u8,
-        file_length: usize,
-        rows: *mut u64,
-        rows_length: usize,
-        facts: *mut u64,
-        facts_length: usize,
-    ) -> u64;
+    fn toe_read(file: *const u8, file_length: usize, rows: *mut u64, rows_length: usize, facts: *mut u64) -> u64;
     fn toe_write(
         kind: u8,
         receiver: u64,
@@ -64,7 +54,6 @@ pub fn settle(book: &[u8], rows: &mut [i64]) -> Answer {
     decode(unsafe { toe_settle(book.as_ptr(), book.len(), rows.as_mut_ptr(), rows.len()) })
 }
 
-#[cfg(feature = "sheet")]
 pub fn sheet(book: &[u8], party: u16, sums: &mut [i64]) -> Answer {
     decode(unsafe { toe_sheet(book.as_ptr(), book.len(), party, sums.as_mut_ptr(), sums.len()) })
 }
@@ -78,7 +67,6 @@ pub struct Named<'a> {
     pub moment: &'a [u8],
 }
 
-#[cfg(feature = "file")]
 pub fn file(book: &[u8], named: Named, rows: &mut [i64], file: &mut [u8]) -> Answer {
     decode(unsafe {
         toe_file(
@@ -98,11 +86,8 @@ pub fn file(book: &[u8], named: Named, rows: &mut [i64], file: &mut [u8]) -> Ans
     })
 }
 
-#[cfg(feature = "read")]
-pub fn read(file: &[u8], rows: &mut [u64], facts: &mut [u64]) -> Answer {
-    decode(unsafe {
-        toe_read(file.as_ptr(), file.len(), rows.as_mut_ptr(), rows.len(), facts.as_mut_ptr(), facts.len())
-    })
+pub fn read(file: &[u8], rows: &mut [u64], facts: &mut [u64; 8]) -> Answer {
+    decode(unsafe { toe_read(file.as_ptr(), file.len(), rows.as_mut_ptr(), rows.len(), facts.as_mut_ptr()) })
 }
 
 pub fn write(named: Named, year: u64, month: u64, rows: &[u64], file: &mut [u8]) -> Answer {

@@ -4,6 +4,7 @@ mod agree;
 mod books;
 mod calls;
 mod lent;
+mod pool;
 mod quick;
 mod timing;
 
@@ -15,6 +16,7 @@ fn main() {
     match std::env::args().nth(1).as_deref() {
         Some("agree") => agree::run(argument(2, 1), argument(3, 2000) as usize),
         Some("timing") => timing::run(),
+        Some("files") => pool::run(),
         _ => panic!("no such command; see ../README.md"),
     }
 }

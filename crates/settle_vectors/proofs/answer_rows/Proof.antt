@@ -24,11 +24,11 @@ text-requires-2 c κs = search needs
 mul-end : tie.Need-mul-end
 mul-end c = search needs
 
-slice-aggregate-print-rows : tie.Need-slice-aggregate-print-rows
-slice-aggregate-print-rows c = sym (length-take-le (4 * c .before .before .before .before .before .before .args .count) (c .before .before .before .before .before .before .args .rows .now) (search needs))
+slice-aggregate-rows : tie.Need-slice-aggregate-rows
+slice-aggregate-rows c = sym (length-take-le (4 * c .before .before .before .before .before .before .args .count) (c .before .before .before .before .before .before .args .rows .now) (search needs))
 
-print-rows-requires : tie.Need-print-rows-requires
-print-rows-requires c κs = search needs
+rows-requires : tie.Need-rows-requires
+rows-requires c κs = search needs
 
 mul-kept : tie.Need-mul-kept
 mul-kept c = search needs
@@ -58,8 +58,8 @@ answer-rows-spec =
     slice-aggregate-text-2
     text-requires-2
     mul-end
-    slice-aggregate-print-rows
-    print-rows-requires
+    slice-aggregate-rows
+    rows-requires
     mul-kept
     sub-kept
     part-kept-start

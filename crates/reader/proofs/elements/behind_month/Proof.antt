@@ -1,15 +1,12 @@
 -- The bytes in four parts, one after the other.
-use mathlib.Core.Path.{_∙_, ap, subst}
+use mathlib.Core.Path.{_∙_, ap}
 use mathlib.Core.List.{List}
 use Prim.Native.Nat.{ℕ}
 use lib.ListN.{take, drop}
-use borrow.Author.Needs.{needs}
-use Rattle.text.specs.Ascii.{bytes}
-use Rattle.formats.specs.Combine.{strip}
-use Rattle.formats.specs.Place.{Parsed}
 use Rattle.moments.specs.Moments.{momentBytes, periodStart}
-use Rattle.message.specs.Bytes.{opening, ending, closing}
-use Rattle.reader.specs.Reading.{behind-parsed, moment-part}
+use Rattle.reader.specs.Reading.{moment-part}
+use Rattle.reader.specs.RowsLaws.{behind-read}
+use borrow.Author.Needs.{needs}
 use Rattle.reader.proofs.elements.behind_month.Statement.{statement}
 use Rattle.reader.proofs.elements.behind_month.Tie as tie
 
@@ -25,47 +22,34 @@ period-end-requires c κs = search needs
 moment-text-requires-2 : tie.Need-moment-text-requires-2
 moment-text-requires-2 c κs = search needs
 
-sub-tag : tie.Need-sub-tag
-sub-tag c = search needs
+at-mark-requires : tie.Need-at-mark-requires
+at-mark-requires c κs = search needs
 
-part-tag-start : tie.Need-part-tag-start
-part-tag-start c = search needs
+sub-behind-month : tie.Need-sub-behind-month
+sub-behind-month c = search needs
 
-part-tag-end : tie.Need-part-tag-end
-part-tag-end c = search needs
+part-behind-month-start : tie.Need-part-behind-month-start
+part-behind-month-start c = search needs
 
-tag-requires : tie.Need-tag-requires
-tag-requires c κs = search needs
+part-behind-month-end : tie.Need-part-behind-month-end
+part-behind-month-end c = search needs
 
-slice-aggregate-tag : tie.Need-slice-aggregate-tag
-slice-aggregate-tag c = search needs
+slice-aggregate-behind-month : tie.Need-slice-aggregate-behind-month
+slice-aggregate-behind-month c = search needs
 
-tag-requires-2 : tie.Need-tag-requires-2
-tag-requires-2 c κs = search needs
+behind-month-requires : tie.Need-behind-month-requires
+behind-month-requires c κs = search needs
 
-slice-aggregate-tag-2 : tie.Need-slice-aggregate-tag-2
-slice-aggregate-tag-2 c = search needs
-
-tag-requires-3 : tie.Need-tag-requires-3
-tag-requires-3 c κs = search needs
-
-slice-aggregate-tag-3 : tie.Need-slice-aggregate-tag-3
-slice-aggregate-tag-3 c = search needs
-
-tag-requires-4 : tie.Need-tag-requires-4
-tag-requires-4 c κs = search needs
+place-requires : tie.Need-place-requires
+place-requires c κs = search needs
 
 returns : tie.Need-returns
-unfolding opening ending closing bytes
 returns c =
-    let a = c .before .before .before .before .before .before .before .before .before .before .before .before .before .before .args in
-    let t = c .before .before .before .before .before .before .tag in
-    let v = c .before .before .tag3 in
-    let start = ap (λ (l : List ℕ). take 22 (drop 7 l)) (c .before .before .before .before .before .before .before .before .before .before .before .moment-text .ensures ∙ ap momentBytes (c .before .before .before .before .before .before .before .before .before .before .before .before .period-start .ensures)) ∙ moment-part (periodStart (a .year) (a .month)) in
-    let end = c .before .before .before .before .before .before .before .before .before .moment-text2 .ensures ∙ ap momentBytes (c .before .before .before .before .before .before .before .before .before .before .period-end .ensures) in
-    behind-parsed (a .s .now) (a .year) (a .month)
-    (subst (λ (l : List ℕ). Parsed (strip l) (a .s .now) (a .m) (t .result) tt) start (t .ensures)) (c .before .before .before .before .tag2 .ensures)
-    (subst (λ (l : List ℕ). Parsed (strip l) (a .s .now) (c .before .before .before .before .tag2 .result) (v .result) tt) end (v .ensures)) (c .tag4 .ensures)
+    let a = c .before .before .before .before .before .before .before .before .before .before .before .args in
+    let start = ap (λ (l : List ℕ). take 22 (drop 7 l)) (c .before .before .before .before .before .before .before .before .moment-text .ensures ∙ ap momentBytes (c .before .before .before .before .before .before .before .before .before .period-start .ensures)) ∙ moment-part (periodStart (a .year) (a .month)) in
+    let end = c .before .before .before .before .before .before .moment-text2 .ensures ∙ ap momentBytes (c .before .before .before .before .before .before .before .period-end .ensures) in
+    let r = c .before .behind-month in
+    behind-read (a .s .now) (a .m) (c .before .before .before .before .before .before .before .before .before .before .before .pre .0) (c .before .before .before .before .before .at-mark .result) (c .before .before .before .before .before .at-mark .ensures) (a .year) (a .month) _ _ start end (r .result) (r .ensures) (c .place .result) (c .place .ensures)
 
 pub behind-month-spec : {M : Type 1} → statement M
 behind-month-spec =
@@ -75,14 +59,11 @@ behind-month-spec =
     moment-text-requires
     period-end-requires
     moment-text-requires-2
-    sub-tag
-    part-tag-start
-    part-tag-end
-    tag-requires
-    slice-aggregate-tag
-    tag-requires-2
-    slice-aggregate-tag-2
-    tag-requires-3
-    slice-aggregate-tag-3
-    tag-requires-4
+    at-mark-requires
+    sub-behind-month
+    part-behind-month-start
+    part-behind-month-end
+    slice-aggregate-behind-month
+    behind-month-requires
+    place-requires
     returns)

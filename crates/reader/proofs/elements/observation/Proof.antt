@@ -1,34 +1,29 @@
--- The parts one after the other, and the test that they may stand here.
+-- The row's reading, whose watts fit, and the test that it may stand here.
+use native.Mathlib.Omega.{arith}
+use Rattle.reader.specs.Reading.{observing-parsed}
+use Rattle.reader.specs.RowsLaws.{observation-read, observation-fits}
 use borrow.Author.Needs.{needs}
-use Rattle.text.specs.Ascii.{bytes}
-use Rattle.message.specs.Bytes.{opening, ending, closing}
-use Rattle.reader.specs.Reading.{body-parsed, observing-parsed}
 use Rattle.reader.proofs.elements.observation.Statement.{statement}
 use Rattle.reader.proofs.elements.observation.Tie as tie
 
-slice-aggregate-tag : tie.Need-slice-aggregate-tag
-slice-aggregate-tag c = search needs
+at-mark-requires : tie.Need-at-mark-requires
+at-mark-requires c κs = search needs
 
-tag-requires : tie.Need-tag-requires
-tag-requires c κs = search needs
+observation-requires : tie.Need-observation-requires
+observation-requires c κs = search needs
 
-number-requires : tie.Need-number-requires
-number-requires c κs = search needs
+place-requires : tie.Need-place-requires
+place-requires c κs = search needs
 
-slice-aggregate-tag-2 : tie.Need-slice-aggregate-tag-2
-slice-aggregate-tag-2 c = search needs
+mul-watts : tie.Need-mul-watts
+mul-watts c =
+    let r = c .before .before .before .observation in
+    omega (arith, observation-fits (c .before .before .before .before .before .before .args .s .now) (c .before .before .before .before .at-mark .result) (r .result) (r .ensures))
 
-tag-requires-2 : tie.Need-tag-requires-2
-tag-requires-2 c κs = search needs
-
-quantity-requires : tie.Need-quantity-requires
-quantity-requires c κs = search needs
-
-slice-aggregate-tag-3 : tie.Need-slice-aggregate-tag-3
-slice-aggregate-tag-3 c = search needs
-
-tag-requires-3 : tie.Need-tag-requires-3
-tag-requires-3 c κs = search needs
+add-watts : tie.Need-add-watts
+add-watts c =
+    let r = c .before .before .before .before .observation in
+    omega (arith, observation-fits (c .before .before .before .before .before .before .before .args .s .now) (c .before .before .before .before .before .at-mark .result) (r .result) (r .ensures))
 
 in-order-requires : tie.Need-in-order-requires
 in-order-requires c κs = search needs
@@ -37,28 +32,23 @@ kept-requires : tie.Need-kept-requires
 kept-requires c κs = search needs
 
 returns : tie.Need-returns
-unfolding opening ending closing bytes
 returns c =
-    let a = c .before .before .before .before .before .before .before .before .before .before .before .args in
-    let p = c .before .before .before .before .before .before .before .number in
-    let w = c .before .before .before .before .quantity in
-    let e = c .before .before .tag3 in
+    let a = c .before .before .before .before .before .before .before .before .before .args in
+    let r = c .before .before .before .before .before .before .observation in
+    let e = c .before .before .before .before .place in
     rw (c .kept .ensures, c .before .in-order .ensures)
-    (observing-parsed (a .last) (a .low) (a .s .now) (a .m) (e .result) (p .result .value, w .result .value)
-    (body-parsed (a .s .now) (c .before .before .before .before .before .before .before .before .tag .ensures) (p .ensures) (c .before .before .before .before .before .tag2 .ensures) (w .ensures) (e .ensures)))
+    (observing-parsed (a .last) (a .low) (a .s .now) (a .m) (e .result) (r .result .position, _)
+    (observation-read (a .s .now) (a .m) (c .before .before .before .before .before .before .before .before .before .pre) (c .before .before .before .before .before .before .before .at-mark .result) (c .before .before .before .before .before .before .before .at-mark .ensures) (r .result) (r .ensures) (e .result) (e .ensures)))
 
 pub observation-spec : {M : Type 1} → statement M
 observation-spec =
     tie.close
     (tie.spec
-    slice-aggregate-tag
-    tag-requires
-    number-requires
-    slice-aggregate-tag-2
-    tag-requires-2
-    quantity-requires
-    slice-aggregate-tag-3
-    tag-requires-3
+    at-mark-requires
+    observation-requires
+    place-requires
+    mul-watts
+    add-watts
     in-order-requires
     kept-requires
     returns)

@@ -1,59 +1,58 @@
 -- The parts one after the other; where no period has the month, what follows isn't read.
 use mathlib.Core.Path.{sym, _∙_}
 use Prim.Native.Nat.{ℕ}
-use borrow.Author.Needs.{needs}
 use borrow.Author.Tests.{not-true, not-false}
-use Rattle.text.specs.Ascii.{bytes}
-use Rattle.message.specs.Bytes.{opening}
 use Rattle.message.specs.ObservationForm.{to-period}
 use Rattle.reader.specs.Reading.{period-none, period-parsed}
+use Rattle.reader.specs.RowsLaws.{period-steps}
+use borrow.Author.Needs.{needs}
 use Rattle.reader.proofs.elements.period.Statement.{statement}
 use Rattle.reader.proofs.elements.period.Tie as tie
 
-slice-aggregate-tag : tie.Need-slice-aggregate-tag
-slice-aggregate-tag c = search needs
+at-mark-requires : tie.Need-at-mark-requires
+at-mark-requires c κs = search needs
 
-tag-requires : tie.Need-tag-requires
-tag-requires c κs = search needs
+period-requires : tie.Need-period-requires
+period-requires c κs = search needs
 
-fixed-requires : tie.Need-fixed-requires
-fixed-requires c κs = search needs
-
-slice-aggregate-tag-2 : tie.Need-slice-aggregate-tag-2
-slice-aggregate-tag-2 c = search needs
-
-tag-requires-2 : tie.Need-tag-requires-2
-tag-requires-2 c κs = search needs
-
-fixed-requires-2 : tie.Need-fixed-requires-2
-fixed-requires-2 c κs = search needs
+place-requires : tie.Need-place-requires
+place-requires c κs = search needs
 
 is-period-requires : tie.Need-is-period-requires
 is-period-requires c κs = search needs
 
 returns : tie.Need-returns
-unfolding opening bytes
-returns c = period-none (c .before .before .before .before .before .before .before .before .before .args .s .now) (c .before .before .before .before .before .before .tag .ensures) (c .before .before .before .before .before .fixed .ensures) (c .before .before .before .tag2 .ensures) (c .before .before .fixed2 .ensures) (sym (c .before .is-period .ensures) ∙ not-true _ (c .if1 .taken))
+returns c =
+    let a = c .before .before .before .before .before .before .before .args in
+    let r = c .before .before .before .before .period in
+    let d = c .before .before .place in
+    let p = period-steps (a .s .now) (a .m) (c .before .before .before .before .before .before .before .pre) (c .before .before .before .before .before .at-mark .result) (c .before .before .before .before .before .at-mark .ensures) (r .result) (r .ensures) (d .result) (d .ensures) in
+    period-none (a .s .now) (p .before-year) (p .at-year) (p .between) (p .at-month) (sym (c .before .is-period .ensures) ∙ not-true _ (c .if1 .taken))
 
 behind-month-requires : tie.Need-behind-month-requires
 behind-month-requires c κs =
-    let q : ℕ × ℕ = (c .before .before .before .before .before .fixed .result .value, c .before .before .fixed2 .result .value) in
-    (c .before .before .fixed2 .ensures .within, to-period q (sym (c .before .is-period .ensures) ∙ not-false _ (c .if1 .left)))
+    let a = c .before .before .before .before .before .before .before .args in
+    let r = c .before .before .before .before .period in
+    let d = c .before .before .place in
+    let p = period-steps (a .s .now) (a .m) (c .before .before .before .before .before .before .before .pre) (c .before .before .before .before .before .at-mark .result) (c .before .before .before .before .before .at-mark .ensures) (r .result) (r .ensures) (d .result) (d .ensures) in
+    let q : ℕ × ℕ = (r .result .year, r .result .month) in
+    (p .at-month .within, to-period q (sym (c .before .is-period .ensures) ∙ not-false _ (c .if1 .left)))
 
 returns-2 : tie.Need-returns-2
-unfolding opening bytes
-returns-2 c = period-parsed (c .before .before .before .before .before .before .before .before .before .before .args .s .now) (c .before .before .before .before .before .before .before .tag .ensures) (c .before .before .before .before .before .before .fixed .ensures) (c .before .before .before .before .tag2 .ensures) (c .before .before .before .fixed2 .ensures) (sym (c .before .before .is-period .ensures) ∙ not-false _ (c .before .if1 .left)) (c .behind-month .ensures)
+returns-2 c =
+    let a = c .before .before .before .before .before .before .before .before .args in
+    let r = c .before .before .before .before .before .period in
+    let d = c .before .before .before .place in
+    let p = period-steps (a .s .now) (a .m) (c .before .before .before .before .before .before .before .before .pre) (c .before .before .before .before .before .before .at-mark .result) (c .before .before .before .before .before .before .at-mark .ensures) (r .result) (r .ensures) (d .result) (d .ensures) in
+    period-parsed (a .s .now) (p .before-year) (p .at-year) (p .between) (p .at-month) (sym (c .before .before .is-period .ensures) ∙ not-false _ (c .before .if1 .left)) (c .behind-month .ensures)
 
 pub period-spec : {M : Type 1} → statement M
 period-spec =
     tie.close
     (tie.spec
-    slice-aggregate-tag
-    tag-requires
-    fixed-requires
-    slice-aggregate-tag-2
-    tag-requires-2
-    fixed-requires-2
+    at-mark-requires
+    period-requires
+    place-requires
     is-period-requires
     returns
     behind-month-requires

@@ -1,17 +1,35 @@
--- The parts one after the other; the observations fill the rows.
-use mathlib.Core.Path.{subst}
-use mathlib.Core.List.{_++_}
-use lib.Dec.{ltb}
+-- The row, the period and the observations, which fill the rows, one after the other.
 use Rattle.text.specs.Ascii.{bytes}
-use Rattle.formats.specs.Combine.{strip}
-use Rattle.formats.specs.Place.{Parsed}
-use Rattle.formats.specs.declared.Mark.{Mark}
-use Rattle.message.specs.Bytes.{opening, ending, closing, deliveries}
-use Rattle.reader.specs.Reading.{within-keep}
+use Rattle.message.specs.Bytes.{ending, closing}
 use Rattle.reader.specs.FillingParts.{volume-filled}
+use Rattle.reader.specs.RowsLaws.{volume-steps}
 use borrow.Author.Needs.{needs}
 use Rattle.reader.proofs.elements.volume.Statement.{statement}
 use Rattle.reader.proofs.elements.volume.Tie as tie
+
+at-mark-requires : tie.Need-at-mark-requires
+at-mark-requires c κs = search needs
+
+volume-requires : tie.Need-volume-requires
+volume-requires c κs = search needs
+
+place-requires : tie.Need-place-requires
+place-requires c κs = search needs
+
+kept-requires : tie.Need-kept-requires
+kept-requires c κs = search needs
+
+period-requires : tie.Need-period-requires
+period-requires c κs =
+    let a = c .before .before .before .before .before .before .before .before .args in
+    let r = c .before .before .before .before .volume in
+    let d = c .before .before .place in
+    let k = c .kept in
+    let v = volume-steps (a .s .now) (a .m) (c .before .before .before .before .before .before .before .before .pre) (c .before .before .before .before .before .at-mark .result) (c .before .before .before .before .before .at-mark .ensures) (r .result) (r .ensures) (d .result) (d .ensures) (k .result) (k .ensures) in
+    v .behind-count .within
+
+observations-requires : tie.Need-observations-requires
+observations-requires c κs = search needs
 
 slice-aggregate-tag : tie.Need-slice-aggregate-tag
 slice-aggregate-tag c = search needs
@@ -19,75 +37,30 @@ slice-aggregate-tag c = search needs
 tag-requires : tie.Need-tag-requires
 tag-requires c κs = search needs
 
-slice-aggregate-word : tie.Need-slice-aggregate-word
-slice-aggregate-word c = search needs
-
-slice-aggregate-word-2 : tie.Need-slice-aggregate-word-2
-slice-aggregate-word-2 c = search needs
-
-word-requires : tie.Need-word-requires
-word-requires c κs = search needs
-
-slice-aggregate-tag-2 : tie.Need-slice-aggregate-tag-2
-slice-aggregate-tag-2 c = search needs
-
-tag-requires-2 : tie.Need-tag-requires-2
-tag-requires-2 c κs = search needs
-
-number-requires : tie.Need-number-requires
-number-requires c κs = search needs
-
-kept-requires : tie.Need-kept-requires
-kept-requires c κs = search needs
-
-slice-aggregate-tag-3 : tie.Need-slice-aggregate-tag-3
-slice-aggregate-tag-3 c = search needs
-
-tag-requires-3 : tie.Need-tag-requires-3
-tag-requires-3 c κs = rw (c .before .kept .ensures) (within-keep (c .before .before .before .before .before .before .before .before .before .before .before .before .before .args .s .now) (ltb 0 (c .before .before .before .number .result .value)) (c .before .before .before .number .result .next) (c .before .before .before .number .ensures .within))
-
-period-requires : tie.Need-period-requires
-period-requires c κs = search needs
-
-observations-requires : tie.Need-observations-requires
-observations-requires c κs = search needs
-
-slice-aggregate-tag-4 : tie.Need-slice-aggregate-tag-4
-slice-aggregate-tag-4 c = search needs
-
-tag-requires-4 : tie.Need-tag-requires-4
-tag-requires-4 c κs = search needs
-
 same-length : tie.Need-same-length
 same-length c = search needs
 
 returns : tie.Need-returns
-unfolding opening ending closing deliveries bytes
+unfolding ending closing bytes
 returns c =
-    let a = c .before .before .before .before .before .before .before .before .before .before .before .before .before .before .before .before .before .before .before .before .before .args in
-    let s = a .s .now in
-    let t = c .before .before .before .before .before .before .before .tag3 in
-    let kept = subst (λ (k : Mark). Parsed (strip (ending "ObservationCounter" ++ opening "TimeSeriesPeriod")) s k (t .result) tt) (c .before .before .before .before .before .before .before .before .before .kept .ensures) (t .ensures) in
-    volume-filled s (a .partner) (a .supply) (c .before .before .before .before .before .before .before .before .before .before .before .before .before .before .before .before .before .tag .ensures) (c .before .before .before .before .before .before .before .before .before .before .before .before .before .before .word .ensures) (c .before .before .before .before .before .before .before .before .before .before .before .before .tag2 .ensures) (c .before .before .before .before .before .before .before .before .before .before .before .number .ensures) kept (c .before .before .before .before .before .before .period .ensures) (c .before .before .before .before .observations .ensures) (c .tag4 .ensures)
+    let a = c .before .before .before .before .before .before .before .before .before .before .before .before .before .before .before .args in
+    let r = c .before .before .before .before .before .before .before .before .before .before .before .volume in
+    let d = c .before .before .before .before .before .before .before .before .before .place in
+    let k = c .before .before .before .before .before .before .before .kept in
+    let v = volume-steps (a .s .now) (a .m) (c .before .before .before .before .before .before .before .before .before .before .before .before .before .before .before .pre) (c .before .before .before .before .before .before .before .before .before .before .before .before .at-mark .result) (c .before .before .before .before .before .before .before .before .before .before .before .before .at-mark .ensures) (r .result) (r .ensures) (d .result) (d .ensures) (k .result) (k .ensures) in
+    volume-filled (a .s .now) (a .partner) (a .supply) (v .before-delivery) (v .delivery) (v .before-count) (v .count) (v .behind-count) (c .before .before .before .before .before .before .period .ensures) (c .before .before .before .before .observations .ensures) (c .tag .ensures)
 
 pub volume-spec : {M : Type 1} → statement M
 volume-spec =
     tie.close
     (tie.spec
-    slice-aggregate-tag
-    tag-requires
-    slice-aggregate-word
-    slice-aggregate-word-2
-    word-requires
-    slice-aggregate-tag-2
-    tag-requires-2
-    number-requires
+    at-mark-requires
+    volume-requires
+    place-requires
     kept-requires
-    slice-aggregate-tag-3
-    tag-requires-3
     period-requires
     observations-requires
-    slice-aggregate-tag-4
-    tag-requires-4
+    slice-aggregate-tag
+    tag-requires
     same-length
     returns)

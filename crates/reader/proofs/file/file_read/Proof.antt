@@ -1,8 +1,8 @@
 -- The parts one after the other; the partners fill the rows.
-use Rattle.text.specs.Ascii.{bytes}
-use Rattle.message.specs.Bytes.{opening, ending, closing}
+use Rattle.cursor.specs.MovesLaws.{standing-within}
 use Rattle.reader.specs.ReaderPlaces.{Steps}
 use Rattle.reader.specs.ReaderFile.{filed, filed-fills}
+use Rattle.reader.specs.RowsLaws.{ReceiverSteps, message-steps, receiver-steps}
 use borrow.Author.Needs.{needs}
 use Rattle.reader.proofs.file.file_read.Statement.{statement}
 use Rattle.reader.proofs.file.file_read.Tie as tie
@@ -10,44 +10,35 @@ use Rattle.reader.proofs.file.file_read.Tie as tie
 file-root-requires : tie.Need-file-root-requires
 file-root-requires c κs = search needs
 
-slice-aggregate-tag : tie.Need-slice-aggregate-tag
-slice-aggregate-tag c = search needs
+at-mark-requires : tie.Need-at-mark-requires
+at-mark-requires c κs = search needs
 
-tag-requires : tie.Need-tag-requires
-tag-requires c κs = search needs
+message-requires : tie.Need-message-requires
+message-requires c κs = search needs
 
-name-requires : tie.Need-name-requires
-name-requires c κs = search needs
+place-requires : tie.Need-place-requires
+place-requires c κs = search needs
 
-slice-aggregate-tag-2 : tie.Need-slice-aggregate-tag-2
-slice-aggregate-tag-2 c = search needs
+place-requires-2 : tie.Need-place-requires-2
+place-requires-2 c κs = search needs
 
-tag-requires-2 : tie.Need-tag-requires-2
-tag-requires-2 c κs = search needs
+place-requires-3 : tie.Need-place-requires-3
+place-requires-3 c κs = search needs
 
 file-moment-requires : tie.Need-file-moment-requires
-file-moment-requires c κs = search needs
+file-moment-requires c κs = rw (c .place3 .ensures) (standing-within (c .before .before .before .before .before .before .before .before .before .before .before .args .s .now) (c .before .before .before .before .before .before .message .result .to))
 
-slice-aggregate-tag-3 : tie.Need-slice-aggregate-tag-3
-slice-aggregate-tag-3 c = search needs
+at-mark-requires-2 : tie.Need-at-mark-requires-2
+at-mark-requires-2 c κs = search needs
 
-tag-requires-3 : tie.Need-tag-requires-3
-tag-requires-3 c κs = search needs
+receiver-requires : tie.Need-receiver-requires
+receiver-requires c κs = search needs
 
-fixed-requires : tie.Need-fixed-requires
-fixed-requires c κs = search needs
-
-receiver-end-requires : tie.Need-receiver-end-requires
-receiver-end-requires c κs = search needs
-
-number-requires : tie.Need-number-requires
-number-requires c κs = search needs
-
-counter-end-requires : tie.Need-counter-end-requires
-counter-end-requires c κs = search needs
+place-requires-4 : tie.Need-place-requires-4
+place-requires-4 c κs = search needs
 
 partners-requires : tie.Need-partners-requires
-partners-requires c κs = search needs
+partners-requires c κs = rw (c .before .place4 .ensures) (standing-within (c .before .before .before .before .before .before .before .before .before .before .before .before .before .before .before .before .before .args .s .now) (c .before .before .before .receiver .result .to))
 
 root-end-requires : tie.Need-root-end-requires
 root-end-requires c κs = search needs
@@ -55,20 +46,36 @@ root-end-requires c κs = search needs
 same-length : tie.Need-same-length
 same-length c = search needs
 
-steps : (c : tie.After-root-end) → Steps (c .before .before .before .before .before .before .before .before .before .before .before .before .before .before .before .before .before .before .before .before .args .s .now) (c .before .before .before .before .before .before .before .before .before .before .before .before .before .before .before .before .before .file-root .result .next) (c .before .before .before .before .before .before .before .before .before .before .before .before .before .before .before .tag .result) (c .before .before .before .before .before .before .before .before .before .before .before .before .before .before .name .result) (c .before .before .before .before .before .before .before .before .before .before .before .before .tag2 .result) (c .before .before .before .before .before .before .before .before .before .before .before .file-moment .result) (c .before .before .before .before .before .before .before .before .before .tag3 .result) (c .before .before .before .before .before .before .before .before .fixed .result .next) (c .before .before .before .before .before .before .before .receiver-end .result) (c .before .before .before .before .before .before .number .result .next) (c .before .before .before .before .before .counter-end .result) (c .before .before .before .partners .result .next) (c .root-end .result) (c .before .before .before .before .before .before .before .before .before .before .before .before .before .before .before .before .before .file-root .result .kind) (c .before .before .before .before .before .before .before .before .fixed .result .value) (c .before .before .before .before .before .before .number .result .value) ((c .before .before .before .partners .result .year, c .before .before .before .partners .result .month), c .before .before .before .partners .result .rows)
-unfolding opening ending closing bytes
+receives : (c : tie.After-root-end) → ReceiverSteps (c .before .before .before .before .before .before .before .before .before .before .before .before .before .before .before .before .before .before .before .before .before .args .s .now) (c .before .before .before .before .before .before .before .before .before .file-moment .result) (c .before .before .before .before .before .place4 .result) (c .before .before .before .before .before .before .before .before .before .before .before .before .before .before .before .before .before .before .file-root .result .kind) (c .before .before .before .before .before .before .before .receiver .result .receiver) (c .before .before .before .before .before .before .before .receiver .result .count)
+receives c =
+    let m = c .before .before .before .before .before .before .before .before .before .file-moment in
+    let from = c .before .before .before .before .before .before .before .before .at-mark2 in
+    let v = c .before .before .before .before .before .before .before .receiver in
+    let d = c .before .before .before .before .before .place4 in
+    receiver-steps (c .before .before .before .before .before .before .before .before .before .before .before .before .before .before .before .before .before .before .before .before .before .args .s .now) (m .result) (m .ensures .within) (from .result) (from .ensures) (c .before .before .before .before .before .before .before .before .before .before .before .before .before .before .before .before .before .before .file-root .result .kind) (v .result) (v .ensures) (d .result) (d .ensures)
+
+steps : (c : tie.After-root-end) → Steps (c .before .before .before .before .before .before .before .before .before .before .before .before .before .before .before .before .before .before .before .before .before .args .s .now) (c .before .before .before .before .before .before .before .before .before .before .before .before .before .before .before .before .before .before .file-root .result .next) (c .before .before .before .before .before .before .before .before .before .before .before .before .place .result) (c .before .before .before .before .before .before .before .before .before .before .before .place2 .result) (c .before .before .before .before .before .before .before .before .before .before .place3 .result) (c .before .before .before .before .before .before .before .before .before .file-moment .result) (receives c .a) (receives c .b) (receives c .c) (receives c .d) (c .before .before .before .before .before .place4 .result) (c .before .before .before .partners .result .next) (c .root-end .result) (c .before .before .before .before .before .before .before .before .before .before .before .before .before .before .before .before .before .before .file-root .result .kind) (c .before .before .before .before .before .before .before .receiver .result .receiver) (c .before .before .before .before .before .before .before .receiver .result .count) ((c .before .before .before .partners .result .year, c .before .before .before .partners .result .month), c .before .before .before .partners .result .rows)
 steps c =
+    let s = c .before .before .before .before .before .before .before .before .before .before .before .before .before .before .before .before .before .before .before .before .before .args .s .now in
+    let root = c .before .before .before .before .before .before .before .before .before .before .before .before .before .before .before .before .before .before .file-root in
+    let start = c .before .before .before .before .before .before .before .before .before .before .before .before .before .before .before .before .before .at-mark in
+    let w = c .before .before .before .before .before .before .before .before .before .before .before .before .before .before .before .before .message in
+    let x = c .before .before .before .before .before .before .before .before .before .before .before .before .place in
+    let y = c .before .before .before .before .before .before .before .before .before .before .before .place2 in
+    let z = c .before .before .before .before .before .before .before .before .before .before .place3 in
+    let i = message-steps s (root .result .next) (root .ensures .within) (start .result) (start .ensures) (w .result) (w .ensures) (x .result) (x .ensures) (y .result) (y .ensures) (z .result) (z .ensures) in
+    let r = receives c in
     record {
-      kind = c .before .before .before .before .before .before .before .before .before .before .before .before .before .before .before .before .before .file-root .ensures;
-      before-id = c .before .before .before .before .before .before .before .before .before .before .before .before .before .before .before .tag .ensures;
-      id = c .before .before .before .before .before .before .before .before .before .before .before .before .before .before .name .ensures;
-      before-moment = c .before .before .before .before .before .before .before .before .before .before .before .before .tag2 .ensures;
-      moment = c .before .before .before .before .before .before .before .before .before .before .before .file-moment .ensures;
-      before-receiver = c .before .before .before .before .before .before .before .before .before .tag3 .ensures;
-      receiver = c .before .before .before .before .before .before .before .before .fixed .ensures;
-      before-count = c .before .before .before .before .before .before .before .receiver-end .ensures;
-      count = c .before .before .before .before .before .before .number .ensures;
-      behind-count = c .before .before .before .before .before .counter-end .ensures;
+      kind = root .ensures;
+      before-id = i .before-id;
+      id = i .id;
+      before-moment = i .before-moment;
+      moment = c .before .before .before .before .before .before .before .before .before .file-moment .ensures;
+      before-receiver = r .before-receiver;
+      receiver = r .receiver;
+      before-count = r .before-count;
+      count = r .count;
+      behind-count = r .behind-count;
       partners = c .before .before .before .partners .ensures .0;
       end = c .root-end .ensures;
     }
@@ -81,18 +88,15 @@ file-read-spec =
     tie.close
     (tie.spec
     file-root-requires
-    slice-aggregate-tag
-    tag-requires
-    name-requires
-    slice-aggregate-tag-2
-    tag-requires-2
+    at-mark-requires
+    message-requires
+    place-requires
+    place-requires-2
+    place-requires-3
     file-moment-requires
-    slice-aggregate-tag-3
-    tag-requires-3
-    fixed-requires
-    receiver-end-requires
-    number-requires
-    counter-end-requires
+    at-mark-requires-2
+    receiver-requires
+    place-requires-4
     partners-requires
     root-end-requires
     same-length

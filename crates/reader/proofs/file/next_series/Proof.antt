@@ -23,9 +23,9 @@ returns c =
     let e = c .before .before .before .before .series .ensures in
     let x = c .before .before .before .before .series .result in
     rw (c .kept .ensures) (
-      next-kept (a .kind) (a .supply) (a .low) (a .year, a .month) (a .s .now) (a .m) (x .next) ((x .supply, x .delivery), ((x .year, x .month), x .rows)) (c .before .joins .result)
+      next-kept (a .kind) (a .h .supply) (a .low) (a .t .year, a .t .month) (a .s .now) (a .t .next) (x .next) ((x .supply, x .delivery), ((x .year, x .month), x .rows)) (c .before .joins .result)
           (c .before .before .before .before .before .before .before .before .pre .1) (c .before .joins .ensures) (e .0),
-      next-fills (a .kind) (a .supply) (a .low) (a .year, a .month) (e .1),
+      next-fills (a .kind) (a .h .supply) (a .low) (a .t .year, a .t .month) (e .1),
     )
 
 pub next-series-spec : {M : Type 1} → statement M

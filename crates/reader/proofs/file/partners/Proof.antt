@@ -26,7 +26,8 @@ Inv-loop s kind n out₀ start at₀ low₀ year₀ month₀ rows₀ i₀ out at
     → Fills (partnersForm kind n .parse) (flatMap rowsOfPartner) s (At start) 0 out₀ o)
 
 abbrev μ-loop : tie.MeasureT-loop
-μ-loop s kind n out₀ start at₀ low₀ year₀ month₀ rows₀ i₀ out at low year month rows i = n - i
+μ-loop s kind n out₀ start at₀ low₀ year₀ month₀ rows₀ i₀ out at low year month rows i =
+    n - i
 
 enum-known-m : tie.Need-enum-known-m Inv-loop μ-loop
 enum-known-m c = search needs
@@ -34,12 +35,16 @@ enum-known-m c = search needs
 enum-told : tie.Need-enum-told Inv-loop μ-loop
 enum-told c = search needs
 
+tallied-requires : tie.Need-tallied-requires Inv-loop μ-loop
+tallied-requires c κs = search needs
+
 returns : tie.Need-returns Inv-loop μ-loop
 returns c =
-    let a = c .before .before .before .before .args in
+    let a = c .before .before .before .before .before .args in
     let z : (ℕ × ℕ) × ℕ = ((0, 0), 0) in
     let f = partnersForm (a .kind) (a .n) .parse in
-    rw (c .enum-told .given .1) (parsed-no (mapParse (folded adding z) f) (a .s .now) z, tt, fills-nowhere f (flatMap rowsOfPartner) (a .s .now) 0 (a .out .now))
+    rw (c .tallied .ensures, c .before .enum-told .given .1)
+    (parsed-no (mapParse (folded adding z) f) (a .s .now) z, tt, fills-nowhere f (flatMap rowsOfPartner) (a .s .now) 0 (a .out .now))
 
 loop-holds : tie.Need-loop-holds Inv-loop μ-loop
 loop-holds c =
@@ -56,22 +61,25 @@ enum-known-next c = search needs
 enum-told-2 : tie.Need-enum-told-2 Inv-loop μ-loop
 enum-told-2 c = search needs
 
+tallied-requires-2 : tie.Need-tallied-requires-2 Inv-loop μ-loop
+tallied-requires-2 c κs = search needs
+
 same-length : tie.Need-same-length Inv-loop μ-loop
-same-length c = c .before .before .before .before .next-partner .ensures .2 .keeps ∙ c .before .before .before .before .before .before .before .loop .inv .3
+same-length c = c .before .before .before .before .before .next-partner .ensures .2 .keeps ∙ c .before .before .before .before .before .before .before .before .loop .inv .3
 
 returns-2 : tie.Need-returns-2 Inv-loop μ-loop
 returns-2 c =
-    let l = c .before .before .before .before .before .before .before .loop in
-    let a = c .before .before .before .before .before .before .before .before .before .before .before .before .before .args in
-    let m = c .before .before .before .before .before .before .before .before .before .m .given in
-    let o = c .before .before .before .before .next-partner .ensures in
-    let e = rw (c .enum-told2 .given .1) at (o .0) in
+    let l = c .before .before .before .before .before .before .before .before .loop in
+    let a = c .before .before .before .before .before .before .before .before .before .before .before .before .before .before .args in
+    let m = c .before .before .before .before .before .before .before .before .before .before .m .given in
+    let o = c .before .before .before .before .before .next-partner .ensures in
+    let e = rw (c .before .enum-told2 .given .1) at (o .0) in
     let z : (ℕ × ℕ) × ℕ = ((0, 0), 0) in
     let t : (ℕ × ℕ) × ℕ = ((l .year, l .month), l .rows) in
-    rw (m .1) (
-      partners-none (a .kind) (a .n) (a .s .now) (m .0 .0) z (l .inv .4 ∙ partners-bad (a .kind) (a .n) (l .i) (l .low) t (drop (l .at) (a .s .now)) (c .before .before .before .before .before .before .loop-test .taken) (e .run .run)),
+    rw (c .tallied2 .ensures, m .1) (
+      partners-none (a .kind) (a .n) (a .s .now) (m .0 .0) z (l .inv .4 ∙ partners-bad (a .kind) (a .n) (l .i) (l .low) t (drop (l .at) (a .s .now)) (c .before .before .before .before .before .before .before .loop-test .taken) (e .run .run)),
       tt,
-      l .inv .5 _ (partners-fill-bad (a .kind) (a .n) (l .i) (l .low) t (a .s .now) (l .at) (l .out) _ (c .before .before .before .before .before .before .loop-test .taken) (e .run .run) (o .2 .keeps)),
+      l .inv .5 _ (partners-fill-bad (a .kind) (a .n) (l .i) (l .low) t (a .s .now) (l .at) (l .out) _ (c .before .before .before .before .before .before .before .loop-test .taken) (e .run .run) (o .2 .keeps)),
     )
 
 add-low : tie.Need-add-low Inv-loop μ-loop
@@ -90,7 +98,7 @@ add-i : tie.Need-add-i Inv-loop μ-loop
 add-i c = omega (arith, c .before .before .before .before .before .before .before .before .loop-test .taken, c .before .before .before .before .before .before .before .before .before .before .before .before .before .before .before .fits .n)
 
 loop-less : tie.Need-loop-less Inv-loop μ-loop
-loop-less c = search needs
+loop-less c = omega (arith, c .before .before .before .before .before .before .before .before .loop-test .taken)
 
 loop-again : tie.Need-loop-again Inv-loop μ-loop
 loop-again c =
@@ -110,19 +118,22 @@ loop-again c =
       λ z i. l .inv .5 z (partners-fill-step (a .kind) (a .n) (l .i) (l .low) t (a .s .now) (l .at) (l .out) v (c .before .before .before .before .before .before .before .before .loop-test .taken) (e .0 .run .run) (o .ensures .2) i),
     )
 
+tallied-requires-3 : tie.Need-tallied-requires-3 Inv-loop μ-loop
+tallied-requires-3 c κs = search needs
+
 same-length-2 : tie.Need-same-length-2 Inv-loop μ-loop
-same-length-2 c = c .before .loop .inv .3
+same-length-2 c = c .before .before .loop .inv .3
 
 returns-3 : tie.Need-returns-3 Inv-loop μ-loop
 returns-3 c =
-    let l = c .before .loop in
-    let a = c .before .before .before .before .before .before .before .args in
-    let m = c .before .before .before .m .given in
+    let l = c .before .before .loop in
+    let a = c .before .before .before .before .before .before .before .before .args in
+    let m = c .before .before .before .before .m .given in
     let t : (ℕ × ℕ) × ℕ = ((l .year, l .month), l .rows) in
-    rw (m .1) (
-      partners-done (a .kind) (a .n) (a .s .now) (m .0 .0) (l .at) t (l .inv .4 ∙ partners-end (a .kind) (a .n) (l .i) (l .low) t (drop (l .at) (a .s .now)) (c .loop-test .left)) (l .inv .0),
+    rw (c .tallied3 .ensures, m .1) (
+      partners-done (a .kind) (a .n) (a .s .now) (m .0 .0) (l .at) t (l .inv .4 ∙ partners-end (a .kind) (a .n) (l .i) (l .low) t (drop (l .at) (a .s .now)) (c .before .loop-test .left)) (l .inv .0),
       l .inv .2,
-      l .inv .5 (l .out) (partners-fill-none (a .kind) (a .n) (l .i) (l .low) t (a .s .now) (l .at) (l .out) (c .loop-test .left)),
+      l .inv .5 (l .out) (partners-fill-none (a .kind) (a .n) (l .i) (l .low) t (a .s .now) (l .at) (l .out) (c .before .loop-test .left)),
     )
 
 pub partners-spec : {M : Type 1} → statement M
@@ -133,16 +144,19 @@ partners-spec =
     μ-loop
     enum-known-m
     enum-told
+    tallied-requires
     returns
     loop-holds
     next-partner-requires
     enum-known-next
     enum-told-2
+    tallied-requires-2
     same-length
     returns-2
     add-low
     add-i
     loop-less
     loop-again
+    tallied-requires-3
     same-length-2
     returns-3)

@@ -1,0 +1,79 @@
+-- A file call that is not refused answers no more rows and bytes than it was lent.
+use mathlib.Core.Path.{_≡_, refl, subst}
+use mathlib.Core.Bool.{Bool, true, false, cond, _&&_}
+use mathlib.Core.List.{List}
+use mathlib.Core.Option.{Option, none, some}
+use Prim.Native.Nat.{ℕ, _*_, _≤_}
+use lib.IntN.{ℤ}
+use lib.Dec.{leb}
+use lib.ListN.{length}
+use borrow.Author.Tests.{leb-true}
+use native.Mathlib.Omega.{arith}
+use Rattle.moments.specs.Ids.{isTransactionId}
+use Rattle.book.specs.Refusals.{Refusal, refused, unless}
+use Rattle.book.specs.Book.{Book, bookOf}
+use Rattle.volumes.specs.Settlement.{rowWidth, rowCount, orElse, bookRefusal}
+use Rattle.volumes.specs.Series.{Kind}
+use Rattle.message.specs.Valid.{isMoment}
+use Rattle.reports.specs.FileRows.{fileText}
+use Rattle.reports.specs.Roles.{receivers}
+use Rattle.reports.specs.Calls.{stands, kindOf, textOf, shortRefusal, askedRefusal, fileRefusal, fileSays, fileAnswer, FileCalled}
+use Rattle.reports.specs.declared.FileAnswer.{FileAnswer}
+use Rattle.reports.specs.declared.FileAnswer.the-variants.{File}
+use Rattle.cases.specs.declared.Loaded.{Loaded}
+use Rattle.cases.specs.declared.Loaded.the-variants.{Bytes}
+use Rattle.cases.specs.Sparse.{UnhexedBy}
+use Rattle.file_vectors.specs.declared.Field.{Field}
+use Rattle.file_vectors.specs.declared.Field.the-variants.{Value}
+use Rattle.file_vectors.specs.Fits.{Fits, Within}
+
+-- so many numbers and bytes have room
+record Room (book : Book) (text : List ℕ) (numbers bytes : ℕ) : Type 0 where
+  pub rows : rowWidth * rowCount book ≤ numbers
+  pub file : length text ≤ bytes
+
+never : (r : Refusal) → some r ≡ none → ⊥
+never r e = let z : _≡_ {A = ℕ} 0 1 = cc in omega arith
+
+-- refusal 10 is where the rows or the file are too short, so without a refusal both are long enough
+asked-room : (book : Book) (kind : Option Kind) (receiver : ℕ) (id moment : List ℕ) (numbers bytes : ℕ) → askedRefusal book kind receiver id moment numbers bytes ≡ none → Room book (textOf book kind receiver id moment) numbers bytes
+unfolding askedRefusal shortRefusal textOf
+asked-room book none receiver id moment numbers bytes h = absurd (never _ h)
+asked-room book (some kind) receiver id moment numbers bytes h =
+    go (stands receiver (receivers book kind)) (isTransactionId id && isMoment moment) (leb (rowWidth * rowCount book) numbers) refl (leb (length (fileText book kind receiver id moment)) bytes) refl h
+  where
+    go : (s f a : Bool) → leb (rowWidth * rowCount book) numbers ≡ a → (b : Bool) → leb (length (fileText book kind receiver id moment)) bytes ≡ b
+        → unless s 11 (unless f 12 (unless a 10 (cond b none (refused 10 1)))) ≡ none → Room book (fileText book kind receiver id moment) numbers bytes
+    go true true true p true q h = record { rows = leb-true (rowWidth * rowCount book) numbers p; file = leb-true (length (fileText book kind receiver id moment)) bytes q }
+    go true true true p false q h = absurd (never _ h)
+    go true true false p b q h = absurd (never _ h)
+    go true false a p b q h = absurd (never _ h)
+    go false f a p b q h = absurd (never _ h)
+
+room : (bytes : List ℕ) (kind receiver : ℕ) (id moment : List ℕ) (numbers size : ℕ) → fileRefusal bytes kind receiver id moment numbers size ≡ none → Room (bookOf bytes) (textOf (bookOf bytes) (kindOf kind) receiver id moment) numbers size
+unfolding fileRefusal orElse
+room bytes kind receiver id moment numbers size h = go (bookRefusal bytes) h
+  where
+    go : (r : Option Refusal) → orElse r (askedRefusal (bookOf bytes) (kindOf kind) receiver id moment numbers size) ≡ none → Room (bookOf bytes) (textOf (bookOf bytes) (kindOf kind) receiver id moment) numbers size
+    go none h = asked-room (bookOf bytes) (kindOf kind) receiver id moment numbers size h
+    go (some r) h = absurd (never r h)
+
+pub fits : (bytes : List ℕ) (kind receiver : ℕ) (id moment : List ℕ) (lent rowsAfter : List ℤ) (before after : List ℕ) (answer : FileAnswer) (numbers size : ℕ) → FileCalled bytes kind receiver id moment lent rowsAfter before after answer → length lent ≤ numbers → length before ≤ size → Fits answer numbers size
+unfolding fileAnswer fileSays
+fits bytes kind receiver id moment lent rowsAfter before after answer numbers size call h k = rw (call .answer) (go (fileRefusal bytes kind receiver id moment (length lent) (length before)) (room bytes kind receiver id moment (length lent) (length before)))
+  where
+    text : List ℕ
+    text = textOf (bookOf bytes) (kindOf kind) receiver id moment
+
+    go : (r : Option Refusal) → (r ≡ none → Room (bookOf bytes) text (length lent) (length before)) → Fits (fileSays r (rowCount (bookOf bytes)) (length text)) numbers size
+    go none q = let e = q refl in (omega (arith, e .rows), omega (arith, e .file))
+    go (some r) q = tt
+
+pub file-fits : (answer : FileAnswer) (count n numbers size : ℕ) → answer ≡ File count n → Fits answer numbers size → (rowWidth * count ≤ numbers) × (n ≤ size)
+file-fits answer count n numbers size e f = subst (λ (w : FileAnswer). Fits w numbers size) e f
+
+pub field-within : (f : Field) (n next length : ℕ) → f ≡ Value n next → Within f length → next ≤ length
+field-within f n next length e w = subst (λ (v : Field). Within v length) e w
+
+pub hex-within : (word before after : List ℕ) (r : Loaded) (n : ℕ) → UnhexedBy word before after r → r ≡ Bytes n → n ≤ length after
+hex-within word before after r n u e = subst (λ (l : Loaded). UnhexedBy word before after l) e u .room

@@ -1,0 +1,53 @@
+/* The calls of a month's transfer of energy (document 01), as target/staticlib/libtoe_c.a has them.
+ *
+ * Every function is proved to answer, and to leave every lent buffer, as document 01 defines it for all inputs. It
+ * reads and writes the lent memory alone, keeps nothing, and needs no start. Memory that is written must not
+ * overlap other lent memory; a buffer of length 0 needs an aligned pointer that is not null.
+ *
+ * An answer below TOE_REFUSED is a count. Any other is a refusal: its number and its item are those of document
+ * 01, "What is sent back". A refusal changes no buffer; an acceptance changes only the places of its answer.
+ */
+#ifndef TOE_H
+#define TOE_H
+
+#include <stddef.h>
+#include <stdint.h>
+
+#ifdef __cplusplus
+extern "C" {
+#endif
+
+#define TOE_REFUSED (UINT64_C(1) << 63)
+#define TOE_NUMBER(answer) ((unsigned)(((answer) >> 32) & 0x7fffffff))
+#define TOE_ITEM(answer) ((uint32_t)(answer))
+
+/* Settles a book: the number of rows. Each engagement quarter-hour gives four numbers, in grains: baseline,
+ * delivered volume, source and FSP correction. `rows_length` counts numbers. Refusals 1 to 9, 10 item 0. */
+uint64_t toe_settle(const uint8_t *book, size_t book_length, int64_t *rows, size_t rows_length);
+
+/* Fills a balance party's sheet, in grains: 96 numbers a day of the month. Refusals 1 to 9, 11, 10 item 0. */
+uint64_t toe_sheet(const uint8_t *book, size_t book_length, uint16_t party, int64_t *sums, size_t sums_length);
+
+/* Writes a receiver's file of a book, and fills the book's settlement rows: the number of bytes. Kind 1 to 3; the
+ * receiver is an FSP for kind 1, else a supplier. Lengths count numbers and bytes. It needs 2 MB of stack.
+ * Refusals 1 to 9, 12 for the kind, 11, 12 for ID or moment, 10 item 0 for the rows, 10 item 1 for the file. */
+uint64_t toe_file(const uint8_t *book, size_t book_length, uint8_t kind, uint64_t receiver, const uint8_t *id,
+                  size_t id_length, const uint8_t *moment, size_t moment_length, int64_t *rows, size_t rows_length,
+                  uint8_t *file, size_t file_length);
+
+/* Reads a file: the number of rows. A row is six numbers: partner, supply, delivery direction, position, watts, 0.
+ * `facts` gets kind, receiver, year, month, start and length of the ID, start and length of the moment.
+ * Refusals 13, 10 item 0. */
+uint64_t toe_read(const uint8_t *file, size_t file_length, uint64_t *rows, size_t rows_length, uint64_t facts[8]);
+
+/* Writes a file from such rows: the number of bytes. `rows_length` counts numbers. Refusals 12 for the kind, 13,
+ * 12 for ID or moment, 10 item 1. */
+uint64_t toe_write(uint8_t kind, uint64_t receiver, uint64_t year, uint64_t month, const uint64_t *rows,
+                   size_t rows_length, const uint8_t *id, size_t id_length, const uint8_t *moment,
+                   size_t moment_length, uint8_t *file, size_t file_length);
+
+#ifdef __cplusplus
+}
+#endif
+
+#endif
