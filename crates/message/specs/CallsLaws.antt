@@ -2,8 +2,8 @@
 use mathlib.Core.Path.{_≡_, refl, sym, ap, _∙_}
 use mathlib.Core.Bool.{Bool, true, false}
 use mathlib.Core.List.{List, _++_, append-assoc, flatMap}
-use mathlib.Core.Option.{some}
-use Prim.Native.Nat.{ℕ, _*_, _≤_, _<_}
+use mathlib.Core.Option.{none, some}
+use Prim.Native.Nat.{ℕ, zero, suc, _*_, _≤_, _<_}
 use lib.Dec.{leb}
 use lib.ListN.{length, take, drop}
 use lib.Seq.{take-at, take-append-seam, drop-append-seam}
@@ -27,6 +27,13 @@ pub kind-numbered : (kind : Kind) → kindNumbered (kindNumber kind) ≡ some ki
 kind-numbered Toe01 = refl
 kind-numbered Toe02 = refl
 kind-numbered Toe03 = refl
+
+pub no-kind : (n : ℕ) → (n ≡ 1 → ⊥) → (n ≡ 2 → ⊥) → (n ≡ 3 → ⊥) → kindNumbered n ≡ none
+no-kind zero h i j = refl
+no-kind (suc zero) h i j = absurd (h refl)
+no-kind (suc (suc zero)) h i j = absurd (i refl)
+no-kind (suc (suc (suc zero))) h i j = absurd (j refl)
+no-kind (suc (suc (suc (suc n)))) h i j = refl
 
 -- ---- buffers
 

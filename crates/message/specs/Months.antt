@@ -1,6 +1,6 @@
 -- Months seen one after the other are all the same where each is like the one before it.
 use mathlib.Core.Path.{_≡_, refl, sym, ap, _∙_, subst}
-use mathlib.Core.Bool.{Bool, true, false, _&&_, or-true}
+use mathlib.Core.Bool.{Bool, true, _&&_, and-assoc, or-true}
 use mathlib.Core.List.{List, [], _∷_, _++_, flatMap, map}
 use Prim.Native.Nat.{ℕ, _≤_}
 use lib.Dec.{eqb}
@@ -17,11 +17,7 @@ use Rattle.message.specs.PartnerForm.{partnerForm, partner-to, partner-f
 pub agree-append : (seen : ℕ × ℕ) (l m : List (ℕ × ℕ)) → agree seen (l ++ m) ≡ (agree seen l && agree (after seen l) m)
 unfolding agree after
 agree-append seen [] m = refl
-agree-append seen (q ∷ l) m = ap (λ (b : Bool). follows seen q && b) (agree-append q l m) ∙ sym (assoc (follows seen q) (agree q l) (agree (after q l) m))
-  where
-    assoc : (a b c : Bool) → ((a && b) && c) ≡ (a && (b && c))
-    assoc true b c = refl
-    assoc false b c = refl
+agree-append seen (q ∷ l) m = ap (λ (b : Bool). follows seen q && b) (agree-append q l m) ∙ sym (and-assoc (follows seen q) (agree q l) (agree (after q l) m))
 
 -- a month that follows one that was seen is that one
 pub follows-same : (seen q : ℕ × ℕ) → (seen .0 ≡ 0 → ⊥) → follows seen q ≡ true → q ≡ seen

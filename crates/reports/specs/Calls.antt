@@ -3,7 +3,7 @@ use mathlib.Core.Path.{_≡_}
 use mathlib.Core.Bool.{cond, _&&_}
 use mathlib.Core.List.{List, []}
 use mathlib.Core.Option.{Option, none, some}
-use Prim.Native.Nat.{ℕ, zero, suc, _*_}
+use Prim.Native.Nat.{ℕ, _*_}
 use lib.Dec.{leb}
 use lib.IntN.{ℤ}
 use lib.ListN.{length}
@@ -13,8 +13,10 @@ use Rattle.book.specs.Refusals.{Refusal, refused, unless}
 use Rattle.volumes.specs.Quarters.{monthQuarters}
 use Rattle.volumes.specs.Settlement.{rowWidth, rows, rowCount, orElse, bookRefusal}
 use Rattle.volumes.specs.Sheets.{parties, sheet}
-use Rattle.volumes.specs.Series.{Kind, Toe01, Toe02, Toe03}
+use Rattle.volumes.specs.Series.{Kind}
 use Rattle.message.specs.Valid.{isMoment}
+use Rattle.message.specs.Calls.{kindNumbered}
+pub use Rattle.message.specs.Calls.{kindNumbered as kindOf}
 unfoldable pub use Rattle.message.specs.Calls.{over}
 unfoldable pub use Rattle.sheets.specs.Parties.{stands}
 use Rattle.reports.specs.FileRows.{fileText}
@@ -53,14 +55,6 @@ pub record SheetCalled (bytes : List ℕ) (party : ℕ) (before after : List ℤ
 
 -- ---- a receiver's file
 
--- "kind 01 to 03"
-abbrev pub kindOf : ℕ → Option Kind
-kindOf zero = none
-kindOf (suc zero) = some Toe01
-kindOf (suc (suc zero)) = some Toe02
-kindOf (suc (suc (suc zero))) = some Toe03
-kindOf (suc (suc (suc (suc n)))) = none
-
 -- the bytes of the file that is asked for; there is none of another kind
 unfoldable pub textOf : Book → Option Kind → ℕ → List ℕ → List ℕ → List ℕ
 textOf book none receiver id moment = []
@@ -81,7 +75,7 @@ askedRefusal book (some kind) receiver id moment rowsLent fileLent =
 
 unfoldable pub fileRefusal : List ℕ → ℕ → ℕ → List ℕ → List ℕ → ℕ → ℕ → Option Refusal
 fileRefusal bytes kind receiver id moment rowsLent fileLent =
-    orElse (bookRefusal bytes) (askedRefusal (bookOf bytes) (kindOf kind) receiver id moment rowsLent fileLent)
+    orElse (bookRefusal bytes) (askedRefusal (bookOf bytes) (kindNumbered kind) receiver id moment rowsLent fileLent)
 
 -- how many settlement rows and bytes, or the refusal's number and item
 unfoldable pub fileSays : Option Refusal → ℕ → ℕ → FileAnswer
@@ -90,10 +84,10 @@ fileSays (some r) rowCount count = FileRefused (r .number) (r .item)
 
 unfoldable pub fileAnswer : List ℕ → ℕ → ℕ → List ℕ → List ℕ → ℕ → ℕ → FileAnswer
 fileAnswer bytes kind receiver id moment rowsLent fileLent =
-    fileSays (fileRefusal bytes kind receiver id moment rowsLent fileLent) (rowCount (bookOf bytes)) (length (textOf (bookOf bytes) (kindOf kind) receiver id moment))
+    fileSays (fileRefusal bytes kind receiver id moment rowsLent fileLent) (rowCount (bookOf bytes)) (length (textOf (bookOf bytes) (kindNumbered kind) receiver id moment))
 
 -- "File calls take the book and fill the rows too."
 pub record FileCalled (bytes : List ℕ) (kind receiver : ℕ) (id moment : List ℕ) (rowsBefore rowsAfter : List ℤ) (before after : List ℕ) (r : FileAnswer) : Type 0 where
   pub answer : r ≡ fileAnswer bytes kind receiver id moment (length rowsBefore) (length before)
   pub rows : rowsAfter ≡ afterwards (fileRefusal bytes kind receiver id moment (length rowsBefore) (length before)) (rows (bookOf bytes)) rowsBefore
-  pub file : after ≡ afterwards (fileRefusal bytes kind receiver id moment (length rowsBefore) (length before)) (textOf (bookOf bytes) (kindOf kind) receiver id moment) before
+  pub file : after ≡ afterwards (fileRefusal bytes kind receiver id moment (length rowsBefore) (length before)) (textOf (bookOf bytes) (kindNumbered kind) receiver id moment) before

@@ -1,6 +1,6 @@
 -- What an accepted call says of what was passed, and what a call in role and form with long enough buffers answers.
 use mathlib.Core.Path.{_≡_, refl, sym, ap, _∙_}
-use mathlib.Core.Bool.{Bool, true, false, _&&_}
+use mathlib.Core.Bool.{true, _&&_}
 use mathlib.Core.List.{List, List·Memᴰ}
 use mathlib.Core.Option.{Option, none, some}
 use Prim.Native.Nat.{ℕ, zero, suc, _*_, _≤_}
@@ -15,16 +15,19 @@ use Rattle.book.specs.Book.{Book, bookOf}
 use Rattle.book.specs.Refusals.{Refusal, unless}
 use Rattle.volumes.specs.Quarters.{monthQuarters}
 use Rattle.volumes.specs.Settlement.{rowWidth, rowCount, orElse, bookRefusal}
+use Rattle.volumes.specs.SoundLaws.{never, not-refused}
 use Rattle.volumes.specs.Sheets.{parties}
 use Rattle.volumes.specs.Series.{Kind, Toe01, Toe02, Toe03}
 use Rattle.message.specs.Valid.{isMoment}
+use Rattle.message.specs.CallsLaws.{kind-numbered}
 pub use Rattle.message.specs.CallsLaws.{over-first}
+use Rattle.message.specs.Calls.{kindNumbered, kindNumber}
 use Rattle.reports.specs.FileRows.{fileText}
 use Rattle.reports.specs.Roles.{receivers}
-use Rattle.reports.specs.Calls.{stands, afterwards, sheetRefusal, sheetSays, sheetAnswer, kindOf, textOf, shortRefusal, askedRefusal, fileRefusal, fileSays, fileAnswer}
+use Rattle.reports.specs.Calls.{stands, afterwards, sheetRefusal, sheetSays, sheetAnswer, textOf, shortRefusal, askedRefusal, fileRefusal, fileSays, fileAnswer}
 use Rattle.reports.specs.declared.SheetAnswer.the-variants.{Sheet}
 use Rattle.reports.specs.declared.FileAnswer.the-variants.{File}
-use Rattle.reports.specs.Demand3.{isSheet, isFile, kindNumber, written}
+use Rattle.reports.specs.Demand3.{isSheet, isFile, written}
 
 pub stands-mem : (x : ℕ) (l : List ℕ) → stands x l ≡ true → List·Memᴰ x l
 unfolding stands
@@ -35,17 +38,10 @@ unfolding stands
 mem-stands x l m = le-leb 1 (times x l) (mem-times x l m)
 
 -- a refusal that did not come
-never : (r : Refusal) → some r ≡ none → ⊥
-never r e = let z : _≡_ {A = ℕ} 0 1 = cc in omega arith
-
-not-refused : (test : Bool) (number : ℕ) (later : Option Refusal) → unless test number later ≡ none → (test ≡ true) × (later ≡ none)
-not-refused true number later e = (refl, e)
-not-refused false number later e = absurd (never _ e)
-
 later-none : (first later : Option Refusal) → orElse first later ≡ none → later ≡ none
 unfolding orElse
 later-none none later e = e
-later-none (some r) later e = absurd (never r e)
+later-none (some r) later e = absurd (never (r .number) e)
 
 -- ---- the sheet call
 
@@ -71,27 +67,20 @@ sheet-answered bytes party lent e m h = rw (e, mem-stands party (parties (bookOf
 
 -- ---- the file call
 
-pub kind-of : (kind : Kind) → kindOf (kindNumber kind) ≡ some kind
-unfolding kindNumber
-kind-of Toe01 = refl
-kind-of Toe02 = refl
-kind-of Toe03 = refl
-
 file-says-none : (r : Option Refusal) (m n : ℕ) → isFile (fileSays r m n) ≡ true → r ≡ none
 unfolding isFile fileSays
 file-says-none none m n e = refl
 file-says-none (some r) m n e = let z : _≡_ {A = ℕ} 0 1 = cc in absurd (omega arith)
 
 -- a file is of one of the three kinds
-kind-asked : (bytes : List ℕ) (n receiver : ℕ) (id moment : List ℕ) (rowsLent fileLent : ℕ) → isFile (fileAnswer bytes n receiver id moment rowsLent fileLent) ≡ true → kindOf n ≡ none → ⊥
+kind-asked : (bytes : List ℕ) (n receiver : ℕ) (id moment : List ℕ) (rowsLent fileLent : ℕ) → isFile (fileAnswer bytes n receiver id moment rowsLent fileLent) ≡ true → kindNumbered n ≡ none → ⊥
 unfolding fileAnswer fileRefusal askedRefusal
 kind-asked bytes n receiver id moment rowsLent fileLent e k =
     let asked : Option Kind → Option Refusal = λ o. askedRefusal (bookOf bytes) o receiver id moment rowsLent fileLent in
-    let passed = file-says-none (orElse (bookRefusal bytes) (asked (kindOf n))) (rowCount (bookOf bytes)) (length (textOf (bookOf bytes) (kindOf n) receiver id moment)) e in
-    never (record { number = 12; item = 0 }) (sym (ap asked k) ∙ later-none (bookRefusal bytes) (asked (kindOf n)) passed)
+    let passed = file-says-none (orElse (bookRefusal bytes) (asked (kindNumbered n))) (rowCount (bookOf bytes)) (length (textOf (bookOf bytes) (kindNumbered n) receiver id moment)) e in
+    never 12 (sym (ap asked k) ∙ later-none (bookRefusal bytes) (asked (kindNumbered n)) passed)
 
 pub kind-is : (bytes : List ℕ) (n receiver : ℕ) (id moment : List ℕ) (rowsLent fileLent : ℕ) → isFile (fileAnswer bytes n receiver id moment rowsLent fileLent) ≡ true → (kind : Kind) × (n ≡ kindNumber kind)
-unfolding kindNumber
 kind-is bytes zero receiver id moment rowsLent fileLent e = absurd (kind-asked bytes zero receiver id moment rowsLent fileLent e refl)
 kind-is bytes (suc zero) receiver id moment rowsLent fileLent e = (Toe01, refl)
 kind-is bytes (suc (suc zero)) receiver id moment rowsLent fileLent e = (Toe02, refl)
@@ -117,30 +106,30 @@ in-form book kind receiver id moment rowsLent fileLent e =
 module _ (bytes : List ℕ) (kind : Kind) (receiver : ℕ) (id moment : List ℕ) (rowsLent fileLent : ℕ) where
   file-not-refused : isFile (fileAnswer bytes (kindNumber kind) receiver id moment rowsLent fileLent) ≡ true → fileRefusal bytes (kindNumber kind) receiver id moment rowsLent fileLent ≡ none
   unfolding fileAnswer
-  file-not-refused e = file-says-none (fileRefusal bytes (kindNumber kind) receiver id moment rowsLent fileLent) (rowCount (bookOf bytes)) (length (textOf (bookOf bytes) (kindOf (kindNumber kind)) receiver id moment)) e
+  file-not-refused e = file-says-none (fileRefusal bytes (kindNumber kind) receiver id moment rowsLent fileLent) (rowCount (bookOf bytes)) (length (textOf (bookOf bytes) (kindNumbered (kindNumber kind)) receiver id moment)) e
 
   pub file-in-form : isFile (fileAnswer bytes (kindNumber kind) receiver id moment rowsLent fileLent) ≡ true → InForm (bookOf bytes) kind receiver id moment
   unfolding fileRefusal
   file-in-form e =
-      let asked = askedRefusal (bookOf bytes) (kindOf (kindNumber kind)) receiver id moment rowsLent fileLent in
+      let asked = askedRefusal (bookOf bytes) (kindNumbered (kindNumber kind)) receiver id moment rowsLent fileLent in
       in-form (bookOf bytes) kind receiver id moment rowsLent fileLent
-      (ap (λ k. askedRefusal (bookOf bytes) k receiver id moment rowsLent fileLent) (sym (kind-of kind)) ∙ later-none (bookRefusal bytes) asked (file-not-refused e))
+      (ap (λ k. askedRefusal (bookOf bytes) k receiver id moment rowsLent fileLent) (sym (kind-numbered kind)) ∙ later-none (bookRefusal bytes) asked (file-not-refused e))
 
   -- the text that the call was asked for
-  asked-text : textOf (bookOf bytes) (kindOf (kindNumber kind)) receiver id moment ≡ fileText (bookOf bytes) kind receiver id moment
+  asked-text : textOf (bookOf bytes) (kindNumbered (kindNumber kind)) receiver id moment ≡ fileText (bookOf bytes) kind receiver id moment
   unfolding textOf
-  asked-text = ap (λ k. textOf (bookOf bytes) k receiver id moment) (kind-of kind)
+  asked-text = ap (λ k. textOf (bookOf bytes) k receiver id moment) (kind-numbered kind)
 
   -- what it wrote is the file
   pub file-written : isFile (fileAnswer bytes (kindNumber kind) receiver id moment rowsLent fileLent) ≡ true → (before : List ℕ)
-      → written (fileAnswer bytes (kindNumber kind) receiver id moment rowsLent fileLent) (afterwards (fileRefusal bytes (kindNumber kind) receiver id moment rowsLent fileLent) (textOf (bookOf bytes) (kindOf (kindNumber kind)) receiver id moment) before) ≡ fileText (bookOf bytes) kind receiver id moment
+      → written (fileAnswer bytes (kindNumber kind) receiver id moment rowsLent fileLent) (afterwards (fileRefusal bytes (kindNumber kind) receiver id moment rowsLent fileLent) (textOf (bookOf bytes) (kindNumbered (kindNumber kind)) receiver id moment) before) ≡ fileText (bookOf bytes) kind receiver id moment
   unfolding fileAnswer fileSays written afterwards
   file-written e before =
-      let text = textOf (bookOf bytes) (kindOf (kindNumber kind)) receiver id moment in
+      let text = textOf (bookOf bytes) (kindNumbered (kindNumber kind)) receiver id moment in
       rw (file-not-refused e) (over-first text before (length text) refl ∙ asked-text)
 
   pub file-answered : bookRefusal bytes ≡ none → InForm (bookOf bytes) kind receiver id moment → rowWidth * rowCount (bookOf bytes) ≤ rowsLent → length (fileText (bookOf bytes) kind receiver id moment) ≤ fileLent
       → fileAnswer bytes (kindNumber kind) receiver id moment rowsLent fileLent ≡ File (rowCount (bookOf bytes)) (length (fileText (bookOf bytes) kind receiver id moment))
   unfolding fileAnswer fileRefusal askedRefusal shortRefusal fileSays textOf orElse
   file-answered e f h k =
-      rw (e, kind-of kind, mem-stands receiver (receivers (bookOf bytes) kind) (f .role), f .named, f .timed, le-leb (rowWidth * rowCount (bookOf bytes)) rowsLent h, le-leb (length (fileText (bookOf bytes) kind receiver id moment)) fileLent k)
+      rw (e, kind-numbered kind, mem-stands receiver (receivers (bookOf bytes) kind) (f .role), f .named, f .timed, le-leb (rowWidth * rowCount (bookOf bytes)) rowsLent h, le-leb (length (fileText (bookOf bytes) kind receiver id moment)) fileLent k)

@@ -37,6 +37,11 @@ spread-sum f gs =
     sum-flatMap naturals f (λ g. map (λ a. (g .0, a)) (g .1)) gs
     ∙ sum-all naturals (λ g. sumOf f (map (λ a. (g .0, a)) (g .1))) (λ g. sumOf (λ a. f (g .0, a)) (g .1)) gs (λ g. sum-map naturals f (λ a. (g .0, a)) (g .1))
 
+-- what is nothing is so by any test
+pub nought : (t : Bool) {n : ℕ} → n ≡ 0 → cond t n 0 ≡ 0
+nought true e = e
+nought false e = refl
+
 nil-sum : {A : Type 0} (f : A → ℕ) → sumOf f [] ≡ 0
 unfolding sumBy
 nil-sum f = refl
@@ -146,10 +151,6 @@ module _ (book : Book) (inside : Inside book) (kind : Kind) (receiver : ℕ) whe
       pick-position p (range 1 (monthQuarters (book .calendar))) (position-once p 1 (monthQuarters (book .calendar)) low (omega arith)) (of m d) (eqb n m) (eqb su (supplyNumber (d .0))) (eqb dv (deliveryNumber (d .1))))
       ∙ pick-direction (eqb n m) u v (here m))
       ∙ pick-partner n u v p
-    where
-      nought : (t : Bool) {n : ℕ} → n ≡ 0 → cond t n 0 ≡ 0
-      nought true e = e
-      nought false e = refl
 
   -- up to each position, "the series' grains up to it, over 30,240 rounded down"
   pub carries-floor : (n : ℕ) (u : Supply) (v : Direction) (p : ℕ) → p ≤ monthQuarters (book .calendar) → upTo (wattsIn (fileRows book kind receiver) n (supplyNumber u) (deliveryNumber v)) p ≡ wholeWatts (upTo (grainsAt book kind receiver (seriesOf n u v)) p)

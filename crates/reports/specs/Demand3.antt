@@ -18,11 +18,12 @@ use Rattle.book.specs.Book.{bookOf}
 use Rattle.volumes.specs.Quarters.{monthQuarters}
 use Rattle.volumes.specs.Settlement.{rowWidth, rowCount, Accepted}
 use Rattle.volumes.specs.Sheets.{parties, sheet, requestedVolume}
-use Rattle.volumes.specs.Series.{Kind, Toe01, Toe02, Toe03, grainsAt}
+use Rattle.volumes.specs.Series.{Kind, Toe01, Toe02, grainsAt}
 use Rattle.volumes.specs.SeriesLaws.{seriesOf}
 use Rattle.message.specs.Valid.{isMoment}
 use Rattle.message.specs.Rows.{Row, Message}
 use Rattle.message.specs.FileLaws.{readMessage}
+use Rattle.message.specs.Calls.{kindNumber}
 use Rattle.reports.specs.Keep.{keep}
 use Rattle.reports.specs.FileRows.{supplyNumber, deliveryNumber, fileText, messageOf}
 use Rattle.reports.specs.Roles.{receivers}
@@ -62,12 +63,6 @@ isSheet (SheetRefused number item) = false
 unfoldable pub isFile : FileAnswer → Bool
 isFile (File rowCount count) = true
 isFile (FileRefused number item) = false
-
--- "kind 01 to 03"
-unfoldable pub kindNumber : Kind → ℕ
-kindNumber Toe01 = 1
-kindNumber Toe02 = 2
-kindNumber Toe03 = 3
 
 unfoldable pub filled : {bytes : List ℕ} → SheetCall bytes → Bool
 filled c = isSheet (c .answer)

@@ -27,6 +27,7 @@ use Rattle.volumes.specs.SoundLaws.{sound}
 use Rattle.volumes.specs.BookLaws.{getD-map-range}
 use Rattle.message.specs.Rows.{Row}
 use Rattle.message.specs.FileLaws.{readMessage}
+use Rattle.message.specs.Calls.{kindNumbered, kindNumber}
 use Rattle.reports.specs.Keep.{keep}
 use Rattle.reports.specs.KeepLaws.{keep-sum, mem-keep}
 use Rattle.reports.specs.FileRows.{supplyNumber, deliveryNumber, fileText, fileRows, messageOf}
@@ -38,9 +39,9 @@ use Rattle.reports.specs.TotalsLaws.{directed-totals, totals}
 use Rattle.reports.specs.Registered.{Registered}
 use Rattle.reports.specs.RegisteredLaws.{registered}
 use Rattle.reports.specs.ReadLaws.{file-read}
-use Rattle.reports.specs.Calls.{over, afterwards, sheetRefusal, kindOf, textOf, fileRefusal, fileAnswer}
+use Rattle.reports.specs.Calls.{over, afterwards, sheetRefusal, textOf, fileRefusal, fileAnswer}
 use Rattle.reports.specs.CallsLaws.{over-first, sheet-not-refused, sheet-party, sheet-answered, kind-is, InForm, file-in-form, file-written, file-answered}
-use Rattle.reports.specs.Demand3.{SheetCall, FileCall, isSheet, isFile, kindNumber, filled, wrote, sumAt, written, rowsRead, carried, filledFor, wroteFor, Whole, Agreed, Answered, Demand3}
+use Rattle.reports.specs.Demand3.{SheetCall, FileCall, isSheet, isFile, filled, wrote, sumAt, written, rowsRead, carried, filledFor, wroteFor, Whole, Agreed, Answered, Demand3}
 
 -- ---- a sheet that was filled
 
@@ -86,8 +87,8 @@ module _ (bytes : List ℕ) (kind : Kind) (c : FileCall bytes) (e : wrote kind c
   wrote-answer : c .answer ≡ fileAnswer bytes (kindNumber kind) (c .receiver) (c .id) (c .moment) (length (c .rowsBefore)) (length (c .before))
   wrote-answer = c .called .answer ∙ ap (λ k. fileAnswer bytes k (c .receiver) (c .id) (c .moment) (length (c .rowsBefore)) (length (c .before))) (wrote-kind bytes kind c e .0)
 
-  wrote-after : c .after ≡ afterwards (fileRefusal bytes (kindNumber kind) (c .receiver) (c .id) (c .moment) (length (c .rowsBefore)) (length (c .before))) (textOf (bookOf bytes) (kindOf (kindNumber kind)) (c .receiver) (c .id) (c .moment)) (c .before)
-  wrote-after = c .called .file ∙ ap (λ k. afterwards (fileRefusal bytes k (c .receiver) (c .id) (c .moment) (length (c .rowsBefore)) (length (c .before))) (textOf (bookOf bytes) (kindOf k) (c .receiver) (c .id) (c .moment)) (c .before)) (wrote-kind bytes kind c e .0)
+  wrote-after : c .after ≡ afterwards (fileRefusal bytes (kindNumber kind) (c .receiver) (c .id) (c .moment) (length (c .rowsBefore)) (length (c .before))) (textOf (bookOf bytes) (kindNumbered (kindNumber kind)) (c .receiver) (c .id) (c .moment)) (c .before)
+  wrote-after = c .called .file ∙ ap (λ k. afterwards (fileRefusal bytes k (c .receiver) (c .id) (c .moment) (length (c .rowsBefore)) (length (c .before))) (textOf (bookOf bytes) (kindNumbered k) (c .receiver) (c .id) (c .moment)) (c .before)) (wrote-kind bytes kind c e .0)
 
   wrote-file : isFile (fileAnswer bytes (kindNumber kind) (c .receiver) (c .id) (c .moment) (length (c .rowsBefore)) (length (c .before))) ≡ true
   wrote-file = sym (ap isFile wrote-answer) ∙ wrote-kind bytes kind c e .1

@@ -21,7 +21,6 @@ use Rattle.volumes.specs.SoundLaws.{sound}
 use Rattle.volumes.specs.RunningLaws.{rows-few}
 use Rattle.volumes.specs.QuartersLaws.{flatMap-append}
 use Rattle.volumes.specs.Series.{Kind, partnerOf}
-use Rattle.message.specs.declared.Kind.{Kind as Form}
 use Rattle.message.specs.Contents.{Series as TimeSeries, Partner}
 use Rattle.message.specs.Bytes.{seriesBytes, supplyOf, partnerBytes}
 use Rattle.writer.specs.WriterParts.{partnerHead, partnerEnd, fileHead, fileEnd}
@@ -32,8 +31,7 @@ use Rattle.reports.specs.KeepLaws.{keep-length}
 use Rattle.reports.specs.AscendingLaws.{ascending-length}
 use Rattle.reports.specs.FileRows.{supplyNumber, isTaken, partnerNumbers, directions, timeSeries, timeSeriesOf, partnerAt, partnersOf, fileOf, fileText}
 use Rattle.reports.specs.Registered.{Registered}
-use Rattle.reports.specs.SeriesSums.{kindIn, SettledIn}
-use Rattle.reports.specs.SeriesSumsLaws.{form-kind}
+use Rattle.reports.specs.SeriesSums.{SettledIn}
 use Rattle.reports.specs.SeriesSumsWritten.{seriesIf}
 use Rattle.reports.specs.Partners.{pointsIn, partnerColumn, noPartner, Next, partnerIf, partnersFrom}
 use Rattle.reports.specs.PartnersLaws.{points-in, partners-next, partners-end}
@@ -118,17 +116,17 @@ module _ (book : Book) (kind : Kind) (receiver partner : ℕ) where
       go false false false false h = absurd (omega arith)
 
   -- the four, one behind the other
-  pub series-bytes : (form : Form)
-      → ((flatMap (seriesBytes form) (seriesIf book kind receiver partner (OffTake, Up)) ++ flatMap (seriesBytes form) (seriesIf book kind receiver partner (OffTake, Down))) ++ flatMap (seriesBytes form) (seriesIf book kind receiver partner (Injection, Up))) ++ flatMap (seriesBytes form) (seriesIf book kind receiver partner (Injection, Down))
-      ≡ flatMap (seriesBytes form) (timeSeriesOf book kind receiver partner)
+  pub series-bytes :
+      ((flatMap (seriesBytes kind) (seriesIf book kind receiver partner (OffTake, Up)) ++ flatMap (seriesBytes kind) (seriesIf book kind receiver partner (OffTake, Down))) ++ flatMap (seriesBytes kind) (seriesIf book kind receiver partner (Injection, Up))) ++ flatMap (seriesBytes kind) (seriesIf book kind receiver partner (Injection, Down))
+      ≡ flatMap (seriesBytes kind) (timeSeriesOf book kind receiver partner)
   unfolding timeSeriesOf directions seriesIf
-  series-bytes form =
+  series-bytes =
       let test : TimeSeries → Bool = λ s. isSome (s .observations) in
       let a = timeSeries book kind receiver partner (OffTake, Up) in
       let b = timeSeries book kind receiver partner (OffTake, Down) in
       let c = timeSeries book kind receiver partner (Injection, Up) in
       let d = timeSeries book kind receiver partner (Injection, Down) in
-      rw (kept-bytes test (seriesBytes form) a (b ∷ c ∷ d ∷ []), kept-bytes test (seriesBytes form) b (c ∷ d ∷ []), kept-bytes test (seriesBytes form) c (d ∷ [])) (simp append-assoc)
+      rw (kept-bytes test (seriesBytes kind) a (b ∷ c ∷ d ∷ []), kept-bytes test (seriesBytes kind) b (c ∷ d ∷ []), kept-bytes test (seriesBytes kind) c (d ∷ [])) (simp append-assoc)
 
   -- ---- a partner
 
@@ -154,20 +152,20 @@ module _ (book : Book) (kind : Kind) (receiver partner : ℕ) where
       go [] e = absurd (omega arith)
       go (a ∷ l) e = refl
 
-  pub partner-none-bytes : (form : Form) → length (timeSeriesOf book kind receiver partner) ≡ 0 → [] ≡ flatMap (partnerBytes form) (partnerIf book kind receiver partner)
+  pub partner-none-bytes : length (timeSeriesOf book kind receiver partner) ≡ 0 → [] ≡ flatMap (partnerBytes kind) (partnerIf book kind receiver partner)
   unfolding flatMap
-  partner-none-bytes form e = ap (flatMap (partnerBytes form)) (sym (partner-none e))
+  partner-none-bytes e = ap (flatMap (partnerBytes kind)) (sym (partner-none e))
 
   -- head, series, end
-  pub partner-bytes : (form : Form) (p : Present) (supply n : ℕ) → IsPresent book kind receiver partner p → supply ≡ presentSupply p → n ≡ presentCount p → 1 ≤ n
-      → partnerHead form partner supply n ++ flatMap (seriesBytes form) (timeSeriesOf book kind receiver partner) ++ partnerEnd form ≡ flatMap (partnerBytes form) (partnerIf book kind receiver partner)
+  pub partner-bytes : (p : Present) (supply n : ℕ) → IsPresent book kind receiver partner p → supply ≡ presentSupply p → n ≡ presentCount p → 1 ≤ n
+      → partnerHead kind partner supply n ++ flatMap (seriesBytes kind) (timeSeriesOf book kind receiver partner) ++ partnerEnd kind ≡ flatMap (partnerBytes kind) (partnerIf book kind receiver partner)
   unfolding partnerAt flatMap
-  partner-bytes form p supply n h e f some =
+  partner-bytes p supply n h e f some =
       let count : n ≡ length (timeSeriesOf book kind receiver partner) = f ∙ series-count p h in
       let first : supply ≡ supplyOf (timeSeriesOf book kind receiver partner) = e ∙ series-supply p h (rw f at some) in
-      rw (count, first) (partner-parts form (partnerAt book kind receiver partner))
-      ∙ sym (append-nil (partnerBytes form (partnerAt book kind receiver partner)))
-      ∙ ap (flatMap (partnerBytes form)) (sym (partner-some (rw count at some)))
+      rw (count, first) (partner-parts kind (partnerAt book kind receiver partner))
+      ∙ sym (append-nil (partnerBytes kind (partnerAt book kind receiver partner)))
+      ∙ ap (flatMap (partnerBytes kind)) (sym (partner-some (rw count at some)))
 
 -- ---- all partners
 
@@ -180,13 +178,13 @@ module _ (book : Book) (kind : Kind) (receiver : ℕ) where
       omega (arith, keep-length (λ (p : Partner). isSome (p .series)) (map (partnerAt book kind receiver) numbers), length-map numbers (partnerAt book kind receiver), ascending-length (map (partnerOf kind) points), length-map points (partnerOf kind), keep-length (isTaken kind receiver) (book .points), r .few)
 
   -- the next partner's, and then the others'
-  pub partners-bytes : (form : Form) (low next : ℕ) → Next low (partnerColumn (book .points) kind receiver) next → next < noPartner
-      → flatMap (partnerBytes form) (partnersFrom book kind receiver low) ≡ flatMap (partnerBytes form) (partnerIf book kind receiver next) ++ flatMap (partnerBytes form) (partnersFrom book kind receiver (next + 1))
-  partners-bytes form low next s h = ap (flatMap (partnerBytes form)) (partners-next book kind receiver low next s h) ∙ flatMap-append (partnerBytes form) (partnerIf book kind receiver next) (partnersFrom book kind receiver (next + 1))
+  pub partners-bytes : (low next : ℕ) → Next low (partnerColumn (book .points) kind receiver) next → next < noPartner
+      → flatMap (partnerBytes kind) (partnersFrom book kind receiver low) ≡ flatMap (partnerBytes kind) (partnerIf book kind receiver next) ++ flatMap (partnerBytes kind) (partnersFrom book kind receiver (next + 1))
+  partners-bytes low next s h = ap (flatMap (partnerBytes kind)) (partners-next book kind receiver low next s h) ∙ flatMap-append (partnerBytes kind) (partnerIf book kind receiver next) (partnersFrom book kind receiver (next + 1))
 
-  pub partners-end-bytes : (form : Form) → Registered book → (low next : ℕ) → Next low (partnerColumn (book .points) kind receiver) next → noPartner ≤ next → flatMap (partnerBytes form) (partnersFrom book kind receiver low) ≡ []
+  pub partners-end-bytes : Registered book → (low next : ℕ) → Next low (partnerColumn (book .points) kind receiver) next → noPartner ≤ next → flatMap (partnerBytes kind) (partnersFrom book kind receiver low) ≡ []
   unfolding flatMap
-  partners-end-bytes form r low next s h = ap (flatMap (partnerBytes form)) (partners-end book kind receiver r low next s h)
+  partners-end-bytes r low next s h = ap (flatMap (partnerBytes kind)) (partners-end book kind receiver r low next s h)
 
   pub partners-count : (low next : ℕ) → Next low (partnerColumn (book .points) kind receiver) next → next < noPartner
       → length (partnersFrom book kind receiver low) ≡ length (partnerIf book kind receiver next) + length (partnersFrom book kind receiver (next + 1))
@@ -207,11 +205,10 @@ scan-falls column next later h s = go (ltb later noPartner) refl
 
 -- ---- the file
 
-pub file-bytes : (book : Book) (form : Form) (receiver : ℕ) (id moment : List ℕ) (n : ℕ) → n ≡ length (partnersOf book (kindIn form) receiver)
-    → fileHead form id moment receiver n ++ flatMap (partnerBytes form) (partnersOf book (kindIn form) receiver) ++ fileEnd form ≡ fileText book (kindIn form) receiver id moment
+pub file-bytes : (book : Book) (kind : Kind) (receiver : ℕ) (id moment : List ℕ) (n : ℕ) → n ≡ length (partnersOf book kind receiver)
+    → fileHead kind id moment receiver n ++ flatMap (partnerBytes kind) (partnersOf book kind receiver) ++ fileEnd kind ≡ fileText book kind receiver id moment
 unfolding fileText fileOf
-file-bytes book form receiver id moment n e =
-    let partners = partnersOf book (kindIn form) receiver in
-    ap (λ (k : ℕ). fileHead form id moment receiver k ++ flatMap (partnerBytes form) partners ++ fileEnd form) e
-    ∙ ap (λ (k : Form). fileHead k id moment receiver (length partners) ++ flatMap (partnerBytes k) partners ++ fileEnd k) (sym (form-kind form))
-    ∙ file-parts (fileOf book (kindIn form) receiver id moment)
+file-bytes book kind receiver id moment n e =
+    let partners = partnersOf book kind receiver in
+    ap (λ (k : ℕ). fileHead kind id moment receiver k ++ flatMap (partnerBytes kind) partners ++ fileEnd kind) e
+    ∙ file-parts (fileOf book kind receiver id moment)

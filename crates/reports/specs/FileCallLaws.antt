@@ -16,15 +16,16 @@ use Rattle.book.specs.Refusals.{Refusal, refused, unless}
 use Rattle.book.specs.Book.{Book, bookOf}
 use Rattle.volumes.specs.Settlement.{rowWidth, rows, rowCount, orElse, bookRefusal}
 use Rattle.volumes.specs.SettlementLaws.{rows-length}
+use Rattle.volumes.specs.SoundLaws.{not-refused}
 use Rattle.volumes.specs.Series.{Kind}
 use Rattle.message.specs.Valid.{isMoment}
-use Rattle.message.specs.Calls.{over as overText}
+use Rattle.message.specs.Calls.{kindNumbered}
 use Rattle.writer.specs.WriterLaid.{Laid, laid-over, laid-no-room}
 use Rattle.reports.specs.declared.FileAnswer.{FileAnswer}
 use Rattle.reports.specs.declared.FileAnswer.the-variants.{File, Refused}
 use Rattle.reports.specs.FileRows.{fileText}
 use Rattle.reports.specs.Roles.{receivers}
-use Rattle.reports.specs.Calls.{stands, over, afterwards, kindOf, textOf, shortRefusal, askedRefusal, fileRefusal, fileSays, fileAnswer, FileCalled}
+use Rattle.reports.specs.Calls.{stands, over, afterwards, textOf, shortRefusal, askedRefusal, fileRefusal, fileSays, fileAnswer, FileCalled}
 
 -- ---- what is asked of an accepted book, before its file is written
 
@@ -55,16 +56,11 @@ module _ (book : Book) (kind : Kind) (receiver : ℕ) (id moment : List ℕ) (le
   -- the rows have room where nothing is refused
   pub asked-room : askedVerdict book kind receiver id moment lent ≡ none → rowWidth * rowCount book ≤ lent
   unfolding askedVerdict
-  asked-room e = go (stands receiver (receivers book kind)) (isTransactionId id && isMoment moment) (leb (rowWidth * rowCount book) lent) refl e
-    where
-      never : (r : Refusal) → some r ≡ none → ⊥
-      never r e = let z : _≡_ {A = ℕ} 0 1 = cc in omega arith
-
-      go : (s f b : Bool) → leb (rowWidth * rowCount book) lent ≡ b → unless s 11 (unless f 12 (unless b 10 none)) ≡ none → rowWidth * rowCount book ≤ lent
-      go true true true t e = leb-true (rowWidth * rowCount book) lent t
-      go true true false t e = absurd (never _ e)
-      go true false b t e = absurd (never _ e)
-      go false f b t e = absurd (never _ e)
+  asked-room e =
+      let short = unless (leb (rowWidth * rowCount book) lent) 10 none in
+      let e₁ = not-refused (stands receiver (receivers book kind)) 11 (unless (isTransactionId id && isMoment moment) 12 short) e in
+      let e₂ = not-refused (isTransactionId id && isMoment moment) 12 short (e₁ .1) in
+      leb-true (rowWidth * rowCount book) lent (not-refused (leb (rowWidth * rowCount book) lent) 10 none (e₂ .1) .0)
 
 -- and then 10 with item 1
 unfoldable pub roomFor : List ℕ → List ℕ → Option Refusal
@@ -115,17 +111,17 @@ module _ (bytes : List ℕ) (kind receiver : ℕ) (id moment : List ℕ) (lent :
   unfolding fileRefusal orElse
   call-refused r h = refused-as r (rw (← h))
 
-  pub call-unknown : bookRefusal bytes ≡ none → none ≡ kindOf kind → FileCalled bytes kind receiver id moment lent lent before before (Refused 12 0)
+  pub call-unknown : bookRefusal bytes ≡ none → none ≡ kindNumbered kind → FileCalled bytes kind receiver id moment lent lent before before (Refused 12 0)
   unfolding fileRefusal orElse askedRefusal
   call-unknown h k = refused-as (record { number = 12; item = 0 }) (rw (h, ← k))
 
-  module _ (k : Kind) (passed : bookRefusal bytes ≡ none) (known : some k ≡ kindOf kind) where
+  module _ (k : Kind) (passed : bookRefusal bytes ≡ none) (known : some k ≡ kindNumbered kind) where
     refusal-is : fileRefusal bytes kind receiver id moment (length lent) (length before)
         ≡ orElse (askedVerdict (bookOf bytes) k receiver id moment (length lent)) (roomFor (fileText (bookOf bytes) k receiver id moment) before)
     unfolding fileRefusal orElse
     refusal-is = rw (passed, ← known) (asked-then (bookOf bytes) k receiver id moment (length lent) before)
 
-    text-is : textOf (bookOf bytes) (kindOf kind) receiver id moment ≡ fileText (bookOf bytes) k receiver id moment
+    text-is : textOf (bookOf bytes) (kindNumbered kind) receiver id moment ≡ fileText (bookOf bytes) k receiver id moment
     unfolding textOf
     text-is = rw (← known)
 
@@ -156,7 +152,7 @@ module _ (book : Book) (text : List ℕ) (lent : List ℤ) (before : List ℕ) w
   pub file-fits : (count n : ℕ) (settled rowsAfter : List ℤ) (dry after : List ℕ) (m r : Mark) → take (length (rows book)) settled ≡ rows book → count ≡ rowCount book → m ≡ At n
       → Laid false before (At 0) text dry m → rowsAfter ≡ take (rowWidth * count) settled ++ drop (rowWidth * count) lent → Laid true dry (At 0) text after r
       → FileFilled book text lent rowsAfter before after (File count n)
-  unfolding fileSays afterwards roomFor over overText
+  unfolding fileSays afterwards roomFor over
   file-fits count n settled rowsAfter dry after m r s c e v f w =
       let k = laid-over (rw e at v) w in
       let b = le-leb (length text) (length before) (k .room) in

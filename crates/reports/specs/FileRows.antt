@@ -11,21 +11,13 @@ use Rattle.book.specs.declared.Direction.the-variants.{Up, Down}
 use Rattle.book.specs.declared.Point.{Point}
 use Rattle.book.specs.Book.{Book}
 use Rattle.volumes.specs.Quarters.{monthQuarters}
-use Rattle.volumes.specs.Series.{Kind, Toe01, Toe02, Toe03, takes, receiverOf, partnerOf, Series, seriesWatts}
+use Rattle.volumes.specs.Series.{Kind, takes, receiverOf, partnerOf, Series, seriesWatts}
 use Rattle.volumes.specs.SeriesLaws.{seriesOf}
-use Rattle.message.specs.declared.Kind.{Kind as Form}
-use Rattle.message.specs.declared.Kind.the-variants.{Toe01 as Form01, Toe02 as Form02, Toe03 as Form03}
 use Rattle.message.specs.Contents.{Observation, Series as TimeSeries, Partner, File}
 use Rattle.message.specs.Bytes.{fileBytes}
 use Rattle.message.specs.Rows.{Row, rowsOf, Message}
 use Rattle.reports.specs.Keep.{keep, isSome}
 use Rattle.reports.specs.Ascending.{ascending}
-
--- a kind as the file's form names it
-unfoldable pub formOf : Kind → Form
-formOf Toe01 = Form01
-formOf Toe02 = Form02
-formOf Toe03 = Form03
 
 -- "supply direction (0 off-take, 1 injection)", "direction (0 up, 1 down)": as numbers of a row
 unfoldable pub supplyNumber : Supply → ℕ
@@ -87,7 +79,7 @@ partnersOf book kind receiver = keep (λ p. isSome (p .series)) (map (partnerAt 
 
 -- the file of a kind for a receiver, with an ID and a moment
 unfoldable pub fileOf : Book → Kind → ℕ → List ℕ → List ℕ → File
-fileOf book kind receiver id moment = record { kind = formOf kind; receiver = receiver; id = id; moment = moment; partners = partnersOf book kind receiver }
+fileOf book kind receiver id moment = record { kind = kind; receiver = receiver; id = id; moment = moment; partners = partnersOf book kind receiver }
 
 -- "Elements as in case F": its bytes
 unfoldable pub fileText : Book → Kind → ℕ → List ℕ → List ℕ → List ℕ
@@ -106,7 +98,7 @@ unfoldable pub messageOf : Book → Kind → ℕ → List ℕ → List ℕ → M
 messageOf book kind receiver id moment =
     let q : ℕ × ℕ = monthIn book (fileRows book kind receiver) in
     record {
-      kind = formOf kind;
+      kind = kind;
       receiver = receiver;
       id = id;
       moment = moment;

@@ -1,7 +1,7 @@
 -- The file that a sound book gives is a valid one: so its bytes are read, and read as its rows.
 use mathlib.Core.Path.{_≡_, refl, sym, ap, subst, _∙_}
 use mathlib.Core.Bool.{Bool, true, false, cond, _&&_}
-use mathlib.Core.List.{List, [], _∷_, _++_, map, flatMap, List·Memᴰ, List·Memᴰ·head, List·Memᴰ·tail, Memᴰ·of-map}
+use mathlib.Core.List.{List, [], _∷_, map, flatMap, List·Memᴰ, List·Memᴰ·head, List·Memᴰ·tail, Memᴰ·of-map}
 use Prim.Native.Nat.{ℕ, zero, suc, _*_, _^_, _≤_, _<_}
 use native.Mathlib.Nat.{mul-suc, mul-le-mul-left}
 use native.Mathlib.Omega.{arith}
@@ -33,10 +33,11 @@ use Rattle.volumes.specs.WidthsLaws.{most, delivered-most}
 use Rattle.message.specs.Contents.{Observation, Series as TimeSeries, Partner, place, position, number}
 use Rattle.message.specs.Bytes.{digits, supplyOf}
 use Rattle.message.specs.Valid.{lastPosition, IsObservation, IsVolume, IsSeries, OneSupply, IsPartner, isMoment, monthOf, periods, firstOf, IsFile}
+use Rattle.message.specs.Months.{all-append}
 use Rattle.reports.specs.Keep.{keep, isSome}
 use Rattle.reports.specs.KeepLaws.{keep-length, mem-keep, keep-rises, each-all, some-length, some-member}
 use Rattle.reports.specs.AscendingLaws.{ascending-rises, ascending-once, ascending-length}
-use Rattle.reports.specs.FileRows.{formOf, supplyNumber, deliveryNumber, isTaken, partnerNumbers, directions, positions, observationAt, isWritten, observationsOf, timeSeries, timeSeriesOf, partnerAt, partnersOf, fileOf}
+use Rattle.reports.specs.FileRows.{supplyNumber, deliveryNumber, isTaken, partnerNumbers, directions, positions, observationAt, isWritten, observationsOf, timeSeries, timeSeriesOf, partnerAt, partnersOf, fileOf}
 use Rattle.reports.specs.Roles.{receivers}
 use Rattle.reports.specs.Registered.{Numbered, Registered}
 use Rattle.reports.specs.PointsLaws.{Of, Inside, watts-point}
@@ -51,11 +52,6 @@ range-rises : (a n : ℕ) → rises a (range a n) ≡ true
 unfolding rises range
 range-rises a zero = refl
 range-rises a (suc n) = and-both (le-leb a a (omega arith)) (range-rises (suc a) n)
-
-all-append : {A : Type 0} (P : A → Type 0) (l m : List A) → All P l → All P m → All P (l ++ m)
-unfolding All
-all-append P [] m h k = k
-all-append P (a ∷ l) m h k = (h .0, all-append P l m (h .1) k)
 
 all-flatMap : {A B : Type 0} (P : B → Type 0) (f : A → List B) (l : List A) → ((a : A) → List·Memᴰ a l → All P (f a)) → All P (flatMap f l)
 unfolding All flatMap
@@ -98,8 +94,8 @@ month-positions : (c : Calendar) → monthQuarters c ≡ lastPosition (c .year) 
 unfolding monthQuarters dayStart calendarDays lastPosition
 month-positions c = omega arith
 
-partner-fits : (kind : Kind) (point : Point) → Numbered point → partnerOf kind point < 10 ^ digits (formOf kind)
-unfolding partnerOf formOf digits
+partner-fits : (kind : Kind) (point : Point) → Numbered point → partnerOf kind point < 10 ^ digits kind
+unfolding partnerOf digits
 partner-fits Toe01 point h = h .supplier
 partner-fits Toe02 point h = h .fsp
 partner-fits Toe03 point h = h .access
@@ -199,11 +195,11 @@ module _ (book : Book) (sound : Sound book) (registered : Registered book) (kind
       go : (point : Point) × List·Memᴰ point (keep (isTaken kind receiver) (book .points)) × (partnerOf kind point ≡ n) → (point : Point) × List·Memᴰ point (book .points) × (partnerOf kind point ≡ n)
       go (point, k, e) = (point, mem-keep (isTaken kind receiver) (book .points) point k .0, e)
 
-  number-below : (n : ℕ) → List·Memᴰ n (partnerNumbers book kind receiver) → n < 10 ^ digits (formOf kind)
+  number-below : (n : ℕ) → List·Memᴰ n (partnerNumbers book kind receiver) → n < 10 ^ digits kind
   number-below n m = go (partner-point n m)
     where
-      go : (point : Point) × List·Memᴰ point (book .points) × (partnerOf kind point ≡ n) → n < 10 ^ digits (formOf kind)
-      go (point, k, e) = subst (λ x. x < 10 ^ digits (formOf kind)) e (partner-fits kind point (registered .numbered point k))
+      go : (point : Point) × List·Memᴰ point (book .points) × (partnerOf kind point ≡ n) → n < 10 ^ digits kind
+      go (point, k, e) = subst (λ x. x < 10 ^ digits kind) e (partner-fits kind point (registered .numbered point k))
 
   series-rise : (n : ℕ) → rises 0 (map place (timeSeriesOf book kind receiver n)) ≡ true
   unfolding timeSeriesOf timeSeries directions supplyNumber deliveryNumber rises
@@ -226,8 +222,7 @@ one-access book sound registered receiver n s t m k = go (series-point book soun
     go : (point : Point) × List·Memᴰ point (book .points) × (point .access ≡ n) × (s .supply ≡ supplyNumber (point .supply)) → (point : Point) × List·Memᴰ point (book .points) × (point .access ≡ n) × (t .supply ≡ supplyNumber (point .supply)) → s .supply ≡ t .supply
     go (a, i, p, u) (b, j, q, v) = u ∙ ap supplyNumber (registered .shared a b i j (p ∙ sym q)) ∙ sym v
 
-one-supply : (book : Book) → Sound book → Registered book → (kind : Kind) (receiver n : ℕ) → OneSupply (formOf kind) (timeSeriesOf book kind receiver n)
-unfolding formOf
+one-supply : (book : Book) → Sound book → Registered book → (kind : Kind) (receiver n : ℕ) → OneSupply kind (timeSeriesOf book kind receiver n)
 one-supply book sound registered Toe01 receiver n = tt
 one-supply book sound registered Toe02 receiver n = tt
 one-supply book sound registered Toe03 receiver n = one-of-all (timeSeriesOf book Toe03 receiver n) (one-access book sound registered receiver n)
@@ -239,11 +234,11 @@ receiver-fits Toe02 point h = h .supplier
 receiver-fits Toe03 point h = h .supplier
 
 module _ (book : Book) (sound : Sound book) (registered : Registered book) (kind : Kind) (receiver : ℕ) where
-  partner-valid : (p : Partner) → List·Memᴰ p (partnersOf book kind receiver) → IsPartner (formOf kind) p
+  partner-valid : (p : Partner) → List·Memᴰ p (partnersOf book kind receiver) → IsPartner kind p
   unfolding partnersOf partnerAt
   partner-valid p m = let k = mem-keep (λ (p : Partner). isSome (p .series)) (map (partnerAt book kind receiver) (partnerNumbers book kind receiver)) p m in go (Memᴰ·of-map (partnerAt book kind receiver) (partnerNumbers book kind receiver) (k .0)) (k .1)
     where
-      at : (n : ℕ) → List·Memᴰ n (partnerNumbers book kind receiver) → isSome (timeSeriesOf book kind receiver n) ≡ true → IsPartner (formOf kind) (partnerAt book kind receiver n)
+      at : (n : ℕ) → List·Memᴰ n (partnerNumbers book kind receiver) → isSome (timeSeriesOf book kind receiver n) ≡ true → IsPartner kind (partnerAt book kind receiver n)
       at n m e =
           record {
             number = number-below book sound registered kind receiver n m;
@@ -253,8 +248,8 @@ module _ (book : Book) (sound : Sound book) (registered : Registered book) (kind
             one = one-supply book sound registered kind receiver n;
           }
 
-      go : (n : ℕ) × List·Memᴰ n (partnerNumbers book kind receiver) × (partnerAt book kind receiver n ≡ p) → isSome (p .series) ≡ true → IsPartner (formOf kind) p
-      go (n, m, e) h = subst (IsPartner (formOf kind)) e (at n m (ap (λ (x : Partner). isSome (x .series)) e ∙ h))
+      go : (n : ℕ) × List·Memᴰ n (partnerNumbers book kind receiver) × (partnerAt book kind receiver n ≡ p) → isSome (p .series) ≡ true → IsPartner kind p
+      go (n, m, e) h = subst (IsPartner kind) e (at n m (ap (λ (x : Partner). isSome (x .series)) e ∙ h))
 
   -- all series are of the book's month
   series-month : (n : ℕ) (s : TimeSeries) → List·Memᴰ s (timeSeriesOf book kind receiver n) → monthOf s ≡ (book .calendar .year, book .calendar .month)
@@ -292,8 +287,8 @@ module _ (book : Book) (sound : Sound book) (registered : Registered book) (kind
       keep-rises (λ (p : Partner). isSome (p .series)) number 0 (map (partnerAt book kind receiver) (partnerNumbers book kind receiver))
       (rw (map-back number (partnerAt book kind receiver) (λ n. refl) (partnerNumbers book kind receiver)) (ascending-rises (map (partnerOf kind) (keep (isTaken kind receiver) (book .points)))))
 
-  pub partners-valid : All (IsPartner (formOf kind)) (partnersOf book kind receiver)
-  partners-valid = each-all (IsPartner (formOf kind)) (partnersOf book kind receiver) partner-valid
+  pub partners-valid : All (IsPartner kind) (partnersOf book kind receiver)
+  partners-valid = each-all (IsPartner kind) (partnersOf book kind receiver) partner-valid
 
   receiver-below : List·Memᴰ receiver (receivers book kind) → receiver < 10 ^ 10
   unfolding receivers

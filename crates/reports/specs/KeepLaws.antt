@@ -2,8 +2,8 @@
 use mathlib.Core.Path.{_≡_, refl, sym, ap, _∙_}
 use mathlib.Core.Logic.{⊎-elim}
 use mathlib.Core.Bool.{Bool, true, false, cond, false≢true}
-use mathlib.Core.List.{List, [], _∷_, map, List·Memᴰ, List·Memᴰ·head, List·Memᴰ·tail, List·Memᴰ·not-nil, List·Memᴰ·cases-cons}
-use Prim.Native.Nat.{ℕ, suc, _≤_}
+use mathlib.Core.List.{List, [], _∷_, _++_, map, List·Memᴰ, List·Memᴰ·head, List·Memᴰ·tail, List·Memᴰ·not-nil, List·Memᴰ·cases-cons}
+use Prim.Native.Nat.{ℕ, suc, _≤_, _<_}
 use native.Mathlib.Omega.{arith}
 use lib.Dec.{leb}
 use lib.ListN.{length}
@@ -28,6 +28,15 @@ module _ {A : Type 0} (test : A → Bool) where
       go : (t : Bool) → length (keep test l) ≤ length l → length (cond t (a ∷ keep test l) (keep test l)) ≤ suc (length l)
       go true h = omega arith
       go false h = omega arith
+
+  pub keep-append : (l m : List A) → keep test (l ++ m) ≡ keep test l ++ keep test m
+  unfolding keep
+  keep-append [] m = refl
+  keep-append (a ∷ l) m = go (test a) (keep-append l m)
+    where
+      go : (t : Bool) → keep test (l ++ m) ≡ keep test l ++ keep test m → cond t (a ∷ keep test (l ++ m)) (keep test (l ++ m)) ≡ cond t (a ∷ keep test l) (keep test l) ++ keep test m
+      go true e = ap (λ r. a ∷ r) e
+      go false e = e
 
   -- what fails the test adds nothing
   pub keep-sum : {M : Type 0} (S : Adding M) (f : A → M) → ((a : A) → test a ≡ false → f a ≡ S .none) → (l : List A) → sumBy S f (keep test l) ≡ sumBy S f l
@@ -94,3 +103,13 @@ pub not-some : {A : Type 0} (l : List A) → isSome l ≡ false → l ≡ []
 unfolding isSome
 not-some [] e = refl
 not-some (a ∷ l) e = absurd (false≢true (sym e))
+
+pub length-none : {A : Type 0} (l : List A) → length l ≡ 0 → isSome l ≡ false
+unfolding isSome
+length-none [] e = refl
+length-none (a ∷ l) e = absurd (omega arith)
+
+pub length-some : {A : Type 0} (l : List A) → 0 < length l → isSome l ≡ true
+unfolding isSome
+length-some [] h = absurd (omega arith)
+length-some (a ∷ l) h = refl

@@ -14,11 +14,10 @@ use Rattle.reports.specs.declared.partners.Asked.{Asked}
 use Rattle.reports.specs.declared.partners.Asked.the-variants.{Of, Unknown}
 use Rattle.reports.specs.Keep.{keep, isSome}
 use Rattle.reports.specs.FileRows.{isTaken, partnerNumbers, partnerAt}
-use Rattle.reports.specs.SeriesSums.{kindIn}
 
 -- the kind that a call asks for
 abbrev pub kindAsked : Asked → Option Kind
-kindAsked (Of form) = some (kindIn form)
+kindAsked (Of form) = some form
 kindAsked Unknown = none
 
 -- the delivery points of a register's bytes

@@ -1,11 +1,9 @@
 -- A scan of the register finds who is in a role, and the least partner from a number on; so partners follow each other as the file has them.
 use mathlib.Core.Path.{_≡_, refl, sym, ap, _∙_}
-use mathlib.Core.Logic.{⊎-elim}
 use mathlib.Core.Bool.{Bool, true, false, cond, _&&_}
-use mathlib.Core.List.{List, [], _∷_, _++_, map, List·Memᴰ, Memᴰ·map, Memᴰ·of-map, Memᴰ·cast, List·Memᴰ·head, List·Memᴰ·tail}
+use mathlib.Core.List.{List, [], _∷_, _++_, map, List·Memᴰ, Memᴰ·map, Memᴰ·of-map, Memᴰ·cast}
 use mathlib.Core.Option.{none}
-use Prim.Native.Nat.{ℕ, zero, suc, _+_, _≤_, _<_}
-use native.Mathlib.Nat.{eq-or-lt-of-le}
+use Prim.Native.Nat.{ℕ, suc, _+_, _≤_, _<_}
 use native.Mathlib.Numerals.{add-one}
 use native.Mathlib.Omega.{arith}
 use lib.Dec.{leb, ltb}
@@ -22,6 +20,7 @@ use Rattle.settlement.specs.Sections.{pointCountIn}
 use Rattle.settlement.specs.SectionsLaws.{points-counted}
 use Rattle.volumes.specs.Series.{Kind, Toe01, Toe02, Toe03, receiverOf, partnerOf}
 use Rattle.volumes.specs.SoundLaws.{mem-range}
+use Rattle.volumes.specs.UsedLaws.{range-mem}
 use Rattle.message.specs.Contents.{Partner}
 use Rattle.reports.specs.Keep.{keep, isSome}
 use Rattle.reports.specs.KeepLaws.{mem-keep, keep-mem}
@@ -29,29 +28,15 @@ use Rattle.reports.specs.FileRows.{isTaken, partnerNumbers, partnerAt, p
 use Rattle.reports.specs.Registered.{Numbered, Registered}
 use Rattle.reports.specs.ScanLaws.{next-least, all-from, no-next}
 use Rattle.reports.specs.Roles.{receivers}
-use Rattle.reports.specs.Calls.{stands, kindOf}
+use Rattle.reports.specs.Calls.{stands}
 use Rattle.reports.specs.CallsLaws.{stands-mem, mem-stands}
 use Rattle.reports.specs.Partners.{pointsIn, partnerColumn, noPartner, Next, partnerIf, partnersFrom}
-
--- ---- the kind
-
-pub kind-else : (n : ℕ) → (n ≡ 1 → ⊥) → (n ≡ 2 → ⊥) → (n ≡ 3 → ⊥) → none ≡ kindOf n
-kind-else zero a b c = refl
-kind-else (suc zero) a b c = absurd (a refl)
-kind-else (suc (suc zero)) a b c = absurd (b refl)
-kind-else (suc (suc (suc zero))) a b c = absurd (c refl)
-kind-else (suc (suc (suc (suc n)))) a b c = refl
 
 -- ---- the points of the register
 
 pub points-in : (bytes : List ℕ) → refusalOf bytes ≡ none → pointsIn (registerSection bytes) ≡ bookOf bytes .points
 unfolding pointsIn bookOf
 points-in bytes e = rw (points-counted bytes e)
-
-range-mem : (a n i : ℕ) → a ≤ i → i < a + n → List·Memᴰ i (range a n)
-unfolding range
-range-mem a zero i h k = absurd (omega arith)
-range-mem a (suc n) i h k = ⊎-elim (λ e. List·Memᴰ·head (sym e)) (λ l. List·Memᴰ·tail (range-mem (suc a) n i l (omega arith))) (eq-or-lt-of-le h)
 
 point-mem : (register : List ℕ) (i : ℕ) → i < pointCountIn register → List·Memᴰ (pointAt register i) (pointsIn register)
 unfolding pointsIn

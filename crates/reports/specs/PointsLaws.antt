@@ -5,7 +5,7 @@ use mathlib.Core.List.{List, [], _∷_, map, List·Memᴰ, List·Memᴰ·head, L
 use Prim.Native.Nat.{ℕ, zero, suc, _+_, _≤_, _<_}
 use native.Mathlib.Omega.{arith}
 use lib.Dec.{eqb}
-use lib.ListN.{length, getD}
+use lib.ListN.{length}
 use borrow.Author.Tests.{eqb-true}
 use Rattle.integers.specs.Counts.{times}
 use Rattle.integers.specs.Running.{upTo, floorAt, floorAt-zero}
@@ -21,15 +21,11 @@ use Rattle.volumes.specs.Baseline.{noPoint, pointOf}
 use Rattle.volumes.specs.Settlement.{delivered}
 use Rattle.volumes.specs.Sheets.{covers, quarterAt}
 use Rattle.volumes.specs.Series.{Kind, takes, receiverOf, partnerOf, Series, sameSupply, sameDirection, isPoint, isEngagement, grainsOf, grainsAt, seriesWatts}
+use Rattle.settlement.specs.EngagedLaws.{getD-mem}
 use Rattle.reports.specs.Keep.{keep}
 use Rattle.reports.specs.KeepLaws.{keep-mem}
 use Rattle.reports.specs.AscendingLaws.{ascending-once}
 use Rattle.reports.specs.FileRows.{isTaken, partnerNumbers}
-
-getD-mem : {A : Type 0} (l : List A) (i : ℕ) (d : A) → i < length l → List·Memᴰ (getD l i d) l
-getD-mem [] i d h = absurd (omega arith)
-getD-mem (a ∷ l) zero d h = List·Memᴰ·head refl
-getD-mem (a ∷ l) (suc i) d h = List·Memᴰ·tail (getD-mem l i d (omega arith))
 
 -- a sum that isn't 0 has a term that isn't
 some-term : {A : Type 0} (f : A → ℕ) (l : List A) → 1 ≤ sumOf f l → (a : A) × List·Memᴰ a l × (1 ≤ f a)

@@ -1,6 +1,6 @@
 -- Of every accepted book there are calls as demand 3 wants them: one for each party and receiver, with buffers of just the length.
 use mathlib.Core.Path.{_≡_, refl, ap, ap₂, _∙_}
-use mathlib.Core.Bool.{Bool, true, false, cond}
+use mathlib.Core.Bool.{Bool, true, false}
 use mathlib.Core.List.{List, [], _∷_, _++_, map, map-append, List·Memᴰ, List·Memᴰ·head, List·Memᴰ·tail}
 use Prim.Native.Nat.{ℕ, _+_, _*_}
 use native.Mathlib.Omega.{arith}
@@ -16,13 +16,15 @@ use Rattle.volumes.specs.Settlement.{rowWidth, rows, rowCount, Accepted}
 use Rattle.volumes.specs.Sheets.{parties, sheet}
 use Rattle.volumes.specs.Series.{Kind, Toe01, Toe02, Toe03}
 use Rattle.message.specs.Valid.{isMoment}
+use Rattle.message.specs.Calls.{kindNumbered, kindNumber}
 use Rattle.reports.specs.Keep.{keep}
+use Rattle.reports.specs.KeepLaws.{keep-append}
 use Rattle.reports.specs.Ascending.{ascending}
 use Rattle.reports.specs.AscendingLaws.{ascending-once}
 use Rattle.reports.specs.FileRows.{fileText}
 use Rattle.reports.specs.Roles.{receivers}
-use Rattle.reports.specs.Calls.{afterwards, sheetRefusal, sheetAnswer, kindOf, textOf, fileRefusal, fileAnswer}
-use Rattle.reports.specs.Demand3.{SheetCall, FileCall, isSheet, isFile, kindNumber, filled, wrote, filledFor, wroteFor, Answered, Calls, Possible}
+use Rattle.reports.specs.Calls.{afterwards, sheetRefusal, sheetAnswer, textOf, fileRefusal, fileAnswer}
+use Rattle.reports.specs.Demand3.{SheetCall, FileCall, isSheet, isFile, filled, wrote, filledFor, wroteFor, Answered, Calls, Possible}
 use Rattle.reports.specs.Demand3Laws.{demand-3}
 
 -- ---- numbers of calls
@@ -37,15 +39,6 @@ module _ {A : Type 0} (test : A → Bool) (f : A → ℕ) (g : ℕ → A) where
   unfolding keep
   none-kept [] h = refl
   none-kept (x ∷ l) h = rw (h x) (none-kept l h)
-
-keep-append : {A : Type 0} (test : A → Bool) (l m : List A) → keep test (l ++ m) ≡ keep test l ++ keep test m
-unfolding keep
-keep-append test [] m = refl
-keep-append test (a ∷ l) m = go (test a) (keep-append test l m)
-  where
-    go : (t : Bool) → keep test (l ++ m) ≡ keep test l ++ keep test m → cond t (a ∷ keep test (l ++ m)) (keep test (l ++ m)) ≡ cond t (a ∷ keep test l) (keep test l) ++ keep test m
-    go true e = ap (λ r. a ∷ r) e
-    go false e = e
 
 wrote-append : (bytes : List ℕ) (kind : Kind) (l m : List (FileCall bytes)) → wroteFor kind (l ++ m) ≡ wroteFor kind l ++ wroteFor kind m
 unfolding wroteFor
@@ -76,7 +69,7 @@ fileFor bytes id moment kind receiver =
       rowsBefore = lent;
       rowsAfter = afterwards (fileRefusal bytes (kindNumber kind) receiver id moment (length lent) (length before)) (rows (bookOf bytes)) lent;
       before = before;
-      after = afterwards (fileRefusal bytes (kindNumber kind) receiver id moment (length lent) (length before)) (textOf (bookOf bytes) (kindOf (kindNumber kind)) receiver id moment) before;
+      after = afterwards (fileRefusal bytes (kindNumber kind) receiver id moment (length lent) (length before)) (textOf (bookOf bytes) (kindNumbered (kindNumber kind)) receiver id moment) before;
       answer = fileAnswer bytes (kindNumber kind) receiver id moment (length lent) (length before);
       called = record { answer = refl; rows = refl; file = refl };
     }
@@ -117,7 +110,7 @@ module _ (bytes : List ℕ) (a : Accepted bytes) (id moment : List ℕ) (named :
   other-kind kind other e = none-kept (wrote kind) (λ c. c .receiver) (fileFor bytes id moment other) (ascending (receivers (bookOf bytes) other)) (λ x. rw e)
 
   all-written : (kind : Kind) (r : ℕ) → times r (wroteFor kind all-files) ≡ times r (ascending (receivers (bookOf bytes) kind))
-  unfolding all-files kindNumber times
+  unfolding all-files times
   all-written kind r =
       ap (times r) (wrote-append bytes kind (files-of Toe01) (files-of Toe02 ++ files-of Toe03) ∙ ap (λ l. wroteFor kind (files-of Toe01) ++ l) (wrote-append bytes kind (files-of Toe02) (files-of Toe03)))
       ∙ times-append r (wroteFor kind (files-of Toe01)) (wroteFor kind (files-of Toe02) ++ wroteFor kind (files-of Toe03))

@@ -18,7 +18,7 @@ use Rattle.message.specs.FileForm.{file}
 use Rattle.message.specs.MessageForm.{message-recast}
 use Rattle.message.specs.FileLaws.{readMessage, written-is-read}
 use Rattle.reports.specs.Keep.{isSome}
-use Rattle.reports.specs.FileRows.{formOf, partnersOf, fileOf, fileText, fileRows, monthIn, messageOf}
+use Rattle.reports.specs.FileRows.{partnersOf, fileOf, fileText, fileRows, monthIn, messageOf}
 use Rattle.reports.specs.Roles.{receivers}
 use Rattle.reports.specs.Registered.{Registered}
 use Rattle.reports.specs.FormLaws.{book-month, partners-rise, partners-valid, file-valid}
@@ -30,7 +30,7 @@ module _ (book : Book) (sound : Sound book) (registered : Registered book) (kind
   month-is = go (fileRows book kind receiver) refl (message-recast .to-ok (fileOf book kind receiver id moment) (file-valid book sound registered kind receiver id moment role named timed) .none)
     where
       again : regrouped (book .calendar .year, book .calendar .month) (rowsOf (partnersOf book kind receiver)) ≡ partnersOf book kind receiver
-      again = partners-undo (formOf kind) (book .calendar .year, book .calendar .month) (partnersOf book kind receiver) (partners-rise book sound registered kind receiver) (partners-valid book sound registered kind receiver) (book-month book sound registered kind receiver)
+      again = partners-undo kind (book .calendar .year, book .calendar .month) (partnersOf book kind receiver) (partners-rise book sound registered kind receiver) (partners-valid book sound registered kind receiver) (book-month book sound registered kind receiver)
 
       go : (rows : List Row) → rowsOf (partnersOf book kind receiver) ≡ rows → (length (rowsOf (partnersOf book kind receiver)) ≡ 0 → (firstOf (periods (partnersOf book kind receiver)) .0 ≡ 0) × (firstOf (periods (partnersOf book kind receiver)) .1 ≡ 0)) → firstOf (periods (partnersOf book kind receiver)) ≡ monthIn book rows
       go [] e h = let z = h (ap length e) in let y = z .0 in let m = z .1 in λ i. (y i, m i)
@@ -41,7 +41,7 @@ module _ (book : Book) (sound : Sound book) (registered : Registered book) (kind
 
   message-is : message (fileOf book kind receiver id moment) ≡ messageOf book kind receiver id moment
   unfolding message messageOf fileOf fileRows
-  message-is = ap (λ (q : ℕ × ℕ). record { kind = formOf kind; receiver = receiver; id = id; moment = moment; year = q .0; month = q .1; rows = fileRows book kind receiver }) month-is
+  message-is = ap (λ (q : ℕ × ℕ). record { kind = kind; receiver = receiver; id = id; moment = moment; year = q .0; month = q .1; rows = fileRows book kind receiver }) month-is
 
   -- the file's bytes are read, and as its rows
   pub file-read : readMessage (fileText book kind receiver id moment) ≡ got (messageOf book kind receiver id moment) []

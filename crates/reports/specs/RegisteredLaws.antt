@@ -17,13 +17,9 @@ use Rattle.book.specs.Register.{pointAt, registerRow, deliveryIn, accessIn, sup
 use Rattle.book.specs.Judged.{refusalOf}
 use Rattle.book.specs.Book.{bookOf}
 use Rattle.book.specs.declared.Point.{Point}
-use Rattle.volumes.specs.SoundLaws.{passes, first-none, mem-range}
+use Rattle.volumes.specs.SoundLaws.{neither, passes, first-none, mem-range}
 use Rattle.volumes.specs.BookLaws.{points-length}
 use Rattle.reports.specs.Registered.{Numbered, Registered}
-
-neither : (a b : Bool) → (a || b) ≡ false → (a ≡ false) × (b ≡ false)
-neither false b e = (refl, e)
-neither true b e = absurd (false≢true (sym e))
 
 module _ (days : ℕ) (register : List ℕ) where
   numbered-row : (i : ℕ) → badPoint days register i ≡ false → Numbered (pointAt register i)

@@ -1,4 +1,4 @@
--- A series of a file as the code goes through it: its kind by the file's form, and its grains by the engagements passed.
+-- A series of a file as the code goes through it: its grains by the engagements passed.
 use mathlib.Core.Path.{_≡_}
 use mathlib.Core.List.{List, _++_, map}
 use mathlib.Core.Option.{none}
@@ -14,17 +14,9 @@ use Rattle.book.specs.Engagements.{engagementAt}
 use Rattle.book.specs.Book.{Book, bookOf}
 use Rattle.volumes.specs.Baseline.{pointOf}
 use Rattle.volumes.specs.Settlement.{rowWidth, rows, bookRefusal}
-use Rattle.volumes.specs.Series.{Kind, Toe01, Toe02, Toe03, Series, grainsOf}
+use Rattle.volumes.specs.Series.{Kind, Series, grainsOf}
 use Rattle.volumes.specs.Sound.{Sound}
 use Rattle.settlement.specs.Sections.{engagementCountIn, engagementsIn}
-use Rattle.message.specs.declared.Kind.{Kind as Form}
-use Rattle.message.specs.declared.Kind.the-variants.{Toe01 as Form01, Toe02 as Form02, Toe03 as Form03}
-
--- the kind that the file's form names
-unfoldable pub kindIn : Form → Kind
-kindIn Form01 = Toe01
-kindIn Form02 = Toe02
-kindIn Form03 = Toe03
 
 -- numbers by position in a list's first n cells, and the rest as before
 abbrev pub byPosition : (ℕ → ℕ) → ℕ → List ℕ → List ℕ

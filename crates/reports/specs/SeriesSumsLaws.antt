@@ -44,24 +44,9 @@ use Rattle.settlement.specs.SectionsLaws.{rows-counted, same-book, sectioned}
 use Rattle.settlement.specs.EngagedLaws.{getD-made, getD-mem, engaged}
 use Rattle.settlement.specs.SettlingLaws.{rowCountTo, count-more, count-most}
 use Rattle.sheets.specs.AddsLaws.{next-cell}
-use Rattle.message.specs.declared.Kind.{Kind as Form}
-use Rattle.message.specs.declared.Kind.the-variants.{Toe01 as Form01, Toe02 as Form02, Toe03 as Form03}
-use Rattle.reports.specs.FileRows.{formOf}
-use Rattle.reports.specs.SeriesSums.{kindIn, byPosition, cellAt, grainsTo, volumeIn, added, Addable, Parts, SettledIn}
+use Rattle.reports.specs.SeriesSums.{byPosition, cellAt, grainsTo, volumeIn, added, Addable, Parts, SettledIn}
 
 -- ---- kinds and directions
-
-pub kind-form : (kind : Kind) → kindIn (formOf kind) ≡ kind
-unfolding kindIn formOf
-kind-form Toe01 = refl
-kind-form Toe02 = refl
-kind-form Toe03 = refl
-
-pub form-kind : (form : Form) → formOf (kindIn form) ≡ form
-unfolding kindIn formOf
-form-kind Form01 = refl
-form-kind Form02 = refl
-form-kind Form03 = refl
 
 -- "the rest appear in none"
 pub takes-no-opt-out : (kind : Kind) → takes kind OptOut ≡ false

@@ -1,6 +1,5 @@
 -- Observations one position after the other, and those of a series' watts: they are the series' own.
 use mathlib.Core.Path.{_≡_, refl, sym, ap, _∙_}
-use mathlib.Core.Bool.{Bool, true, false, cond}
 use mathlib.Core.List.{List, [], _∷_, _++_, map, flatMap, map-append, append-nil}
 use Prim.Native.Nat.{ℕ, suc, _+_, _<_, _≤_}
 use native.Mathlib.Numerals.{add-one}
@@ -23,26 +22,16 @@ use Rattle.volumes.specs.SettlementLaws.{passing}
 use Rattle.volumes.specs.Series.{Kind, Series, seriesWatts}
 use Rattle.volumes.specs.SeriesLaws.{seriesOf}
 use Rattle.settlement.specs.SectionsLaws.{bytes-long}
-use Rattle.message.specs.declared.Kind.{Kind as Form}
 use Rattle.message.specs.Contents.{Observation}
 use Rattle.message.specs.Valid.{IsPeriod}
 use Rattle.message.specs.Bytes.{observationBytes, seriesBytes}
 use Rattle.message.specs.ObservationForm.{observed}
 use Rattle.reports.specs.Keep.{keep, isSome}
+use Rattle.reports.specs.KeepLaws.{keep-append, length-none, length-some}
 use Rattle.reports.specs.FileRows.{positions, observationAt, isWritten, observationsOf, supplyNumber, deliveryNumber, timeSeries}
-use Rattle.reports.specs.SeriesSums.{kindIn, byPosition, cellAt, SettledIn}
+use Rattle.reports.specs.SeriesSums.{byPosition, cellAt, SettledIn}
 use Rattle.reports.specs.SeriesSumsLaws.{parts-of, cell-is}
 use Rattle.reports.specs.SeriesSumsWritten.{observationIf, observationsIn, seriesIn, seriesIf}
-
--- what is kept of two lists
-keep-append : {A : Type 0} (test : A → Bool) (l m : List A) → keep test (l ++ m) ≡ keep test l ++ keep test m
-unfolding keep
-keep-append test [] m = refl
-keep-append test (a ∷ l) m = go (test a) (keep-append test l m)
-  where
-    go : (t : Bool) → keep test (l ++ m) ≡ keep test l ++ keep test m → cond t (a ∷ keep test (l ++ m)) (keep test (l ++ m)) ≡ cond t (a ∷ keep test l) (keep test l) ++ keep test m
-    go true e = ap (λ (k : List _). a ∷ k) e
-    go false e = e
 
 -- ---- one position
 
@@ -95,29 +84,19 @@ observations-are book kind receiver s before l n month e =
     (ap (keep isWritten) (map-range-cong (λ p. observed (p, cellAt l p)) (λ p. observed (p, seriesWatts book kind receiver s p)) 1 n (λ p low high.
     ap (λ (w : ℕ). observed (p, w)) (ap (λ (t : List ℕ). cellAt t p) e ∙ cell-is (seriesWatts book kind receiver s) n before p low (omega arith)))))
 
-no-length : {A : Type 0} (l : List A) → length l ≡ 0 → isSome l ≡ false
-unfolding isSome
-no-length [] e = refl
-no-length (a ∷ l) e = absurd (omega arith)
-
-some-length : {A : Type 0} (l : List A) → 0 < length l → isSome l ≡ true
-unfolding isSome
-some-length [] h = absurd (omega arith)
-some-length (a ∷ l) h = refl
-
 -- a series without observations isn't written, one with some is
-module _ (form : Form) (book : Book) (receiver partner : ℕ) (u : Supply) (v : Direction) (l : List Observation)
-    (own : l ≡ observationsOf book (kindIn form) receiver (seriesOf partner u v)) where
-  pub series-none : length l ≡ 0 → [] ≡ flatMap (seriesBytes form) (seriesIf book (kindIn form) receiver partner (u, v))
+module _ (kind : Kind) (book : Book) (receiver partner : ℕ) (u : Supply) (v : Direction) (l : List Observation)
+    (own : l ≡ observationsOf book kind receiver (seriesOf partner u v)) where
+  pub series-none : length l ≡ 0 → [] ≡ flatMap (seriesBytes kind) (seriesIf book kind receiver partner (u, v))
   unfolding seriesIf timeSeries keep flatMap
-  series-none e = rw (ap isSome (sym own) ∙ no-length l e)
+  series-none e = rw (ap isSome (sym own) ∙ length-none l e)
 
   pub series-some : (supply delivery : ℕ) (c : Calendar) → supply ≡ supplyNumber u → delivery ≡ deliveryNumber v → c ≡ book .calendar → 0 < length l
-      → seriesBytes form (seriesIn supply delivery c l) ≡ flatMap (seriesBytes form) (seriesIf book (kindIn form) receiver partner (u, v))
+      → seriesBytes kind (seriesIn supply delivery c l) ≡ flatMap (seriesBytes kind) (seriesIf book kind receiver partner (u, v))
   unfolding seriesIf timeSeries keep flatMap
   series-some supply delivery c e f g h =
-      let is : seriesIn supply delivery c l ≡ timeSeries book (kindIn form) receiver partner (u, v) = λ i. seriesIn (e i) (f i) (g i) (own i) in
-      rw (ap isSome (sym own) ∙ some-length l h) (ap (seriesBytes form) is ∙ sym (append-nil (seriesBytes form (timeSeries book (kindIn form) receiver partner (u, v)))))
+      let is : seriesIn supply delivery c l ≡ timeSeries book kind receiver partner (u, v) = λ i. seriesIn (e i) (f i) (g i) (own i) in
+      rw (ap isSome (sym own) ∙ length-some l h) (ap (seriesBytes kind) is ∙ sym (append-nil (seriesBytes kind (timeSeries book kind receiver partner (u, v)))))
 
 -- ---- the month
 

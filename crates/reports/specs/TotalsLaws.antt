@@ -1,6 +1,6 @@
 -- All TOE01 files together carry the watts of all TOE02 files: a sum over providers and suppliers, in either order.
 use mathlib.Core.Path.{_≡_, refl, sym, ap, _∙_}
-use mathlib.Core.Bool.{Bool, true, false, cond, _&&_}
+use mathlib.Core.Bool.{Bool, cond, _&&_}
 use mathlib.Core.List.{List, map, List·Memᴰ, Memᴰ·map, Memᴰ·of-map, Memᴰ·cast}
 use Prim.Native.Nat.{ℕ, zero, suc}
 use native.Mathlib.Omega.{arith}
@@ -22,7 +22,7 @@ use Rattle.reports.specs.FileRows.{supplyNumber, deliveryNumber, isTaken
 use Rattle.reports.specs.Roles.{receivers}
 use Rattle.reports.specs.Watts.{wattsOf, directedIn, totalIn}
 use Rattle.reports.specs.PointsLaws.{Inside, no-watts}
-use Rattle.reports.specs.CarryLaws.{rows-sum}
+use Rattle.reports.specs.CarryLaws.{nought, rows-sum}
 
 -- a list that holds each number of a part once, and one that holds each of the whole: their sums are the same where the rest adds nothing
 part-sum : (f : ℕ → ℕ) (l part m whole : List ℕ) → Once l part → Once m whole → ((x : ℕ) → List·Memᴰ x part → List·Memᴰ x whole) → ((x : ℕ) → times x l ≡ 0 → f x ≡ 0) → sumOf f l ≡ sumOf f m
@@ -42,10 +42,6 @@ rowTest t r = t (r .1 .0 .0) (r .1 .0 .1) (r .1 .1 .position)
 -- what it takes of one partner's series
 side : Book → (ℕ → ℕ → ℕ → Bool) → Kind → ℕ → ℕ → ℕ
 side book t kind receiver n = sumOf (λ (d : Supply × Direction). sumOf (λ p. cond (t (supplyNumber (d .0)) (deliveryNumber (d .1)) p) (seriesWatts book kind receiver (seriesOf n (d .0) (d .1)) p) 0) (positions book)) directions
-
-nought : (t : Bool) {n : ℕ} → n ≡ 0 → cond t n 0 ≡ 0
-nought true e = e
-nought false e = refl
 
 module _ (book : Book) (inside : Inside book) (t : ℕ → ℕ → ℕ → Bool) where
   -- a file, partner by partner

@@ -20,7 +20,7 @@ ghost use Rattle.book.specs.Book.{bookOf};
 ghost use Rattle.message.specs.Bytes.{seriesBytes, partnerBytes};
 ghost use Rattle.writer.specs.WriterLaid.{Laid, Stands};
 ghost use Rattle.reports.specs.FileRows.{timeSeriesOf, partnersOf, fileText};
-ghost use Rattle.reports.specs.SeriesSums.{kindIn, SettledIn};
+ghost use Rattle.reports.specs.SeriesSums.{SettledIn};
 ghost use Rattle.reports.specs.Partners.{partnerIf};
 ghost use Rattle.reports.specs.Emission.{hasSeries, IsPresent, presentCount, presentSupply};
 
@@ -70,7 +70,7 @@ fn has_series(
     delivery: Direction,
 ) -> bool
     requires { ⌜ SettledIn (now book) (now settled) ⌝ }
-    ensures { λ r. ⌜ r ≡ hasSeries (bookOf (now (book .entry))) (kindIn kind) receiver partner (supply, delivery) ⌝ }
+    ensures { λ r. ⌜ r ≡ hasSeries (bookOf (now (book .entry))) kind receiver partner (supply, delivery) ⌝ }
 {
     0 < count_observations(book, settled, kind, receiver, partner, supply, delivery)
 }
@@ -78,7 +78,7 @@ fn has_series(
 // The series that a partner has.
 fn series_of(book: &[u8], settled: &[i64], kind: Kind, receiver: u64, partner: u64) -> Present
     requires { ⌜ SettledIn (now book) (now settled) ⌝ }
-    ensures { λ r. ⌜ IsPresent (bookOf (now (book .entry))) (kindIn kind) receiver partner r ⌝ }
+    ensures { λ r. ⌜ IsPresent (bookOf (now (book .entry))) kind receiver partner r ⌝ }
 {
     let off = Supply::OffTake;
     let inj = Supply::Injection;
@@ -108,7 +108,7 @@ fn emit_directions(
     live: bool,
 ) -> Mark
     requires { ⌜ SettledIn (now book) (now settled) × Stands (length (now out)) m ⌝ }
-    ensures { λ r. ⌜ Laid live (now (out .entry)) m (flatMap (seriesBytes kind) (timeSeriesOf (bookOf (now (book .entry))) (kindIn kind) receiver partner)) (now (out .exit)) r ⌝ }
+    ensures { λ r. ⌜ Laid live (now (out .entry)) m (flatMap (seriesBytes kind) (timeSeriesOf (bookOf (now (book .entry))) kind receiver partner)) (now (out .exit)) r ⌝ }
 {
     let off = Supply::OffTake;
     let inj = Supply::Injection;
@@ -176,7 +176,7 @@ fn emit_partner(
     live: bool,
 ) -> Mark
     requires { ⌜ SettledIn (now book) (now settled) × Stands (length (now out)) m ⌝ }
-    ensures { λ r. ⌜ Laid live (now (out .entry)) m (flatMap (partnerBytes kind) (partnerIf (bookOf (now (book .entry))) (kindIn kind) receiver partner)) (now (out .exit)) r ⌝ }
+    ensures { λ r. ⌜ Laid live (now (out .entry)) m (flatMap (partnerBytes kind) (partnerIf (bookOf (now (book .entry))) kind receiver partner)) (now (out .exit)) r ⌝ }
 {
     let present = series_of(book, settled, kind, receiver, partner);
     let n = present_count(present);
@@ -192,7 +192,7 @@ fn emit_partner(
 // 1 for a partner that has a series.
 fn count_partner(book: &[u8], settled: &[i64], kind: Kind, receiver: u64, partner: u64) -> u64
     requires { ⌜ SettledIn (now book) (now settled) ⌝ }
-    ensures { λ r. ⌜ r ≡ length (partnerIf (bookOf (now (book .entry))) (kindIn kind) receiver partner) ⌝ }
+    ensures { λ r. ⌜ r ≡ length (partnerIf (bookOf (now (book .entry))) kind receiver partner) ⌝ }
 {
     let present = series_of(book, settled, kind, receiver, partner);
     if present_count(present) == 0 {
@@ -204,7 +204,7 @@ fn count_partner(book: &[u8], settled: &[i64], kind: Kind, receiver: u64, partne
 // The partners that have a series.
 fn count_partners(book: &[u8], settled: &[i64], kind: Kind, receiver: u64) -> u64
     requires { ⌜ SettledIn (now book) (now settled) ⌝ }
-    ensures { λ r. ⌜ r ≡ length (partnersOf (bookOf (now (book .entry))) (kindIn kind) receiver) ⌝ }
+    ensures { λ r. ⌜ r ≡ length (partnersOf (bookOf (now (book .entry))) kind receiver) ⌝ }
 {
     let register = settlement::sections::section(book, 2);
     let mut count: u64 = 0;
@@ -229,7 +229,7 @@ fn emit_partners(
     live: bool,
 ) -> Mark
     requires { ⌜ SettledIn (now book) (now settled) × Stands (length (now out)) start ⌝ }
-    ensures { λ r. ⌜ Laid live (now (out .entry)) start (flatMap (partnerBytes kind) (partnersOf (bookOf (now (book .entry))) (kindIn kind) receiver)) (now (out .exit)) r ⌝ }
+    ensures { λ r. ⌜ Laid live (now (out .entry)) start (flatMap (partnerBytes kind) (partnersOf (bookOf (now (book .entry))) kind receiver)) (now (out .exit)) r ⌝ }
 {
     let register = settlement::sections::section(book, 2);
     let mut m = start;
@@ -256,7 +256,7 @@ pub fn emit_file(
     live: bool,
 ) -> Mark
     requires { ⌜ SettledIn (now book) (now settled) ⌝ }
-    ensures { λ r. ⌜ Laid live (now (out .entry)) m (fileText (bookOf (now (book .entry))) (kindIn kind) receiver (now (id .entry)) (now (moment .entry))) (now (out .exit)) r ⌝ }
+    ensures { λ r. ⌜ Laid live (now (out .entry)) m (fileText (bookOf (now (book .entry))) kind receiver (now (id .entry)) (now (moment .entry))) (now (out .exit)) r ⌝ }
 {
     let n = count_partners(book, settled, kind, receiver);
     let a = emit_file_head(out, m, kind, id, moment, receiver, n, live);

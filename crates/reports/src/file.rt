@@ -21,7 +21,7 @@ ghost use Rattle.book.specs.Book.{bookOf};
 ghost use Rattle.volumes.specs.Settlement.{rowWidth, rowCount, bookRefusal};
 ghost use Rattle.settlement.specs.Verdicts.{refusalIn};
 ghost use Rattle.reports.specs.FileRows.{fileText};
-ghost use Rattle.reports.specs.SeriesSums.{kindIn, SettledIn};
+ghost use Rattle.reports.specs.SeriesSums.{SettledIn};
 ghost use Rattle.reports.specs.Calls.{FileCalled};
 ghost use Rattle.reports.specs.FileCallLaws.{askedVerdict, FileFilled};
 
@@ -47,7 +47,7 @@ fn judge_asked(
     lent: usize,
 ) -> Verdict
     requires { ⌜ bookRefusal (now book) ≡ none ⌝ }
-    ensures { λ r. ⌜ refusalIn r ≡ askedVerdict (bookOf (now (book .entry))) (kindIn kind) receiver (now (id .entry)) (now (moment .entry)) lent ⌝ }
+    ensures { λ r. ⌜ refusalIn r ≡ askedVerdict (bookOf (now (book .entry))) kind receiver (now (id .entry)) (now (moment .entry)) lent ⌝ }
 {
     if !in_role(settlement::sections::section(book, 2), kind, receiver) {
         return Verdict::Refused(11, 0);
@@ -73,7 +73,7 @@ fn write_file(
     file: &mut [u8],
 ) -> FileAnswer
     requires { ⌜ SettledIn (now book) (now settled) × (rowWidth * rowCount (bookOf (now book)) ≤ length (now rows)) ⌝ }
-    ensures { λ r. ⌜ FileFilled (bookOf (now (book .entry))) (fileText (bookOf (now (book .entry))) (kindIn kind) receiver (now (id .entry)) (now (moment .entry))) (now (rows .entry)) (now (rows .exit)) (now (file .entry)) (now (file .exit)) r ⌝ }
+    ensures { λ r. ⌜ FileFilled (bookOf (now (book .entry))) (fileText (bookOf (now (book .entry))) kind receiver (now (id .entry)) (now (moment .entry))) (now (rows .entry)) (now (rows .exit)) (now (file .entry)) (now (file .exit)) r ⌝ }
 {
     let start = Mark::At(0);
     let measured = emit_file(
@@ -107,7 +107,7 @@ fn fill_file(
     file: &mut [u8],
 ) -> FileAnswer
     requires { ⌜ (bookRefusal (now book) ≡ none) × (rowWidth * rowCount (bookOf (now book)) ≤ length (now rows)) ⌝ }
-    ensures { λ r. ⌜ FileFilled (bookOf (now (book .entry))) (fileText (bookOf (now (book .entry))) (kindIn kind) receiver (now (id .entry)) (now (moment .entry))) (now (rows .entry)) (now (rows .exit)) (now (file .entry)) (now (file .exit)) r ⌝ }
+    ensures { λ r. ⌜ FileFilled (bookOf (now (book .entry))) (fileText (bookOf (now (book .entry))) kind receiver (now (id .entry)) (now (moment .entry))) (now (rows .entry)) (now (rows .exit)) (now (file .entry)) (now (file .exit)) r ⌝ }
 {
     let mut settled = [0i64; 196608];
     fill_book(book, &mut settled);

@@ -4,9 +4,9 @@ use message::Kind;
 ghost use mathlib.Core.Path.{_≡_};
 ghost use mathlib.Core.List.{map};
 ghost use Rattle.volumes.specs.Series.{receiverOf};
+ghost use Rattle.message.specs.Calls.{kindNumbered};
 ghost use Rattle.reports.specs.FileRows.{isTaken};
-ghost use Rattle.reports.specs.SeriesSums.{kindIn};
-ghost use Rattle.reports.specs.Calls.{stands, kindOf};
+ghost use Rattle.reports.specs.Calls.{stands};
 ghost use Rattle.reports.specs.Partners.{kindAsked, pointsIn, partnerColumn, Next};
 ghost use Rattle.reports.specs.PartnersLaws.{nearer};
 
@@ -20,7 +20,7 @@ pub enum Asked {
 }
 
 pub fn kind_of(kind: u8) -> Asked
-    ensures { λ r. ⌜ kindAsked r ≡ kindOf kind ⌝ }
+    ensures { λ r. ⌜ kindAsked r ≡ kindNumbered kind ⌝ }
 {
     match kind {
         1 => Asked::Of(Kind::Toe01),
@@ -32,7 +32,7 @@ pub fn kind_of(kind: u8) -> Asked
 
 // Whether a receiver is in its role in the register.
 pub fn in_role(register: &[u8], kind: Kind, receiver: u64) -> bool
-    ensures { λ r. ⌜ r ≡ stands receiver (map (receiverOf (kindIn kind)) (pointsIn (now (register .entry)))) ⌝ }
+    ensures { λ r. ⌜ r ≡ stands receiver (map (receiverOf kind) (pointsIn (now (register .entry)))) ⌝ }
 {
     let n = register.len() / 64;
     let mut i = 0;
@@ -48,7 +48,7 @@ pub fn in_role(register: &[u8], kind: Kind, receiver: u64) -> bool
 
 // Whether a kind's files take the point, and it has the receiver.
 fn is_taken(kind: Kind, receiver: u64, point: Point) -> bool
-    ensures { λ r. ⌜ r ≡ isTaken (kindIn kind) receiver point ⌝ }
+    ensures { λ r. ⌜ r ≡ isTaken kind receiver point ⌝ }
 {
     let situation = point.situation;
     crate::series::takes(kind, situation) & (crate::series::receiver_of(kind, point) == receiver)
@@ -66,7 +66,7 @@ fn nearer(taken: bool, low: u64, partner: u64, next: u64) -> u64
 
 // The least partner number from `low` on of the receiver's taken points, or one that no partner has.
 pub fn next_partner(register: &[u8], kind: Kind, receiver: u64, low: u64) -> u64
-    ensures { λ r. ⌜ Next low (partnerColumn (pointsIn (now (register .entry))) (kindIn kind) receiver) r ⌝ }
+    ensures { λ r. ⌜ Next low (partnerColumn (pointsIn (now (register .entry))) kind receiver) r ⌝ }
 {
     let n = register.len() / 64;
     let mut next: u64 = NO_PARTNER;

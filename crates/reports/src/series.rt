@@ -35,11 +35,11 @@ ghost use Rattle.message.specs.Bytes.{observationBytes, seriesBytes};
 ghost use Rattle.writer.specs.WriterLaid.{Laid, Stands};
 ghost use Rattle.reports.specs.FileRows.{supplyNumber, deliveryNumber, observationsOf};
 ghost use Rattle.reports.specs.SeriesSumsWritten.{observationIf, observationsIn, seriesIn, seriesIf};
-ghost use Rattle.reports.specs.SeriesSums.{kindIn, byPosition, cellAt, volumeIn, added, Addable, Parts, Parted, SettledIn};
+ghost use Rattle.reports.specs.SeriesSums.{byPosition, cellAt, volumeIn, added, Addable, Parts, Parted, SettledIn};
 
 // Whether a kind's files take transfer points, and pass-through points.
 fn takes_transfer(kind: Kind) -> bool
-    ensures { λ r. ⌜ r ≡ takes (kindIn kind) Transfer ⌝ }
+    ensures { λ r. ⌜ r ≡ takes kind Transfer ⌝ }
 {
     match kind {
         Kind::Toe01 => true,
@@ -49,7 +49,7 @@ fn takes_transfer(kind: Kind) -> bool
 }
 
 fn takes_pass_through(kind: Kind) -> bool
-    ensures { λ r. ⌜ r ≡ takes (kindIn kind) PassThrough ⌝ }
+    ensures { λ r. ⌜ r ≡ takes kind PassThrough ⌝ }
 {
     match kind {
         Kind::Toe01 => false,
@@ -60,7 +60,7 @@ fn takes_pass_through(kind: Kind) -> bool
 
 // Whether a kind's files take a point of this situation.
 pub fn takes(kind: Kind, situation: Situation) -> bool
-    ensures { λ r. ⌜ r ≡ takes (kindIn kind) situation ⌝ }
+    ensures { λ r. ⌜ r ≡ takes kind situation ⌝ }
 {
     match situation {
         Situation::Transfer => takes_transfer(kind),
@@ -72,7 +72,7 @@ pub fn takes(kind: Kind, situation: Situation) -> bool
 
 // The company that receives a point's file, and its partner there.
 pub fn receiver_of(kind: Kind, point: Point) -> u64
-    ensures { λ r. ⌜ r ≡ receiverOf (kindIn kind) point ⌝ }
+    ensures { λ r. ⌜ r ≡ receiverOf kind point ⌝ }
 {
     match kind {
         Kind::Toe01 => point.fsp,
@@ -82,7 +82,7 @@ pub fn receiver_of(kind: Kind, point: Point) -> u64
 }
 
 pub fn partner_of(kind: Kind, point: Point) -> u64
-    ensures { λ r. ⌜ r ≡ partnerOf (kindIn kind) point ⌝ }
+    ensures { λ r. ⌜ r ≡ partnerOf kind point ⌝ }
 {
     match kind {
         Kind::Toe01 => point.supplier,
@@ -131,7 +131,7 @@ fn same_direction(a: Direction, b: Direction) -> bool
 
 // A point of the series, whatever its delivery direction: taken, with the receiver, the partner and the supply direction.
 pub fn is_point(kind: Kind, receiver: u64, partner: u64, supply: Supply, point: Point) -> bool
-    ensures { λ r. ⌜ ((d : Direction) → r ≡ isPoint (kindIn kind) receiver (seriesOf partner supply d) point) ⌝ }
+    ensures { λ r. ⌜ ((d : Direction) → r ≡ isPoint kind receiver (seriesOf partner supply d) point) ⌝ }
 {
     let situation = point.situation;
     let own = point.supply;
@@ -150,7 +150,7 @@ pub fn is_engagement(
     point: Point,
     e: Engagement,
 ) -> bool
-    ensures { λ r. ⌜ ((b : Book) → point ≡ pointOf b e → r ≡ isEngagement b (kindIn kind) receiver (seriesOf partner supply delivery) e) ⌝ }
+    ensures { λ r. ⌜ ((b : Book) → point ≡ pointOf b e → r ≡ isEngagement b kind receiver (seriesOf partner supply delivery) e) ⌝ }
 {
     let direction = e.direction;
     is_point(kind, receiver, partner, supply, point) & same_direction(direction, delivery)
@@ -201,7 +201,7 @@ fn series_rows(
     delivery: Direction,
 ) -> usize
     requires { ⌜ 64 * e .point + 64 ≤ length (now register) ⌝ }
-    ensures { λ r. ⌜ ((b : Book) → pointOf b e ≡ pointAt (now (register .entry)) (e .point) → r ≡ cond (isEngagement b (kindIn kind) receiver (seriesOf partner supply delivery) e) (e .count) 0) ⌝ }
+    ensures { λ r. ⌜ ((b : Book) → pointOf b e ≡ pointAt (now (register .entry)) (e .point) → r ≡ cond (isEngagement b kind receiver (seriesOf partner supply delivery) e) (e .count) 0) ⌝ }
 {
     let point = book::register::point_at(register, e.point as usize);
     if is_engagement(kind, receiver, partner, supply, delivery, point, e) {
@@ -225,7 +225,7 @@ fn add_engagements(
     grains: &mut [u64],
 )
     requires { ⌜ Parted c (now register) (now engagements) (now settled) × (monthQuarters c ≤ length (now grains)) × (now grains ≡ byPosition (λ p. 0) (monthQuarters c) (now grains)) ⌝ }
-    ensures { λ r. ⌜ ((b : Book) → Parts c (now (register .entry)) (now (engagements .entry)) (now (settled .entry)) b → now (grains .exit) ≡ byPosition (grainsAt b (kindIn kind) receiver (seriesOf partner supply delivery)) (monthQuarters c) (now (grains .entry))) ⌝ }
+    ensures { λ r. ⌜ ((b : Book) → Parts c (now (register .entry)) (now (engagements .entry)) (now (settled .entry)) b → now (grains .exit) ≡ byPosition (grainsAt b kind receiver (seriesOf partner supply delivery)) (monthQuarters c) (now (grains .entry))) ⌝ }
 {
     let n = engagements.len() / 16;
     let mut at = 0;
@@ -252,7 +252,7 @@ pub fn fill_grains(
     grains: &mut [u64],
 )
     requires { ⌜ SettledIn (now book) (now settled) × (monthQuarters (bookOf (now book) .calendar) ≤ length (now grains)) ⌝ }
-    ensures { λ r. ⌜ now (grains .exit) ≡ byPosition (grainsAt (bookOf (now (book .entry))) (kindIn kind) receiver (seriesOf partner supply delivery)) (monthQuarters (bookOf (now (book .entry)) .calendar)) (now (grains .entry)) ⌝ }
+    ensures { λ r. ⌜ now (grains .exit) ≡ byPosition (grainsAt (bookOf (now (book .entry))) kind receiver (seriesOf partner supply delivery)) (monthQuarters (bookOf (now (book .entry)) .calendar)) (now (grains .entry)) ⌝ }
 {
     let register = settlement::sections::section(book, 2);
     let engagements = settlement::sections::section(book, 4);
@@ -300,7 +300,7 @@ pub fn series_watts(
     watts: &mut [u64],
 )
     requires { ⌜ SettledIn (now book) (now settled) × (monthQuarters (bookOf (now book) .calendar) ≤ length (now watts)) ⌝ }
-    ensures { λ r. ⌜ now (watts .exit) ≡ byPosition (seriesWatts (bookOf (now (book .entry))) (kindIn kind) receiver (seriesOf partner supply delivery)) (monthQuarters (bookOf (now (book .entry)) .calendar)) (now (watts .entry)) ⌝ }
+    ensures { λ r. ⌜ now (watts .exit) ≡ byPosition (seriesWatts (bookOf (now (book .entry))) kind receiver (seriesOf partner supply delivery)) (monthQuarters (bookOf (now (book .entry)) .calendar)) (now (watts .entry)) ⌝ }
 {
     fill_grains(
         book,
@@ -377,7 +377,7 @@ pub fn count_observations(
     delivery: Direction,
 ) -> u64
     requires { ⌜ SettledIn (now book) (now settled) ⌝ }
-    ensures { λ r. ⌜ r ≡ length (observationsOf (bookOf (now (book .entry))) (kindIn kind) receiver (seriesOf partner supply delivery)) ⌝ }
+    ensures { λ r. ⌜ r ≡ length (observationsOf (bookOf (now (book .entry))) kind receiver (seriesOf partner supply delivery)) ⌝ }
 {
     let mut watts = [0u64; 2976];
     series_watts(
@@ -458,7 +458,7 @@ pub fn emit_series(
     live: bool,
 ) -> Mark
     requires { ⌜ SettledIn (now book) (now settled) × Stands (length (now out)) m ⌝ }
-    ensures { λ r. ⌜ Laid live (now (out .entry)) m (flatMap (seriesBytes kind) (seriesIf (bookOf (now (book .entry))) (kindIn kind) receiver partner (supply, delivery))) (now (out .exit)) r ⌝ }
+    ensures { λ r. ⌜ Laid live (now (out .entry)) m (flatMap (seriesBytes kind) (seriesIf (bookOf (now (book .entry))) kind receiver partner (supply, delivery))) (now (out .exit)) r ⌝ }
 {
     let mut watts = [0u64; 2976];
     series_watts(

@@ -37,18 +37,18 @@ use Rattle.volumes.specs.Baseline.{watts}
 use Rattle.volumes.specs.Sound.{Bounded, Paired, Limited, Placed, OnTerms, Sound}
 
 -- what a refusal that did not come says of its test, and of what came later
-never : {item : ℕ} (number : ℕ) → refused number item ≡ none → ⊥
+pub never : {item : ℕ} (number : ℕ) → refused number item ≡ none → ⊥
 never number e = let z : _≡_ {A = ℕ} 0 1 = cc in omega arith
 
-passed : (test : Bool) (number : ℕ) (later : Option Refusal) → unless test number later ≡ none → (test ≡ true) × (later ≡ none)
-passed true number later e = (refl, e)
-passed false number later e = absurd (never number e)
+pub not-refused : (test : Bool) (number : ℕ) (later : Option Refusal) → unless test number later ≡ none → (test ≡ true) × (later ≡ none)
+not-refused true number later e = (refl, e)
+not-refused false number later e = absurd (never number e)
 
 not-found : (found : Option ℕ) (number : ℕ) (later : Option Refusal) → unlessFound found number later ≡ none → (found ≡ none) × (later ≡ none)
 not-found none number later e = (refl, e)
 not-found (some i) number later e = absurd (never number e)
 
-neither : (a b : Bool) → (a || b) ≡ false → (a ≡ false) × (b ≡ false)
+pub neither : (a b : Bool) → (a || b) ≡ false → (a ≡ false) × (b ≡ false)
 neither false b e = (refl, e)
 neither true b e = absurd (false≢true (sym e))
 
@@ -211,10 +211,10 @@ passes bytes e =
     let n₅ = unlessFound (first (badPoint (daysOf c) (registerSection bytes)) 0 (pointCount bytes)) 5 n₆ in
     let n₄ = unless (calendarGood (calendarSection bytes) && pairsGood (pairSection bytes)) 4 n₅ in
     let n₃ = unless (not (clockChangeIn c)) 3 n₄ in
-    let e₁ = passed (headerGood bytes) 1 (unless (layoutGood bytes) 2 n₃) e in
-    let e₂ = passed (layoutGood bytes) 2 n₃ (e₁ .1) in
-    let e₃ = passed (not (clockChangeIn c)) 3 n₄ (e₂ .1) in
-    let e₄ = passed (calendarGood (calendarSection bytes) && pairsGood (pairSection bytes)) 4 n₅ (e₃ .1) in
+    let e₁ = not-refused (headerGood bytes) 1 (unless (layoutGood bytes) 2 n₃) e in
+    let e₂ = not-refused (layoutGood bytes) 2 n₃ (e₁ .1) in
+    let e₃ = not-refused (not (clockChangeIn c)) 3 n₄ (e₂ .1) in
+    let e₄ = not-refused (calendarGood (calendarSection bytes) && pairsGood (pairSection bytes)) 4 n₅ (e₃ .1) in
     let e₅ = not-found (first (badPoint (daysOf c) (registerSection bytes)) 0 (pointCount bytes)) 5 n₆ (e₄ .1) in
     let e₆ = not-found (firstBadReading c (readingSection bytes) (pointCount bytes)) 6 n₇ (e₅ .1) in
     let e₇ = not-found (first (badEngagement c (pointCount bytes) (engagementSection bytes)) 0 (engagementCount bytes)) 7 none (e₆ .1) in

@@ -35,7 +35,7 @@ unfolding complete
 known-complete [] h = refl
 known-complete (s ∷ l) h = rw (h s (List·Memᴰ·head refl)) (known-complete l (λ r m. h r (List·Memᴰ·tail m)))
 
-range-mem : (a n i : ℕ) → a ≤ i → i < a + n → List·Memᴰ i (range a n)
+pub range-mem : (a n i : ℕ) → a ≤ i → i < a + n → List·Memᴰ i (range a n)
 unfolding range
 range-mem a zero i h k = absurd (omega arith)
 range-mem a (suc n) i h k = ⊎-elim (λ e. List·Memᴰ·head (sym e)) (λ l. List·Memᴰ·tail (range-mem (suc a) n i l (omega arith))) (eq-or-lt-of-le h)

@@ -1,9 +1,8 @@
 -- From what was measured and what was written to the call's record.
-use mathlib.Core.Path.{_≡_, refl, sym, subst}
+use mathlib.Core.Path.{_≡_, sym, subst}
 use mathlib.Core.Bool.{true, false, _&&_}
 use mathlib.Core.List.{List}
-use mathlib.Core.Option.{none}
-use Prim.Native.Nat.{ℕ, zero, suc}
+use Prim.Native.Nat.{ℕ}
 use Rattle.formats.specs.declared.Mark.{Mark}
 use Rattle.formats.specs.declared.Mark.the-variants.{At, No}
 use Rattle.moments.specs.Ids.{isTransactionId}
@@ -11,20 +10,12 @@ use Rattle.message.specs.declared.Kind.{Kind}
 use Rattle.message.specs.declared.WriteAnswer.the-variants.{Bytes, Refused}
 use Rattle.message.specs.Valid.{isMoment}
 use Rattle.message.specs.FileLaws.{messageBytes}
-use Rattle.message.specs.Calls.{over, kindNumbered, kindNumber}
+use Rattle.message.specs.Calls.{over, kindNumber}
 use Rattle.message.specs.CallsLaws.{kind-numbered}
 use Rattle.writer.specs.WriterRows.{isRows, rowsMessage}
 use Rattle.writer.specs.WriterLaid.{Laid, laid-over, laid-no-room}
 use Rattle.writer.specs.WriteCalls.{WriteCalled}
 use Rattle.writer.specs.WriteCallsLaws.{wrote-short, wrote-file}
-
--- kinds are 1 to 3
-pub no-kind : (n : ℕ) → (n ≡ 1 → ⊥) → (n ≡ 2 → ⊥) → (n ≡ 3 → ⊥) → kindNumbered n ≡ none
-no-kind zero h i j = refl
-no-kind (suc zero) h i j = absurd (h refl)
-no-kind (suc (suc zero)) h i j = absurd (i refl)
-no-kind (suc (suc (suc zero))) h i j = absurd (j refl)
-no-kind (suc (suc (suc (suc n)))) h i j = refl
 
 module _ (kind : Kind) (receiver year month : ℕ) (rows id moment before : List ℕ) (r : isRows kind receiver year month rows ≡ true) (g : (isTransactionId id && isMoment moment) ≡ true) where
   -- no place behind the bytes: the buffer is too short for them

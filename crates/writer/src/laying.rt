@@ -1,7 +1,6 @@
 // Bytes laid behind each other: measured, or, where `live`, written too. What has no room ends at no place.
 use formats::Mark;
 ghost use mathlib.Core.Path.{_≡_};
-ghost use lib.ListN.{length};
 ghost use Rattle.text.specs.Decimal.{fixed, plain};
 ghost use Rattle.writer.specs.WriterLaid.{ahead, Laid};
 

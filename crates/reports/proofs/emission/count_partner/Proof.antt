@@ -4,7 +4,6 @@ use Prim.Native.Nat.{_≤_}
 use lib.ListN.{length}
 use Rattle.book.specs.Book.{bookOf}
 use Rattle.reports.specs.FileRows.{timeSeriesOf}
-use Rattle.reports.specs.SeriesSums.{kindIn}
 use Rattle.reports.specs.EmissionLaws.{series-count, partner-none, partner-some}
 use borrow.Author.Needs.{needs}
 use Rattle.reports.proofs.emission.count_partner.Statement.{statement}
@@ -17,7 +16,7 @@ present-count-requires : tie.Need-present-count-requires
 present-count-requires c κs = search needs
 
 -- how many series the partner has
-counted : (c : tie.After-present-count) → c .present-count .result ≡ length (timeSeriesOf (bookOf (c .before .before .before .args .book .now)) (kindIn (c .before .before .before .args .kind)) (c .before .before .before .args .receiver) (c .before .before .before .args .partner))
+counted : (c : tie.After-present-count) → c .present-count .result ≡ length (timeSeriesOf (bookOf (c .before .before .before .args .book .now)) (c .before .before .before .args .kind) (c .before .before .before .args .receiver) (c .before .before .before .args .partner))
 counted c = c .present-count .ensures ∙ series-count _ _ _ _ _ (c .before .series-of .ensures)
 
 returns : tie.Need-returns

@@ -1,7 +1,6 @@
 -- The four series, one behind the other.
 use Rattle.book.specs.Book.{bookOf}
 use Rattle.writer.specs.WriterLaid.{laid-then, laid-is, laid-stands}
-use Rattle.reports.specs.SeriesSums.{kindIn}
 use Rattle.reports.specs.EmissionLaws.{series-bytes}
 use borrow.Author.Needs.{needs}
 use Rattle.reports.proofs.emission.emit_directions.Statement.{statement}
@@ -25,7 +24,7 @@ same-length c = search needs
 returns : tie.Need-returns
 returns c =
     let a = c .before .before .before .before .before .before .before .before .before .before .before .before .before .before .before .before .before .before .args in
-    laid-is _ (series-bytes (bookOf (a .book .now)) (kindIn (a .kind)) (a .receiver) (a .partner) (a .kind))
+    laid-is _ (series-bytes (bookOf (a .book .now)) (a .kind) (a .receiver) (a .partner))
     (laid-then (laid-then (laid-then (c .before .before .before .before .before .before .before .before .before .before .before .before .before .before .emit-series .ensures) (c .before .before .before .before .before .before .before .before .before .before .emit-series2 .ensures)) (c .before .before .before .before .before .before .emit-series3 .ensures)) (c .before .before .emit-series4 .ensures))
 
 pub emit-directions-spec : {M : Type 1} → statement M

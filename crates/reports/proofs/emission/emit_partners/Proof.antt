@@ -7,7 +7,6 @@ use Rattle.message.specs.Bytes.{partnerBytes}
 use Rattle.writer.specs.WriterLaid.{Laying, laid-stands, laying-none, laying-then, laying-all}
 use Rattle.reports.specs.FileRows.{partnersOf}
 use Rattle.reports.specs.RegisteredLaws.{registered}
-use Rattle.reports.specs.SeriesSums.{kindIn}
 use Rattle.reports.specs.Partners.{partnerColumn, noPartner, Next, partnersFrom}
 use Rattle.reports.specs.PartnersLaws.{partners-all}
 use Rattle.reports.specs.EmissionLaws.{next-in, scan-falls, partners-bytes, partners-end-bytes}
@@ -17,8 +16,8 @@ use Rattle.reports.proofs.emission.emit_partners.Tie as tie
 
 abbrev Inv-loop : tie.InvT-loop
 Inv-loop out₀ book settled kind receiver live register m₀ low₀ next₀ out m low next =
-    Next low (partnerColumn (bookOf book .points) (kindIn kind) receiver) next
-    × Laying live out₀ m₀ (flatMap (partnerBytes kind) (partnersOf (bookOf book) (kindIn kind) receiver)) (flatMap (partnerBytes kind) (partnersFrom (bookOf book) (kindIn kind) receiver low)) out m
+    Next low (partnerColumn (bookOf book .points) kind receiver) next
+    × Laying live out₀ m₀ (flatMap (partnerBytes kind) (partnersOf (bookOf book) kind receiver)) (flatMap (partnerBytes kind) (partnersFrom (bookOf book) kind receiver low)) out m
 
 abbrev μ-loop : tie.MeasureT-loop
 μ-loop out₀ book settled kind receiver live register m₀ low₀ next₀ out m low next = noPartner - next
@@ -34,8 +33,8 @@ loop-holds c =
     let s = c .before .before .before .before in
     let a = s .args in
     let cut = c .before .section in (
-      next-in (a .book .now) (cut .result .now) (kindIn (a .kind)) (a .receiver) 0 _ (passing _ (s .pre .0 .accepted) .passed) (cut .ensures) (c .next-partner .ensures),
-      rw (partners-all (bookOf (a .book .now)) (kindIn (a .kind)) (a .receiver)) (laying-none (a .live) (a .out .now) (a .start) _ (s .pre .1)),
+      next-in (a .book .now) (cut .result .now) (a .kind) (a .receiver) 0 _ (passing _ (s .pre .0 .accepted) .passed) (cut .ensures) (c .next-partner .ensures),
+      rw (partners-all (bookOf (a .book .now)) (a .kind) (a .receiver)) (laying-none (a .live) (a .out .now) (a .start) _ (s .pre .1)),
     )
 
 emit-partner-requires : tie.Need-emit-partner-requires Inv-loop μ-loop
@@ -48,12 +47,12 @@ next-partner-requires-2 : tie.Need-next-partner-requires-2 Inv-loop μ-loop
 next-partner-requires-2 c κs = tt
 
 -- the partner that follows
-later : (c : tie.After-next-partner2 Inv-loop μ-loop) → let a = c .before .before .before .before .before .before .before .before .before .before .before .args in Next (c .before .before .before .before .before .before .loop .next + 1) (partnerColumn (bookOf (a .book .now) .points) (kindIn (a .kind)) (a .receiver)) (c .next-partner2 .result)
+later : (c : tie.After-next-partner2 Inv-loop μ-loop) → let a = c .before .before .before .before .before .before .before .before .before .before .before .args in Next (c .before .before .before .before .before .before .loop .next + 1) (partnerColumn (bookOf (a .book .now) .points) (a .kind) (a .receiver)) (c .next-partner2 .result)
 later c =
     let s = c .before .before .before .before .before .before .before .before .before .before .before in
     let a = s .args in
     let cut = c .before .before .before .before .before .before .before .before .section in
-    next-in (a .book .now) (cut .result .now) (kindIn (a .kind)) (a .receiver) _ _ (passing _ (s .pre .0 .accepted) .passed) (cut .ensures) (c .next-partner2 .ensures)
+    next-in (a .book .now) (cut .result .now) (a .kind) (a .receiver) _ _ (passing _ (s .pre .0 .accepted) .passed) (cut .ensures) (c .next-partner2 .ensures)
 
 loop-less : tie.Need-loop-less Inv-loop μ-loop
 loop-less c = scan-falls _ (c .before .before .before .before .before .before .loop .next) _ (c .before .before .before .before .before .loop-test .taken) (later c)
@@ -62,7 +61,7 @@ loop-again : tie.Need-loop-again Inv-loop μ-loop
 loop-again c =
     let l = c .before .before .before .before .before .before in
     let a = l .before .before .before .before .before .args in
-    (later c, laying-then _ (l .loop .inv .1) (c .before .before .before .emit-partner .ensures) (partners-bytes (bookOf (a .book .now)) (kindIn (a .kind)) (a .receiver) (a .kind) _ _ (l .loop .inv .0) (c .before .before .before .before .before .loop-test .taken)))
+    (later c, laying-then _ (l .loop .inv .1) (c .before .before .before .emit-partner .ensures) (partners-bytes (bookOf (a .book .now)) (a .kind) (a .receiver) _ _ (l .loop .inv .0) (c .before .before .before .before .before .loop-test .taken)))
 
 same-length : tie.Need-same-length Inv-loop μ-loop
 same-length c = search needs
@@ -72,7 +71,7 @@ returns c =
     let l = c .before in
     let s = l .before .before .before .before .before in
     let a = s .args in
-    laying-all (l .loop .inv .1) (partners-end-bytes (bookOf (a .book .now)) (kindIn (a .kind)) (a .receiver) (a .kind) (registered (a .book .now) (passing _ (s .pre .0 .accepted) .passed)) _ _ (l .loop .inv .0) (c .loop-test .left))
+    laying-all (l .loop .inv .1) (partners-end-bytes (bookOf (a .book .now)) (a .kind) (a .receiver) (registered (a .book .now) (passing _ (s .pre .0 .accepted) .passed)) _ _ (l .loop .inv .0) (c .loop-test .left))
 
 pub emit-partners-spec : {M : Type 1} → statement M
 emit-partners-spec =

@@ -4,7 +4,6 @@ use lib.Dec.{ltb}
 use Rattle.book.specs.Book.{bookOf}
 use Rattle.volumes.specs.SeriesLaws.{seriesOf}
 use Rattle.reports.specs.FileRows.{observationsOf, timeSeries}
-use Rattle.reports.specs.SeriesSums.{kindIn}
 use Rattle.reports.specs.Emission.{hasSeries}
 use Rattle.reports.specs.EmissionLaws.{some-counted}
 use borrow.Author.Needs.{needs}
@@ -18,7 +17,7 @@ returns : tie.Need-returns
 unfolding hasSeries timeSeries
 returns c =
     let a = c .before .before .args in
-    ap (ltb 0) (c .count-observations .ensures) ∙ some-counted (observationsOf (bookOf (a .book .now)) (kindIn (a .kind)) (a .receiver) (seriesOf (a .partner) (a .supply) (a .delivery)))
+    ap (ltb 0) (c .count-observations .ensures) ∙ some-counted (observationsOf (bookOf (a .book .now)) (a .kind) (a .receiver) (seriesOf (a .partner) (a .supply) (a .delivery)))
 
 pub has-series-spec : {M : Type 1} → statement M
 has-series-spec = tie.close (tie.spec count-observations-requires returns)

@@ -3,8 +3,7 @@ use mathlib.Core.Path.{_≡_, sym, ap, _∙_}
 use mathlib.Core.Option.{none, some}
 use Rattle.volumes.specs.Settlement.{bookRefusal}
 use Rattle.settlement.specs.Verdicts.{refusalIn}
-use Rattle.reports.specs.SeriesSums.{kindIn}
-use Rattle.reports.specs.Calls.{kindOf}
+use Rattle.message.specs.Calls.{kindNumbered}
 use Rattle.reports.specs.Partners.{kindAsked}
 use Rattle.reports.specs.FileCallLaws.{asked-room, call-refused, call-unknown, call-asked, call-filled}
 use borrow.Author.Needs.{needs}
@@ -40,7 +39,7 @@ returns-2 : tie.Need-returns-2
 returns-2 c = call-unknown _ _ _ _ _ _ _ (passed (c .before .before .before)) (ap kindAsked (sym (c .enum-told2 .given .1)) ∙ c .before .before .kind-of .ensures)
 
 -- it is of a kind that there is
-known : (c : tie.After-known-told2) → some (kindIn (c .before .asked .given .0 .0)) ≡ kindOf (c .before .before .before .before .before .before .before .before .before .before .before .args .kind)
+known : (c : tie.After-known-told2) → some (c .before .asked .given .0 .0) ≡ kindNumbered (c .before .before .before .before .before .before .before .before .before .before .before .args .kind)
 known c = ap kindAsked (sym (c .before .asked .given .1)) ∙ c .before .before .before .kind-of .ensures
 
 judge-asked-requires : tie.Need-judge-asked-requires

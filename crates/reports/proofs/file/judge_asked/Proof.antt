@@ -4,7 +4,6 @@ use borrow.Author.Tests.{not-true, not-false}
 use Rattle.book.specs.Book.{bookOf}
 use Rattle.volumes.specs.SettlementLaws.{passing}
 use Rattle.reports.specs.Roles.{receivers}
-use Rattle.reports.specs.SeriesSums.{kindIn}
 use Rattle.reports.specs.Calls.{stands}
 use Rattle.reports.specs.PartnersLaws.{role-in}
 use Rattle.reports.specs.FileCallLaws.{asked-other, asked-malformed, asked-short, asked-well}
@@ -19,10 +18,10 @@ in-role-requires : tie.Need-in-role-requires
 in-role-requires c κs = search needs
 
 -- the receiver's role, by the book
-role : (c : tie.After-in-role) → let a = c .before .before .before .before .before .args in c .in-role .result ≡ stands (a .receiver) (receivers (bookOf (a .book .now)) (kindIn (a .kind)))
+role : (c : tie.After-in-role) → let a = c .before .before .before .before .before .args in c .in-role .result ≡ stands (a .receiver) (receivers (bookOf (a .book .now)) (a .kind))
 role c =
     let s = c .before .before .before .before .before in
-    c .in-role .ensures ∙ role-in (s .args .book .now) (c .before .section .result .now) (kindIn (s .args .kind)) (s .args .receiver) (passing _ (s .pre) .passed) (c .before .section .ensures)
+    c .in-role .ensures ∙ role-in (s .args .book .now) (c .before .section .result .now) (s .args .kind) (s .args .receiver) (passing _ (s .pre) .passed) (c .before .section .ensures)
 
 returns : tie.Need-returns
 returns c = asked-other _ _ _ _ _ _ (sym (role (c .before)) ∙ not-true _ (c .if1 .taken))

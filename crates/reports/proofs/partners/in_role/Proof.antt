@@ -4,7 +4,6 @@ use Prim.Native.Nat.{ℕ, _-_, _≤_, _<_}
 use borrow.Author.Count.{below-more}
 use Rattle.book.specs.Register.{pointAt}
 use Rattle.volumes.specs.Series.{receiverOf}
-use Rattle.reports.specs.SeriesSums.{kindIn}
 use Rattle.reports.specs.PartnersLaws.{role-found, role-none}
 use borrow.Author.Needs.{needs}
 use native.Mathlib.Omega.{arith}
@@ -12,7 +11,7 @@ use Rattle.reports.proofs.partners.in_role.Statement.{statement}
 use Rattle.reports.proofs.partners.in_role.Tie as tie
 
 abbrev Inv-loop : tie.InvT-loop
-Inv-loop register kind receiver n i₀ i = (i ≤ n) × ((j : ℕ) → j < i → receiverOf (kindIn kind) (pointAt register j) ≡ receiver → ⊥)
+Inv-loop register kind receiver n i₀ i = (i ≤ n) × ((j : ℕ) → j < i → receiverOf kind (pointAt register j) ≡ receiver → ⊥)
 
 abbrev μ-loop : tie.MeasureT-loop
 μ-loop register kind receiver n i₀ i = n - i
@@ -27,14 +26,14 @@ receiver-of-requires : tie.Need-receiver-of-requires Inv-loop μ-loop
 receiver-of-requires c κs = search needs
 
 -- the receiver of row i
-receiver-is : (c : tie.After-receiver-of Inv-loop μ-loop) → c .receiver-of .result ≡ receiverOf (kindIn (c .before .before .before .before .before .args .kind)) (pointAt (c .before .before .before .before .before .args .register .now) (c .before .before .before .loop .i))
-receiver-is c = c .receiver-of .ensures ∙ ap (receiverOf (kindIn (c .before .before .before .before .before .args .kind))) (c .before .point-at .ensures)
+receiver-is : (c : tie.After-receiver-of Inv-loop μ-loop) → c .receiver-of .result ≡ receiverOf (c .before .before .before .before .before .args .kind) (pointAt (c .before .before .before .before .before .args .register .now) (c .before .before .before .loop .i))
+receiver-is c = c .receiver-of .ensures ∙ ap (receiverOf (c .before .before .before .before .before .args .kind)) (c .before .point-at .ensures)
 
 returns : tie.Need-returns Inv-loop μ-loop
 returns c =
     let l = c .before .before .before .before in
     let a = l .before .before .args in
-    sym (role-found (a .register .now) (kindIn (a .kind)) (a .receiver) (l .loop .i) (search needs) (sym (receiver-is (c .before)) ∙ c .if1 .taken))
+    sym (role-found (a .register .now) (a .kind) (a .receiver) (l .loop .i) (search needs) (sym (receiver-is (c .before)) ∙ c .if1 .taken))
 
 add-i : tie.Need-add-i Inv-loop μ-loop
 add-i c = search needs
@@ -46,13 +45,13 @@ loop-again : tie.Need-loop-again Inv-loop μ-loop
 loop-again c =
     let l = c .before .before .before .before in
     let a = l .before .before .args in
-    (search needs, below-more (λ (j : ℕ). receiverOf (kindIn (a .kind)) (pointAt (a .register .now) j) ≡ a .receiver → ⊥) (l .loop .i) (l .loop .inv .1) (λ e. c .if1 .left (receiver-is (c .before) ∙ e)))
+    (search needs, below-more (λ (j : ℕ). receiverOf (a .kind) (pointAt (a .register .now) j) ≡ a .receiver → ⊥) (l .loop .i) (l .loop .inv .1) (λ e. c .if1 .left (receiver-is (c .before) ∙ e)))
 
 returns-2 : tie.Need-returns-2 Inv-loop μ-loop
 returns-2 c =
     let l = c .before in
     let a = l .before .before .args in
-    sym (role-none (a .register .now) (kindIn (a .kind)) (a .receiver) (λ j h e. l .loop .inv .1 j (search needs) e))
+    sym (role-none (a .register .now) (a .kind) (a .receiver) (λ j h e. l .loop .inv .1 j (search needs) e))
 
 pub in-role-spec : {M : Type 1} → statement M
 in-role-spec =

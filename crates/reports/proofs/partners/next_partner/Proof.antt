@@ -5,13 +5,12 @@ use borrow.Author.Needs.{needs}
 use Rattle.settlement.specs.Sections.{pointCountIn}
 use Rattle.volumes.specs.Series.{partnerOf}
 use Rattle.reports.specs.FileRows.{isTaken}
-use Rattle.reports.specs.SeriesSums.{kindIn}
 use Rattle.reports.specs.PartnersLaws.{Scanned, nearer, scanned-none, scanned-more, scanned-all}
 use Rattle.reports.proofs.partners.next_partner.Statement.{statement}
 use Rattle.reports.proofs.partners.next_partner.Tie as tie
 
 abbrev Inv-loop : tie.InvT-loop
-Inv-loop register kind receiver low n next₀ i₀ next i = (i ≤ n) × Scanned register (kindIn kind) receiver low i next
+Inv-loop register kind receiver low n next₀ i₀ next i = (i ≤ n) × Scanned register kind receiver low i next
 
 abbrev μ-loop : tie.MeasureT-loop
 μ-loop register kind receiver low n next₀ i₀ next i = n - i
@@ -42,16 +41,16 @@ loop-again c =
     let l = c .before .before .before .before .before in
     let a = l .before .before .args in
     let point = c .before .before .before .point-at .ensures in
-    let taken = c .before .is-taken .ensures ∙ ap (isTaken (kindIn (a .kind)) (a .receiver)) point in
-    let partner = c .before .before .partner-of .ensures ∙ ap (partnerOf (kindIn (a .kind))) point in
-    (search needs, rw (c .nearer .ensures, taken, partner) (scanned-more (a .register .now) (kindIn (a .kind)) (a .receiver) (a .low) (l .loop .i) (l .loop .next) (l .loop .inv .1)))
+    let taken = c .before .is-taken .ensures ∙ ap (isTaken (a .kind) (a .receiver)) point in
+    let partner = c .before .before .partner-of .ensures ∙ ap (partnerOf (a .kind)) point in
+    (search needs, rw (c .nearer .ensures, taken, partner) (scanned-more (a .register .now) (a .kind) (a .receiver) (a .low) (l .loop .i) (l .loop .next) (l .loop .inv .1)))
 
 returns : tie.Need-returns Inv-loop μ-loop
 returns c =
     let l = c .before in
     let a = l .before .before .args in
     let e : l .loop .i ≡ pointCountIn (a .register .now) = search needs in
-    scanned-all (a .register .now) (kindIn (a .kind)) (a .receiver) (a .low) (l .loop .next) (rw e at (l .loop .inv .1))
+    scanned-all (a .register .now) (a .kind) (a .receiver) (a .low) (l .loop .next) (rw e at (l .loop .inv .1))
 
 pub next-partner-spec : {M : Type 1} → statement M
 next-partner-spec =

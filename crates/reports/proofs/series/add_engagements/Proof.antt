@@ -17,14 +17,14 @@ use Rattle.volumes.specs.SeriesLaws.{seriesOf}
 use Rattle.settlement.specs.Sections.{engagementCountIn}
 use Rattle.settlement.specs.SettlingLaws.{rowCountTo, count-none, count-more}
 use Rattle.sheets.specs.SheetLaws.{first-cell}
-use Rattle.reports.specs.SeriesSums.{kindIn, byPosition, grainsTo, Parts}
+use Rattle.reports.specs.SeriesSums.{byPosition, grainsTo, Parts}
 use Rattle.reports.specs.SeriesSumsLaws.{by-cong, added-length, rows-few, placed, rows-room, grains-none, grains-all, turn-adds, turn-sums}
 use Rattle.reports.proofs.series.add_engagements.Statement.{statement}
 use Rattle.reports.proofs.series.add_engagements.Tie as tie
 
 abbrev Inv-loop : tie.InvT-loop
 Inv-loop c register engagements settled kind receiver partner supply delivery grains₀ n at₀ i₀ grains at i =
-    (i ≤ n) × (at ≡ rowWidth * rowCountTo engagements i) × (length grains ≡ length grains₀) × ((b : Book) → Parts c register engagements settled b → grains ≡ byPosition (grainsTo b (kindIn kind) receiver (seriesOf partner supply delivery) i) (monthQuarters c) grains₀)
+    (i ≤ n) × (at ≡ rowWidth * rowCountTo engagements i) × (length grains ≡ length grains₀) × ((b : Book) → Parts c register engagements settled b → grains ≡ byPosition (grainsTo b kind receiver (seriesOf partner supply delivery) i) (monthQuarters c) grains₀)
 
 abbrev μ-loop : tie.MeasureT-loop
 μ-loop c register engagements settled kind receiver partner supply delivery grains₀ n at₀ i₀ grains at i = n - i
@@ -37,12 +37,12 @@ inside c = search needs
 rows-are : (c : tie.After-first-cell Inv-loop μ-loop) → let a = c .before .before .before .before .before .before .before .before .args in
     let i = c .before .before .before .before .loop .i in
     (b : Book) → Parts (a .c) (a .register .now) (a .engagements .now) (a .settled .now) b
-    → c .before .series-rows .result ≡ cond (isEngagement b (kindIn (a .kind)) (a .receiver) (seriesOf (a .partner) (a .supply) (a .delivery)) (engagementAt (a .engagements .now) i)) (engagementAt (a .engagements .now) i .count) 0
+    → c .before .series-rows .result ≡ cond (isEngagement b (a .kind) (a .receiver) (seriesOf (a .partner) (a .supply) (a .delivery)) (engagementAt (a .engagements .now) i)) (engagementAt (a .engagements .now) i .count) 0
 rows-are c b p =
     let a = c .before .before .before .before .before .before .before .before .args in
     let read = c .before .before .engagement-at .ensures in
     c .before .series-rows .ensures b (rw read (p .owner (c .before .before .before .before .loop .i) (inside (c .before .before .before))))
-    ∙ ap (λ (e : Engagement). cond (isEngagement b (kindIn (a .kind)) (a .receiver) (seriesOf (a .partner) (a .supply) (a .delivery)) e) (e .count) 0) read
+    ∙ ap (λ (e : Engagement). cond (isEngagement b (a .kind) (a .receiver) (seriesOf (a .partner) (a .supply) (a .delivery)) e) (e .count) 0) read
 
 start-is : (c : tie.After-first-cell Inv-loop μ-loop) → let a = c .before .before .before .before .before .before .before .before .args in
     c .first-cell .result + 1 ≡ startPosition (a .c) (engagementAt (a .engagements .now) (c .before .before .before .before .loop .i))
@@ -54,7 +54,7 @@ start-is c = let a = c .before .before .before .before .before .before .before .
 loop-holds : tie.Need-loop-holds Inv-loop μ-loop
 loop-holds c = let s = c .before .before .before in
     let a = s .args in
-    (search needs, omega (arith, count-none (a .engagements .now)), refl, λ b p. s .pre .2 ∙ by-cong (λ q. 0) (grainsTo b (kindIn (a .kind)) (a .receiver) (seriesOf (a .partner) (a .supply) (a .delivery)) 0) (monthQuarters (a .c)) (a .grains .now) (λ q _ _. sym (grains-none p _ _ _ q)))
+    (search needs, omega (arith, count-none (a .engagements .now)), refl, λ b p. s .pre .2 ∙ by-cong (λ q. 0) (grainsTo b (a .kind) (a .receiver) (seriesOf (a .partner) (a .supply) (a .delivery)) 0) (monthQuarters (a .c)) (a .grains .now) (λ q _ _. sym (grains-none p _ _ _ q)))
 
 engagement-at-requires : tie.Need-engagement-at-requires Inv-loop μ-loop
 engagement-at-requires c κs = search needs
@@ -77,7 +77,7 @@ add-volumes-requires c κs = let w = c .before in
     let l = w .before .before .before .before .loop in
     let b = s .pre .0 .book in
     let p = s .pre .0 .parts in
-    turn-adds p (kindIn (a .kind)) (a .receiver) (seriesOf (a .partner) (a .supply) (a .delivery)) (l .i) (l .at) (w .before .series-rows .result) (w .first-cell .result) (a .grains .now) (l .grains) (inside (w .before .before .before)) (l .inv .1) (rows-are w b p) (start-is w) (s .pre .1) (l .inv .3 b p)
+    turn-adds p (a .kind) (a .receiver) (seriesOf (a .partner) (a .supply) (a .delivery)) (l .i) (l .at) (w .before .series-rows .result) (w .first-cell .result) (a .grains .now) (l .grains) (inside (w .before .before .before)) (l .inv .1) (rows-are w b p) (start-is w) (s .pre .1) (l .inv .3 b p)
 
 cast-at : tie.Need-cast-at Inv-loop μ-loop
 cast-at c = search needs
@@ -109,7 +109,7 @@ loop-again c = let w = c .before .before .before .before .before in
       omega (arith, here),
       omega (arith, l .inv .1, count-more (a .engagements .now) (l .i) here, ap (λ (e : Engagement). e .count) (w .before .before .engagement-at .ensures)),
       ap length v ∙ added-length (l .grains) (w .first-cell .result) _ (w .before .series-rows .result) ∙ l .inv .2,
-      λ b p. v ∙ turn-sums p (kindIn (a .kind)) (a .receiver) (seriesOf (a .partner) (a .supply) (a .delivery)) (l .i) (l .at) (w .before .series-rows .result) (w .first-cell .result) (a .grains .now) (l .grains) here (l .inv .1) (rows-are w b p) (start-is w) (s .pre .1) (l .inv .3 b p),
+      λ b p. v ∙ turn-sums p (a .kind) (a .receiver) (seriesOf (a .partner) (a .supply) (a .delivery)) (l .i) (l .at) (w .before .series-rows .result) (w .first-cell .result) (a .grains .now) (l .grains) here (l .inv .1) (rows-are w b p) (start-is w) (s .pre .1) (l .inv .3 b p),
     )
 
 same-length : tie.Need-same-length Inv-loop μ-loop
@@ -119,7 +119,7 @@ returns : tie.Need-returns Inv-loop μ-loop
 returns c = λ b p.
     let l = c .before in
     let a = l .before .before .before .before .args in
-    l .loop .inv .3 b p ∙ by-cong _ _ (monthQuarters (a .c)) (a .grains .now) (λ q _ _. grains-all p (kindIn (a .kind)) (a .receiver) (seriesOf (a .partner) (a .supply) (a .delivery)) (l .loop .i) (search needs) q)
+    l .loop .inv .3 b p ∙ by-cong _ _ (monthQuarters (a .c)) (a .grains .now) (λ q _ _. grains-all p (a .kind) (a .receiver) (seriesOf (a .partner) (a .supply) (a .delivery)) (l .loop .i) (search needs) q)
 
 pub add-engagements-spec : {M : Type 1} → statement M
 add-engagements-spec =

@@ -8,7 +8,6 @@ use Rattle.book.specs.Book.{bookOf}
 use Rattle.volumes.specs.Quarters.{monthQuarters}
 use Rattle.volumes.specs.SeriesLaws.{seriesOf}
 use Rattle.reports.specs.SeriesSumsWritten.{observationsIn}
-use Rattle.reports.specs.SeriesSums.{kindIn}
 use Rattle.reports.specs.SeriesSumsWrittenLaws.{observations-are, Opened, opened}
 use Rattle.reports.proofs.series.count_observations.Statement.{statement}
 use Rattle.reports.proofs.series.count_observations.Tie as tie
@@ -48,7 +47,7 @@ returns c = let s = c .before .before .before .before .before .before .before .b
     let watts = f .last .1 .1 .1 .1 .1 .1 .1 .0 in
     c .count-written .ensures
     ∙ ap (λ (n : ℕ). length (observationsIn watts n)) (month (c .before))
-    ∙ ap length (observations-are (bookOf (a .book .now)) (kindIn (a .kind)) (a .receiver) (seriesOf (a .partner) (a .supply) (a .delivery)) _ watts (monthQuarters (bookOf (a .book .now) .calendar)) refl (f .ensures))
+    ∙ ap length (observations-are (bookOf (a .book .now)) (a .kind) (a .receiver) (seriesOf (a .partner) (a .supply) (a .delivery)) _ watts (monthQuarters (bookOf (a .book .now) .calendar)) refl (f .ensures))
 
 pub count-observations-spec : {M : Type 1} → statement M
 count-observations-spec =

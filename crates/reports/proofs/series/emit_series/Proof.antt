@@ -9,7 +9,6 @@ use Rattle.volumes.specs.Quarters.{monthQuarters}
 use Rattle.volumes.specs.SeriesLaws.{seriesOf}
 use Rattle.writer.specs.WriterLaid.{laid-is, laid-none}
 use Rattle.reports.specs.FileRows.{observationsOf}
-use Rattle.reports.specs.SeriesSums.{kindIn}
 use Rattle.reports.specs.SeriesSumsWritten.{observationsIn}
 use Rattle.reports.specs.SeriesSumsWrittenLaws.{observations-are, series-none, series-some, Opened, opened}
 use Rattle.reports.proofs.series.emit_series.Statement.{statement}
@@ -27,13 +26,13 @@ inside c = omega (arith, month c, calendar (c .before .before .before .before .b
 
 -- what is written are the series' observations
 own : (c : tie.After-count-written) → let a = c .before .before .before .before .before .before .before .before .before .args in
-    observationsIn (c .before .before .before .before .before .series-watts .last .1 .1 .1 .1 .1 .1 .1 .0) (c .before .before .month-quarters .result) ≡ observationsOf (bookOf (a .book .now)) (kindIn (a .kind)) (a .receiver) (seriesOf (a .partner) (a .supply) (a .delivery))
+    observationsIn (c .before .before .before .before .before .series-watts .last .1 .1 .1 .1 .1 .1 .1 .0) (c .before .before .month-quarters .result) ≡ observationsOf (bookOf (a .book .now)) (a .kind) (a .receiver) (seriesOf (a .partner) (a .supply) (a .delivery))
 own c =
     let a = c .before .before .before .before .before .before .before .before .before .args in
     let f = c .before .before .before .before .before .series-watts in
     let watts = f .last .1 .1 .1 .1 .1 .1 .1 .0 in
     ap (observationsIn watts) (month (c .before .before))
-    ∙ observations-are (bookOf (a .book .now)) (kindIn (a .kind)) (a .receiver) (seriesOf (a .partner) (a .supply) (a .delivery)) _ watts (monthQuarters (bookOf (a .book .now) .calendar)) refl (f .ensures)
+    ∙ observations-are (bookOf (a .book .now)) (a .kind) (a .receiver) (seriesOf (a .partner) (a .supply) (a .delivery)) _ watts (monthQuarters (bookOf (a .book .now) .calendar)) refl (f .ensures)
 
 slice-aggregate-series-watts : tie.Need-slice-aggregate-series-watts
 slice-aggregate-series-watts c = search needs

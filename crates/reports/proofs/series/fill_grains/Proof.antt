@@ -12,7 +12,7 @@ use Rattle.volumes.specs.SettlementLaws.{passing}
 use Rattle.volumes.specs.Series.{grainsAt}
 use Rattle.volumes.specs.SeriesLaws.{seriesOf}
 use Rattle.settlement.specs.SectionsLaws.{bytes-long}
-use Rattle.reports.specs.SeriesSums.{kindIn, byPosition, Parts}
+use Rattle.reports.specs.SeriesSums.{byPosition, Parts}
 use Rattle.reports.specs.SeriesSumsLaws.{by-again, by-own, parts-of}
 use Rattle.reports.proofs.series.fill_grains.Statement.{statement}
 use Rattle.reports.proofs.series.fill_grains.Tie as tie
@@ -68,7 +68,7 @@ returns : tie.Need-returns
 returns c = let w = c .before .before .before .before .before .before in
     let s = w .before .before .before .before .before .before .before .before in
     let a = s .args in
-    let cells = grainsAt (bookOf (a .book .now)) (kindIn (a .kind)) (a .receiver) (seriesOf (a .partner) (a .supply) (a .delivery)) in
+    let cells = grainsAt (bookOf (a .book .now)) (a .kind) (a .receiver) (seriesOf (a .partner) (a .supply) (a .delivery)) in
     let d = w .before .before .before .calendar-of .result in
     c .before .before .add-engagements .ensures (bookOf (a .book .now)) (read w)
     ∙ ap (byPosition cells (monthQuarters d)) (w .clear .ensures ∙ ap (λ (n : ℕ). byPosition (λ p. 0) n (a .grains .now)) (w .before .month-quarters .ensures))

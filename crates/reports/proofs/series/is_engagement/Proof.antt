@@ -4,7 +4,6 @@ use mathlib.Core.Bool.{_&&_}
 use borrow.Author.Needs.{needs}
 use Rattle.volumes.specs.Series.{isPoint, isEngagement}
 use Rattle.volumes.specs.SeriesLaws.{seriesOf}
-use Rattle.reports.specs.SeriesSums.{kindIn}
 use Rattle.reports.proofs.series.is_engagement.Statement.{statement}
 use Rattle.reports.proofs.series.is_engagement.Tie as tie
 
@@ -19,7 +18,7 @@ unfolding isEngagement
 returns c = λ b own.
     let a = c .before .before .args in
     let s = seriesOf (a .partner) (a .supply) (a .delivery) in
-    ap₂ _&&_ (c .before .is-point .ensures (a .delivery) ∙ ap (isPoint (kindIn (a .kind)) (a .receiver) s) own) (c .same-direction .ensures)
+    ap₂ _&&_ (c .before .is-point .ensures (a .delivery) ∙ ap (isPoint (a .kind) (a .receiver) s) own) (c .same-direction .ensures)
 
 pub is-engagement-spec : {M : Type 1} → statement M
 is-engagement-spec = tie.close (tie.spec is-point-requires same-direction-requires returns)

@@ -1,7 +1,6 @@
 -- The definition's own cases.
 use borrow.Author.Needs.{needs}
 use Rattle.volumes.specs.Series.{partnerOf}
-use Rattle.reports.specs.SeriesSums.{kindIn}
 use Rattle.reports.proofs.series.partner_of.Statement.{statement}
 use Rattle.reports.proofs.series.partner_of.Tie as tie
 
@@ -15,15 +14,15 @@ enum-told-3 : tie.Need-enum-told-3
 enum-told-3 c = search needs
 
 returns : tie.Need-returns
-unfolding partnerOf kindIn
+unfolding partnerOf
 returns c = rw (c .enum-told .given .1)
 
 returns-2 : tie.Need-returns-2
-unfolding partnerOf kindIn
+unfolding partnerOf
 returns-2 c = rw (c .enum-told2 .given .1)
 
 returns-3 : tie.Need-returns-3
-unfolding partnerOf kindIn
+unfolding partnerOf
 returns-3 c = rw (c .enum-told3 .given .1)
 
 pub partner-of-spec : {M : Type 1} → statement M

@@ -13,7 +13,7 @@ use Rattle.volumes.specs.SettlementLaws.{passing}
 use Rattle.volumes.specs.Series.{grainsAt}
 use Rattle.volumes.specs.SeriesLaws.{seriesOf}
 use Rattle.settlement.specs.SectionsLaws.{bytes-long}
-use Rattle.reports.specs.SeriesSums.{kindIn, byPosition, cellAt, Parts}
+use Rattle.reports.specs.SeriesSums.{byPosition, cellAt, Parts}
 use Rattle.reports.specs.SeriesSumsLaws.{by-length, parts-of, carry-fits, watts-are}
 use Rattle.reports.proofs.series.series_watts.Statement.{statement}
 use Rattle.reports.proofs.series.series_watts.Tie as tie
@@ -47,7 +47,7 @@ fill-watts-requires c κs = let s = c .before .before .before .before .before .b
     let f = c .before .before .before .before .before .fill-grains in
     let m = monthQuarters (bookOf (a .book .now) .calendar) in
     let n = month c in
-    (omega (arith, n, s .pre .1, ap length (f .ensures), by-length (grainsAt (bookOf (a .book .now)) (kindIn (a .kind)) (a .receiver) series) m (a .watts .now) (s .pre .1)), λ k h. carry-fits (parts s) (kindIn (a .kind)) (a .receiver) series m (a .watts .now) _ (f .ensures) k (omega (arith, n)))
+    (omega (arith, n, s .pre .1, ap length (f .ensures), by-length (grainsAt (bookOf (a .book .now)) (a .kind) (a .receiver) series) m (a .watts .now) (s .pre .1)), λ k h. carry-fits (parts s) (a .kind) (a .receiver) series m (a .watts .now) _ (f .ensures) k (omega (arith, n)))
 
 same-length : tie.Need-same-length
 same-length c = search needs
@@ -60,7 +60,7 @@ returns c = let w = c .before .before .before in
     let cells = f .last .1 .1 .1 .1 .1 .1 .1 .0 in
     c .before .before .fill-watts .ensures
     ∙ ap (λ (n : ℕ). byPosition (floorAt perWatt (cellAt cells)) n cells) (month w)
-    ∙ watts-are (parts s) (kindIn (a .kind)) (a .receiver) (seriesOf (a .partner) (a .supply) (a .delivery)) (monthQuarters (bookOf (a .book .now) .calendar)) (a .watts .now) cells (f .ensures)
+    ∙ watts-are (parts s) (a .kind) (a .receiver) (seriesOf (a .partner) (a .supply) (a .delivery)) (monthQuarters (bookOf (a .book .now) .calendar)) (a .watts .now) cells (f .ensures)
 
 pub series-watts-spec : {M : Type 1} → statement M
 series-watts-spec =

@@ -1,7 +1,6 @@
 -- Transfer and pass-through points by the kind, the rest in none.
 use mathlib.Core.Path.{sym}
 use borrow.Author.Needs.{needs}
-use Rattle.reports.specs.SeriesSums.{kindIn}
 use Rattle.reports.specs.SeriesSumsLaws.{takes-no-opt-out, takes-no-injector}
 use Rattle.reports.proofs.series.takes.Statement.{statement}
 use Rattle.reports.proofs.series.takes.Tie as tie
@@ -31,10 +30,10 @@ returns-2 : tie.Need-returns-2
 returns-2 c = rw (c .before .enum-told2 .given .1) (c .takes-pass-through .ensures)
 
 returns-3 : tie.Need-returns-3
-returns-3 c = rw (c .enum-told3 .given .1) (sym (takes-no-opt-out (kindIn (c .before .before .args .kind))))
+returns-3 c = rw (c .enum-told3 .given .1) (sym (takes-no-opt-out (c .before .before .args .kind)))
 
 returns-4 : tie.Need-returns-4
-returns-4 c = rw (c .enum-told4 .given .1) (sym (takes-no-injector (kindIn (c .before .before .args .kind))))
+returns-4 c = rw (c .enum-told4 .given .1) (sym (takes-no-injector (c .before .before .args .kind)))
 
 pub takes-spec : {M : Type 1} → statement M
 takes-spec =

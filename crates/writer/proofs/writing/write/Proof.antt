@@ -1,7 +1,7 @@
 -- Each number has its kind; others have none.
 use borrow.Author.Needs.{needs}
+use Rattle.message.specs.CallsLaws.{no-kind}
 use Rattle.writer.specs.WriteCallsLaws.{wrote-no-kind}
-use Rattle.writer.specs.WriterCalled.{no-kind}
 use Rattle.writer.proofs.writing.write.Statement.{statement}
 use Rattle.writer.proofs.writing.write.Tie as tie
 
