@@ -17,7 +17,8 @@ use Rattle.volumes.specs.Series.{Kind}
 use Rattle.message.specs.Valid.{isMoment}
 use Rattle.reports.specs.FileRows.{fileText}
 use Rattle.reports.specs.Roles.{receivers}
-use Rattle.reports.specs.Calls.{stands, kindOf, textOf, shortRefusal, askedRefusal, fileRefusal, fileSays, fileAnswer, FileCalled}
+use Rattle.reports.specs.Calls.{stands, textOf, shortRefusal, askedRefusal, fileRefusal, fileSays, fileAnswer, FileCalled}
+use Rattle.message.specs.Calls.{kindNumbered}
 use Rattle.reports.specs.declared.FileAnswer.{FileAnswer}
 use Rattle.reports.specs.declared.FileAnswer.the-variants.{File}
 use Rattle.cases.specs.declared.Loaded.{Loaded}
@@ -50,12 +51,12 @@ asked-room book (some kind) receiver id moment numbers bytes h =
     go true false a p b q h = absurd (never _ h)
     go false f a p b q h = absurd (never _ h)
 
-room : (bytes : List ℕ) (kind receiver : ℕ) (id moment : List ℕ) (numbers size : ℕ) → fileRefusal bytes kind receiver id moment numbers size ≡ none → Room (bookOf bytes) (textOf (bookOf bytes) (kindOf kind) receiver id moment) numbers size
+room : (bytes : List ℕ) (kind receiver : ℕ) (id moment : List ℕ) (numbers size : ℕ) → fileRefusal bytes kind receiver id moment numbers size ≡ none → Room (bookOf bytes) (textOf (bookOf bytes) (kindNumbered kind) receiver id moment) numbers size
 unfolding fileRefusal orElse
 room bytes kind receiver id moment numbers size h = go (bookRefusal bytes) h
   where
-    go : (r : Option Refusal) → orElse r (askedRefusal (bookOf bytes) (kindOf kind) receiver id moment numbers size) ≡ none → Room (bookOf bytes) (textOf (bookOf bytes) (kindOf kind) receiver id moment) numbers size
-    go none h = asked-room (bookOf bytes) (kindOf kind) receiver id moment numbers size h
+    go : (r : Option Refusal) → orElse r (askedRefusal (bookOf bytes) (kindNumbered kind) receiver id moment numbers size) ≡ none → Room (bookOf bytes) (textOf (bookOf bytes) (kindNumbered kind) receiver id moment) numbers size
+    go none h = asked-room (bookOf bytes) (kindNumbered kind) receiver id moment numbers size h
     go (some r) h = absurd (never r h)
 
 pub fits : (bytes : List ℕ) (kind receiver : ℕ) (id moment : List ℕ) (lent rowsAfter : List ℤ) (before after : List ℕ) (answer : FileAnswer) (numbers size : ℕ) → FileCalled bytes kind receiver id moment lent rowsAfter before after answer → length lent ≤ numbers → length before ≤ size → Fits answer numbers size
@@ -63,7 +64,7 @@ unfolding fileAnswer fileSays
 fits bytes kind receiver id moment lent rowsAfter before after answer numbers size call h k = rw (call .answer) (go (fileRefusal bytes kind receiver id moment (length lent) (length before)) (room bytes kind receiver id moment (length lent) (length before)))
   where
     text : List ℕ
-    text = textOf (bookOf bytes) (kindOf kind) receiver id moment
+    text = textOf (bookOf bytes) (kindNumbered kind) receiver id moment
 
     go : (r : Option Refusal) → (r ≡ none → Room (bookOf bytes) text (length lent) (length before)) → Fits (fileSays r (rowCount (bookOf bytes)) (length text)) numbers size
     go none q = let e = q refl in (omega (arith, e .rows), omega (arith, e .file))

@@ -7,8 +7,8 @@ use Rattle.text.specs.Ascii.{bytes}
 use Rattle.text.specs.Decimal.{fixed, plain}
 use Rattle.formats.specs.Words.{wordAt}
 use Rattle.moments.specs.Moments.{momentBytes, periodStart, periodEnd}
-use Rattle.message.specs.declared.Kind.{Kind}
-use Rattle.message.specs.declared.Kind.the-variants.{Toe01, Toe02, Toe03}
+use Rattle.kinds.specs.declared.Kind.{Kind}
+use Rattle.kinds.specs.declared.Kind.the-variants.{Toe01, Toe02, Toe03}
 use Rattle.message.specs.Contents.{Observation, Series, Partner, File}
 
 -- <name>, /name>, </name> (60 is the byte <), and an element

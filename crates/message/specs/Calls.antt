@@ -7,8 +7,8 @@ use Prim.Native.Nat.{ℕ, zero, suc, _*_}
 use lib.Dec.{leb}
 use lib.ListN.{length, drop}
 use Rattle.formats.specs.Format.{Res, got, bad}
-use Rattle.message.specs.declared.Kind.{Kind}
-use Rattle.message.specs.declared.Kind.the-variants.{Toe01, Toe02, Toe03}
+use Rattle.kinds.specs.declared.Kind.{Kind}
+use Rattle.kinds.specs.declared.Kind.the-variants.{Toe01, Toe02, Toe03}
 use Rattle.message.specs.declared.FileFacts.{FileFacts}
 use Rattle.message.specs.declared.ReadAnswer.{ReadAnswer}
 use Rattle.message.specs.declared.ReadAnswer.the-variants.{File, Refused as ReadRefused}

@@ -19,7 +19,7 @@ use Rattle.calendar.specs.Dates.{leap, monthLength, marchSunday, octoberSunday,
 use Rattle.calendar.specs.DatesLaws.{last-sunday-is, month-length}
 use Rattle.moments.specs.Moments.{momentBytes, dateBytes, timeBytes, tailBytes, periodStart, periodEnd, realDate, realTime, real, valueAt, parts, momentOf}
 use Rattle.moments.specs.Ids.{isTransactionId}
-use Rattle.message.specs.declared.Kind.the-variants.{Toe01}
+use Rattle.kinds.specs.declared.Kind.the-variants.{Toe01}
 use Rattle.message.specs.Contents.{Observation, Series, File}
 use Rattle.message.specs.Bytes.{element, opening, ending, closing, root, counter, group, partner, digits, quantityBytes, observationBytes, periodBytes, supplies, deliveries, supplyBytes, volumeBytes, seriesBytes, supplyOf, partnerBytes, fileBytes}
 use Rattle.message.specs.Valid.{isMoment, lastPosition, periods, firstOf, IsVolume, IsFile}

@@ -6,7 +6,7 @@ use lib.ListN.{length}
 use native.Mathlib.Omega.{arith}
 use Rattle.text.specs.Ascii.{bytes}
 use Rattle.formats.specs.Format.{got}
-use Rattle.message.specs.declared.Kind.the-variants.{Toe01}
+use Rattle.kinds.specs.declared.Kind.the-variants.{Toe01}
 use Rattle.message.specs.declared.FileFacts.{FileFacts}
 use Rattle.message.specs.declared.ReadAnswer.the-variants.{File}
 use Rattle.message.specs.Bytes.{opening, ending, closing, root, fileBytes}

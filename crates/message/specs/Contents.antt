@@ -1,7 +1,7 @@
 -- What a file says (document 01, "The file").
 use mathlib.Core.List.{List}
 use Prim.Native.Nat.{ℕ, _+_, _*_}
-use Rattle.message.specs.declared.Kind.{Kind}
+use Rattle.kinds.specs.declared.Kind.{Kind}
 
 -- "Position is 96 (day - L) + q + 1", "Quantity is kilowatts with three decimals", here in watts
 pub record Observation : Type 0 where

@@ -22,8 +22,8 @@ use Rattle.moments.specs.declared.Judged.the-variants.{Real, Malformed}
 use Rattle.moments.specs.Moments.{momentOf}
 use Rattle.moments.specs.MomentsLaws.{judged-is, length-moment}
 use Rattle.moments.specs.Ids.{isTransactionId}
-use Rattle.message.specs.declared.Kind.{Kind}
-use Rattle.message.specs.declared.Kind.the-variants.{Toe01, Toe02, Toe03}
+use Rattle.kinds.specs.declared.Kind.{Kind}
+use Rattle.kinds.specs.declared.Kind.the-variants.{Toe01, Toe02, Toe03}
 use Rattle.message.specs.Contents.{Partner, File, number}
 use Rattle.message.specs.Bytes.{opening, ending, closing, root, counter, partnerBytes, fileBytes}
 use Rattle.message.specs.Valid.{isReal, isMoment, periods, IsFile}

@@ -7,7 +7,7 @@ use native.Mathlib.Omega.{arith}
 use Rattle.formats.specs.Format.{Format}
 use Rattle.formats.specs.Combine.{Recast, recast}
 use Rattle.formats.specs.Rising.{All}
-use Rattle.message.specs.declared.Kind.{Kind}
+use Rattle.kinds.specs.declared.Kind.{Kind}
 use Rattle.message.specs.Contents.{Observation, Partner, File}
 use Rattle.message.specs.Bytes.{fileBytes}
 use Rattle.message.specs.Valid.{periods, firstOf, IsPartner, IsFile}

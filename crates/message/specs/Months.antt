@@ -8,7 +8,7 @@ use native.Mathlib.Omega.{arith}
 use borrow.Author.Tests.{eq-eqb, ne-eqb, eqb-true}
 use Rattle.formats.specs.Items.{ItemsOk}
 use Rattle.formats.specs.Rising.{All, and-left, and-right, and-both}
-use Rattle.message.specs.declared.Kind.{Kind}
+use Rattle.kinds.specs.declared.Kind.{Kind}
 use Rattle.message.specs.Contents.{Series, Partner}
 use Rattle.message.specs.Valid.{monthOf, periods, firstOf, IsSeries, IsPartner}
 use Rattle.message.specs.SeriesListForm.{follows, agree, after}

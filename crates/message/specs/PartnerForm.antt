@@ -11,8 +11,8 @@ use Rattle.formats.specs.Words.{wordAt, words}
 use Rattle.formats.specs.Combine.{pre, post, seq, seqBy, Recast, recast}
 use Rattle.formats.specs.Exactly.{fixedDigits}
 use Rattle.formats.specs.Rising.{All, all-map}
-use Rattle.message.specs.declared.Kind.{Kind}
-use Rattle.message.specs.declared.Kind.the-variants.{Toe01, Toe02, Toe03}
+use Rattle.kinds.specs.declared.Kind.{Kind}
+use Rattle.kinds.specs.declared.Kind.the-variants.{Toe01, Toe02, Toe03}
 use Rattle.message.specs.Contents.{Series, Partner}
 use Rattle.message.specs.Bytes.{opening, ending, closing, group, partner, digits, supplies, supplyBytes, supplyOf, inSeries, withPartner, seriesBytes, partnerBytes}
 use Rattle.message.specs.Valid.{monthOf, IsSeries, OneSupply, IsPartner}

@@ -5,7 +5,7 @@ use mathlib.Core.List.{List, [], _∷_, map, flatMap}
 use Prim.Native.Nat.{ℕ, zero, suc, _+_, _/_, _%_}
 use lib.Dec.{eqb}
 use lib.ListN.{length, getD}
-use Rattle.message.specs.declared.Kind.{Kind}
+use Rattle.kinds.specs.declared.Kind.{Kind}
 use Rattle.message.specs.Contents.{Observation, Series, Partner, File}
 use Rattle.message.specs.Valid.{periods, firstOf, IsFile}
 use Rattle.message.specs.Keys.{numberKeys, pairKeys}

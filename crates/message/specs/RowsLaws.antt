@@ -8,7 +8,7 @@ use lib.Dec.{eqb}
 use native.Mathlib.Omega.{arith}
 use borrow.Author.Tests.{eqb-true}
 use Rattle.formats.specs.Rising.{rises, All, all-map, and-left, and-right}
-use Rattle.message.specs.declared.Kind.{Kind}
+use Rattle.kinds.specs.declared.Kind.{Kind}
 use Rattle.message.specs.Contents.{Observation, Series, Partner, place, number}
 use Rattle.message.specs.Valid.{monthOf, periods, firstOf, IsSeries, IsPartner}
 use Rattle.message.specs.Keys.{numberKeys, pairKeys}

@@ -15,8 +15,8 @@ use Rattle.formats.specs.Words.{Apart, apart-two, wordAt, words}
 use Rattle.formats.specs.Combine.{strip, pre, post, seq, seqBy, only, Recast, recast}
 use Rattle.calendar.specs.Dates.{monthLength}
 use Rattle.calendar.specs.DatesLaws.{month-length, no-month}
-use Rattle.message.specs.declared.Kind.{Kind}
-use Rattle.message.specs.declared.Kind.the-variants.{Toe03}
+use Rattle.kinds.specs.declared.Kind.{Kind}
+use Rattle.kinds.specs.declared.Kind.the-variants.{Toe03}
 use Rattle.message.specs.Contents.{Observation, Series}
 use Rattle.message.specs.Bytes.{opening, ending, closing, element, observationBytes, periodBytes, supplies, deliveries, supplyBytes, volumeBytes, seriesBytes, inSeries}
 use Rattle.message.specs.Valid.{most, IsVolume, IsSeries, Counted, lastPosition}

@@ -10,8 +10,8 @@ use Rattle.moments.specs.declared.Judged.{Judged}
 use Rattle.moments.specs.declared.Judged.the-variants.{Real, Malformed}
 use Rattle.moments.specs.Moments.{momentOf}
 use Rattle.moments.specs.Ids.{isTransactionId}
-use Rattle.message.specs.declared.Kind.{Kind}
-use Rattle.message.specs.declared.Kind.the-variants.{Toe01, Toe02, Toe03}
+use Rattle.kinds.specs.declared.Kind.{Kind}
+use Rattle.kinds.specs.declared.Kind.the-variants.{Toe01, Toe02, Toe03}
 use Rattle.message.specs.Contents.{Observation, Series, Partner, File, place, position, number}
 use Rattle.message.specs.Bytes.{digits, supplyOf}
 

@@ -1,15 +1,9 @@
-// The file of document 01: its kinds, the answers of its two calls, and what its reader and its writer share. Its form and its laws stand in specs/.
+// The file of document 01: the answers of its two calls, and what its reader and its writer share. Its form and its laws stand in specs/.
+use kinds::Kind;
 ghost use mathlib.Core.Path.{_≡_};
 ghost use Rattle.moments.specs.Moments.{momentBytes};
 ghost use Rattle.message.specs.Valid.{lastPosition};
 ghost use Rattle.message.specs.ObservationForm.{isPeriod};
-
-// TOE01, TOE02 and TOE03.
-pub enum Kind {
-    Toe01,
-    Toe02,
-    Toe03,
-}
 
 // What a file says beside its rows, their number, and where in the file its ID and its moment stand.
 pub struct FileFacts {

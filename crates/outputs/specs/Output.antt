@@ -13,7 +13,8 @@ use Rattle.requests.specs.Line.{Words, line}
 use Rattle.book.specs.Refusals.{Refusal, refused, unless}
 use Rattle.book.specs.Book.{bookOf}
 use Rattle.volumes.specs.Settlement.{rows}
-use Rattle.reports.specs.Calls.{over, afterwards, kindOf, textOf, fileRefusal}
+use Rattle.reports.specs.Calls.{over, afterwards, textOf, fileRefusal}
+use Rattle.message.specs.Calls.{kindNumbered}
 
 -- "at most 65,536 bytes in all", "The program's rows buffer has 8,192 numbers, its file buffer 65,536 bytes."
 abbrev pub inputMost : ℕ
@@ -36,7 +37,7 @@ printed (some r) file = refusedLine (r .number) (r .item)
 
 -- the file that a line asks for, of the book behind it
 unfoldable pub fileFor : Words → List ℕ → List ℕ
-fileFor w book = textOf (bookOf book) (kindOf (w .0)) (w .1 .0) (w .1 .1 .0) (w .1 .1 .1)
+fileFor w book = textOf (bookOf book) (kindNumbered (w .0)) (w .1 .0) (w .1 .1 .0) (w .1 .1 .1)
 
 -- "longer input then gives 2 and item 0"; then the file call decides
 unfoldable pub refusalFor : ℕ → Words → List ℕ → Option Refusal

@@ -22,7 +22,8 @@ use Rattle.requests.specs.Line.{Words, line, asked, requestOf}
 use Rattle.requests.specs.LineLaws.{placed, found, found-none}
 use Rattle.book.specs.Book.{bookOf}
 use Rattle.volumes.specs.Settlement.{rows, rowCount}
-use Rattle.reports.specs.Calls.{over, afterwards, kindOf, textOf, fileRefusal, fileSays, fileAnswer, FileCalled}
+use Rattle.reports.specs.Calls.{over, afterwards, textOf, fileRefusal, fileSays, fileAnswer, FileCalled}
+use Rattle.message.specs.Calls.{kindNumbered}
 use Rattle.reports.specs.declared.FileAnswer.{FileAnswer}
 use Rattle.reports.specs.declared.FileAnswer.the-variants.{File, Refused}
 use Rattle.outputs.specs.Output.{inputMost, rowsLent, fileLent, refusedLine, fileFor, refusalFor, judged, fileIn, rowsIn, output, Printed}
@@ -90,7 +91,7 @@ unfoldable refusalOn : List ℕ → Asked → Option Refusal
 refusalOn input a = fileRefusal (bookPart input a) (a .kind) (a .receiver) (idPart input a) (momentPart input a) rowsLent fileLent
 
 unfoldable textOn : List ℕ → Asked → List ℕ
-textOn input a = textOf (bookOf (bookPart input a)) (kindOf (a .kind)) (a .receiver) (idPart input a) (momentPart input a)
+textOn input a = textOf (bookOf (bookPart input a)) (kindNumbered (a .kind)) (a .receiver) (idPart input a) (momentPart input a)
 
 unfoldable rowsOn : List ℕ → Asked → List ℤ
 rowsOn input a = rows (bookOf (bookPart input a))

@@ -16,7 +16,7 @@ use Rattle.formats.specs.Run.{run-map}
 use Rattle.formats.specs.Place.{Parsed}
 use Rattle.formats.specs.declared.Mark.{Mark}
 use Rattle.formats.specs.declared.Mark.the-variants.{At, No}
-use Rattle.message.specs.declared.Kind.{Kind}
+use Rattle.kinds.specs.declared.Kind.{Kind}
 use Rattle.message.specs.Contents.{Observation, Series, Partner, place}
 use Rattle.message.specs.Bytes.{opening, ending, closing, element, group, supplies, deliveries}
 use Rattle.message.specs.Valid.{lastPosition, monthOf}

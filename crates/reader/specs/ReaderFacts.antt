@@ -8,7 +8,7 @@ use Rattle.formats.specs.Name.{nameByte, span}
 use Rattle.formats.specs.Place.{left}
 use Rattle.formats.specs.declared.Mark.{Mark}
 use Rattle.formats.specs.declared.Mark.the-variants.{At, No}
-use Rattle.message.specs.declared.Kind.{Kind}
+use Rattle.kinds.specs.declared.Kind.{Kind}
 use Rattle.message.specs.declared.FileFacts.{FileFacts}
 use Rattle.message.specs.declared.ReadAnswer.the-variants.{File, Refused}
 use Rattle.message.specs.Bytes.{opening, ending}

@@ -15,8 +15,8 @@ use Rattle.formats.specs.Run.{run-pre, run-post, run-seq, run-map}
 use Rattle.formats.specs.Place.{Within, Parsed}
 use Rattle.formats.specs.declared.Mark.{Mark}
 use Rattle.formats.specs.declared.Mark.the-variants.{At, No}
-use Rattle.message.specs.declared.Kind.{Kind}
-use Rattle.message.specs.declared.Kind.the-variants.{Toe01, Toe02, Toe03}
+use Rattle.kinds.specs.declared.Kind.{Kind}
+use Rattle.kinds.specs.declared.Kind.the-variants.{Toe01, Toe02, Toe03}
 use Rattle.message.specs.Contents.{Series, Partner}
 use Rattle.message.specs.Bytes.{opening, ending, closing, group, partner, digits, supplies}
 use Rattle.message.specs.SeriesForm.{counted, apart-supplies}

@@ -12,7 +12,7 @@ use Rattle.formats.specs.Name.{nameByte, span, nameParse, name}
 use Rattle.formats.specs.Place.{Within, Parsed, left}
 use Rattle.formats.specs.declared.Mark.{Mark}
 use Rattle.formats.specs.declared.Mark.the-variants.{At, No}
-use Rattle.message.specs.declared.Kind.{Kind}
+use Rattle.kinds.specs.declared.Kind.{Kind}
 use Rattle.message.specs.Bytes.{opening, ending, closing, root, counter}
 use Rattle.message.specs.Valid.{isMoment}
 use Rattle.message.specs.ObservationForm.{plainNumber}

@@ -20,8 +20,8 @@ use Rattle.formats.specs.Place.{Parsed}
 use Rattle.formats.specs.PlaceLaws.{parsed, not-there}
 use Rattle.formats.specs.declared.Mark.{Mark}
 use Rattle.formats.specs.declared.Mark.the-variants.{At, No}
-use Rattle.message.specs.declared.Kind.{Kind}
-use Rattle.message.specs.declared.Kind.the-variants.{Toe01, Toe02, Toe03}
+use Rattle.kinds.specs.declared.Kind.{Kind}
+use Rattle.kinds.specs.declared.Kind.the-variants.{Toe01, Toe02, Toe03}
 use Rattle.message.specs.Contents.{Observation, Series, place}
 use Rattle.message.specs.Bytes.{opening, closing, element, deliveries, inSeries, supplyBytes, observationBytes, periodBytes, volumeBytes, seriesBytes}
 use Rattle.message.specs.Valid.{monthOf}

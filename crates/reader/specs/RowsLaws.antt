@@ -20,7 +20,7 @@ use Rattle.cursor.specs.MovesLaws.{stands-at}
 use Rattle.cursor.specs.MovesParsed.{tag-parsed, number-parsed, fixed-parsed, word-parsed, name-parsed, number-fits, fixed-fits}
 use Rattle.moments.specs.Moments.{momentBytes, periodStart, periodEnd}
 use Rattle.message.specs.Bytes.{opening, ending, closing, element, counter, group, partner, supplies, deliveries}
-use Rattle.message.specs.declared.Kind.{Kind}
+use Rattle.kinds.specs.declared.Kind.{Kind}
 use Rattle.message.specs.ObservationForm.{plainNumber, observationBody, behindMonth}
 use Rattle.reader.specs.declared.rows.ObservationRow.{ObservationRow}
 use Rattle.reader.specs.declared.rows.WordRow.{WordRow}

@@ -3,7 +3,7 @@ use crate::elements::Series;
 use crate::rows::ReceiverRow;
 use cursor::Cursor;
 use formats::Mark;
-use message::Kind;
+use kinds::Kind;
 ghost use mathlib.Core.Path.{_≡_};
 ghost use mathlib.Core.List.{_++_, flatMap};
 ghost use Prim.Native.Nat.{suc, _+_, _*_, _≤_};

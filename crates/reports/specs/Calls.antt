@@ -16,7 +16,6 @@ use Rattle.volumes.specs.Sheets.{parties, sheet}
 use Rattle.volumes.specs.Series.{Kind}
 use Rattle.message.specs.Valid.{isMoment}
 use Rattle.message.specs.Calls.{kindNumbered}
-pub use Rattle.message.specs.Calls.{kindNumbered as kindOf}
 unfoldable pub use Rattle.message.specs.Calls.{over}
 unfoldable pub use Rattle.sheets.specs.Parties.{stands}
 use Rattle.reports.specs.FileRows.{fileText}

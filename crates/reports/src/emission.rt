@@ -6,7 +6,7 @@ use crate::series::emit_series;
 use book::Direction;
 use book::Supply;
 use formats::Mark;
-use message::Kind;
+use kinds::Kind;
 use writer::emitting::emit_file_end;
 use writer::emitting::emit_file_head;
 use writer::emitting::emit_partner_end;

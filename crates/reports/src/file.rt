@@ -5,7 +5,7 @@ use crate::partners::Asked;
 use crate::partners::in_role;
 use crate::partners::kind_of;
 use formats::Mark;
-use message::Kind;
+use kinds::Kind;
 use settlement::judge::Verdict;
 use settlement::judge::judge_settlement;
 use settlement::rows::ROW_WIDTH;

@@ -1,6 +1,6 @@
 // The receiver of a file and its partners, by the register.
 use book::Point;
-use message::Kind;
+use kinds::Kind;
 ghost use mathlib.Core.Path.{_≡_};
 ghost use mathlib.Core.List.{map};
 ghost use Rattle.volumes.specs.Series.{receiverOf};

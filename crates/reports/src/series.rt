@@ -7,7 +7,7 @@ use book::Situation;
 use book::Supply;
 use formats::Mark;
 use grains::Grains;
-use message::Kind;
+use kinds::Kind;
 use settlement::rows::ROW_WIDTH;
 use sheets::cells::first_cell;
 use sheets::cells::month_quarters;

@@ -24,7 +24,7 @@ use Rattle.reports.specs.declared.SheetAnswer.{SheetAnswer}
 use Rattle.reports.specs.declared.SheetAnswer.the-variants.{Sheet, Refused as SheetRefused}
 use Rattle.reports.specs.declared.FileAnswer.{FileAnswer}
 use Rattle.reports.specs.declared.FileAnswer.the-variants.{File, Refused as FileRefused}
-use Rattle.reports.specs.Calls.{sheetRefusal, sheetAnswer, kindOf, textOf, fileRefusal, fileAnswer}
+use Rattle.reports.specs.Calls.{sheetRefusal, sheetAnswer, textOf, fileRefusal, fileAnswer}
 use Rattle.reports.specs.Calls as reports
 
 -- refused: 2^63, the number times 2^32, and the item
@@ -71,7 +71,7 @@ pub record SheetCoded (bytes : List ℕ) (party : ℕ) (before after : List ℤ)
 pub record FileCoded (bytes : List ℕ) (kind receiver : ℕ) (id moment : List ℕ) (rowsBefore rowsAfter : List ℤ) (before after : List ℕ) (code : ℕ) : Type 0 where
   pub answered : code ≡ fileCode (fileAnswer bytes kind receiver id moment (length rowsBefore) (length before))
   pub filled : rowsAfter ≡ reports.afterwards (fileRefusal bytes kind receiver id moment (length rowsBefore) (length before)) (rows (bookOf bytes)) rowsBefore
-  pub file : after ≡ reports.afterwards (fileRefusal bytes kind receiver id moment (length rowsBefore) (length before)) (textOf (bookOf bytes) (kindOf kind) receiver id moment) before
+  pub file : after ≡ reports.afterwards (fileRefusal bytes kind receiver id moment (length rowsBefore) (length before)) (textOf (bookOf bytes) (kindNumbered kind) receiver id moment) before
 
 -- "kind, receiver, year, month", and "where ID and moment stand": each place and length; a moment has 29 bytes
 unfoldable pub factNumbers : FileFacts → List ℕ

@@ -29,7 +29,7 @@ use Rattle.volumes.specs.Settlement.{needed, tooFew, rowWidth, rowCount, refusa
 use Rattle.settlement.specs.declared.settle.Settled.{Settled}
 use Rattle.settlement.specs.Settling.{answerBy, SettleCall}
 use Rattle.moments.specs.Ids.{isTransactionId}
-use Rattle.message.specs.declared.Kind.{Kind as FileKind}
+use Rattle.kinds.specs.declared.Kind.{Kind as FileKind}
 use Rattle.message.specs.declared.ReadAnswer.{ReadAnswer}
 use Rattle.message.specs.declared.WriteAnswer.{WriteAnswer}
 use Rattle.message.specs.Valid.{isMoment}
@@ -46,7 +46,7 @@ use Rattle.reports.specs.declared.SheetAnswer.{SheetAnswer}
 use Rattle.reports.specs.declared.FileAnswer.{FileAnswer}
 use Rattle.reports.specs.FileRows.{fileText}
 use Rattle.reports.specs.Roles.{receivers}
-use Rattle.reports.specs.Calls.{stands, sheetRefusal, sheetSays, sheetAnswer, SheetCalled, kindOf, textOf, shortRefusal, askedRefusal, fileRefusal, fileSays, fileAnswer, FileCalled}
+use Rattle.reports.specs.Calls.{stands, sheetRefusal, sheetSays, sheetAnswer, SheetCalled, textOf, shortRefusal, askedRefusal, fileRefusal, fileSays, fileAnswer, FileCalled}
 use Rattle.volumes.specs.Series.{Kind}
 use Rattle.toe_c.specs.Small.{Small, SettledSmall, SheetSmall, FiledSmall, ReadSmall, WrittenSmall}
 
@@ -205,7 +205,7 @@ asked-judged book (some kind) receiver id moment rowsLent fileLent =
 file-judged : (bytes : List ℕ) (kind receiver : ℕ) (id moment : List ℕ) (rowsLent fileLent : ℕ) → AllSmall (fileRefusal bytes kind receiver id moment rowsLent fileLent)
 unfolding fileRefusal
 file-judged bytes kind receiver id moment rowsLent fileLent =
-    small-else (bookRefusal bytes) _ (book-small bytes) (λ e. asked-judged (bookOf bytes) (kindOf kind) receiver id moment rowsLent fileLent)
+    small-else (bookRefusal bytes) _ (book-small bytes) (λ e. asked-judged (bookOf bytes) (kindNumbered kind) receiver id moment rowsLent fileLent)
 
 file-said : (x : Option Refusal) (rowCount count : ℕ) → AllSmall x → FiledSmall (fileSays x rowCount count)
 unfolding fileSays
@@ -216,7 +216,7 @@ pub file-small : {bytes : List ℕ} {kind receiver : ℕ} {id moment : List ℕ}
 unfolding fileAnswer
 file-small {bytes} {kind} {receiver} {id} {moment} {rowsBefore} {before = before} c =
     let x = fileRefusal bytes kind receiver id moment (length rowsBefore) (length before) in
-    rw (c .answer) (file-said x (rowCount (bookOf bytes)) (length (textOf (bookOf bytes) (kindOf kind) receiver id moment)) (file-judged bytes kind receiver id moment (length rowsBefore) (length before)))
+    rw (c .answer) (file-said x (rowCount (bookOf bytes)) (length (textOf (bookOf bytes) (kindNumbered kind) receiver id moment)) (file-judged bytes kind receiver id moment (length rowsBefore) (length before)))
 
 -- writing from rows: 12, 13, 12 and 10
 verdict-small : {A : Type 0} (t : Bool) (number item : ℕ) (later : Verdict A) → Small number item → VerdictSmall later → VerdictSmall (judge t number item later)

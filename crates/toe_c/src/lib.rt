@@ -1,6 +1,6 @@
 // The calls as functions that C and Rust can link: each answers one number.
+use kinds::Kind;
 use message::FileFacts;
-use message::Kind;
 use message::ReadAnswer;
 use message::WriteAnswer;
 use reports::FileAnswer;

@@ -14,8 +14,8 @@ use Rattle.book.specs.declared.Direction.the-variants.{Up, Down}
 use Rattle.book.specs.declared.Point.{Point}
 use Rattle.book.specs.declared.Engagement.{Engagement}
 use Rattle.book.specs.Book.{Book}
-pub use Rattle.message.specs.declared.Kind.{Kind}
-pub use Rattle.message.specs.declared.Kind.the-variants.{Toe01, Toe02, Toe03}
+pub use Rattle.kinds.specs.declared.Kind.{Kind}
+pub use Rattle.kinds.specs.declared.Kind.the-variants.{Toe01, Toe02, Toe03}
 use Rattle.volumes.specs.Baseline.{pointOf}
 use Rattle.volumes.specs.Settlement.{delivered}
 use Rattle.volumes.specs.Sheets.{covers, quarterAt}

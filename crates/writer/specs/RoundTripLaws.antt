@@ -11,8 +11,8 @@ use Rattle.formats.specs.Format.{got}
 use Rattle.formats.specs.FormatLaws.{got-bad}
 use Rattle.formats.specs.Rising.{and-left, and-right, and-both}
 use Rattle.text.specs.DecimalLaws.{true-false}
-use Rattle.message.specs.declared.Kind.{Kind}
-use Rattle.message.specs.declared.Kind.the-variants.{Toe01, Toe02, Toe03}
+use Rattle.kinds.specs.declared.Kind.{Kind}
+use Rattle.kinds.specs.declared.Kind.the-variants.{Toe01, Toe02, Toe03}
 use Rattle.message.specs.declared.FileFacts.{FileFacts}
 use Rattle.message.specs.declared.ReadAnswer.{ReadAnswer}
 use Rattle.message.specs.declared.WriteAnswer.{WriteAnswer}

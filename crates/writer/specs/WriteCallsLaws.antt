@@ -10,7 +10,7 @@ use native.Mathlib.Omega.{arith}
 use borrow.Author.Tests.{le-leb, lt-leb}
 use Rattle.formats.specs.Rising.{and-left, and-right}
 use Rattle.moments.specs.Ids.{isTransactionId}
-use Rattle.message.specs.declared.Kind.{Kind}
+use Rattle.kinds.specs.declared.Kind.{Kind}
 use Rattle.message.specs.declared.WriteAnswer.{WriteAnswer}
 use Rattle.message.specs.declared.WriteAnswer.the-variants.{Bytes, Refused}
 use Rattle.message.specs.Valid.{isMoment}

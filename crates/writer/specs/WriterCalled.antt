@@ -6,7 +6,7 @@ use Prim.Native.Nat.{ℕ}
 use Rattle.formats.specs.declared.Mark.{Mark}
 use Rattle.formats.specs.declared.Mark.the-variants.{At, No}
 use Rattle.moments.specs.Ids.{isTransactionId}
-use Rattle.message.specs.declared.Kind.{Kind}
+use Rattle.kinds.specs.declared.Kind.{Kind}
 use Rattle.message.specs.declared.WriteAnswer.the-variants.{Bytes, Refused}
 use Rattle.message.specs.Valid.{isMoment}
 use Rattle.message.specs.FileLaws.{messageBytes}

@@ -8,7 +8,7 @@ use lib.ListN.{length, length-map, getD}
 use native.Mathlib.Omega.{arith}
 use borrow.Author.Tests.{ltb-true}
 use Rattle.formats.specs.Rising.{and-left, and-right}
-use Rattle.message.specs.declared.Kind.{Kind}
+use Rattle.kinds.specs.declared.Kind.{Kind}
 use Rattle.message.specs.Contents.{Observation}
 use Rattle.message.specs.Valid.{lastPosition}
 use Rattle.message.specs.Bytes.{observationBytes, seriesBytes, supplyOf, partnerBytes}

@@ -4,7 +4,7 @@ use Prim.Native.Nat.{ℕ}
 use Rattle.text.specs.Ascii.{bytes}
 use Rattle.text.specs.Decimal.{fixed, plain}
 use Rattle.formats.specs.Words.{wordAt}
-use Rattle.message.specs.declared.Kind.{Kind}
+use Rattle.kinds.specs.declared.Kind.{Kind}
 use Rattle.message.specs.Bytes.{opening, closing, element, root, counter, group, partner, digits, periodBytes, supplyBytes, deliveries, inSeries, withPartner}
 
 -- ---- a time series

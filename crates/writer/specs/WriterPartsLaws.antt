@@ -7,7 +7,7 @@ use Rattle.text.specs.Ascii.{bytes}
 use Rattle.text.specs.Decimal.{fixed, plain}
 use Rattle.formats.specs.Words.{wordAt}
 use Rattle.moments.specs.Moments.{momentBytes, periodStart, periodEnd}
-use Rattle.message.specs.declared.Kind.{Kind}
+use Rattle.kinds.specs.declared.Kind.{Kind}
 use Rattle.message.specs.Bytes.{opening, closing, element, root, counter, group, partner, digits, quantityBytes, observationBytes, periodBytes, supplies, supplyBytes, deliveries, volumeBytes}
 use Rattle.message.specs.Bytes.{withPartner, seriesBytes, supplyOf, partnerBytes, fileBytes}
 use Rattle.message.specs.Contents.{Series, Partner, File}

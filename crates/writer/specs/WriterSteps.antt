@@ -8,7 +8,7 @@ use lib.ListN.{length, getD}
 use native.Mathlib.Omega.{arith}
 use borrow.Author.Tests.{ltb-true, lt-ltb, le-ltb, eq-eqb, ne-eqb}
 use Rattle.formats.specs.Rising.{and-left, and-right}
-use Rattle.message.specs.declared.Kind.{Kind}
+use Rattle.kinds.specs.declared.Kind.{Kind}
 use Rattle.message.specs.Contents.{Observation}
 use Rattle.message.specs.Valid.{lastPosition}
 use Rattle.message.specs.ObservationForm.{isPeriod}

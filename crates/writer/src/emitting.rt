@@ -3,7 +3,7 @@ use crate::laying::lay;
 use crate::laying::lay_fixed;
 use crate::laying::lay_plain;
 use formats::Mark;
-use message::Kind;
+use kinds::Kind;
 ghost use mathlib.Core.Path.{_≡_};
 ghost use mathlib.Core.List.{_++_};
 ghost use Prim.Native.Nat.{_<_};

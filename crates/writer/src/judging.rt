@@ -1,5 +1,5 @@
 // Whether rows are those of a file.
-use message::Kind;
+use kinds::Kind;
 ghost use mathlib.Core.Path.{_≡_};
 ghost use mathlib.Core.Bool.{_&&_};
 ghost use Prim.Native.Nat.{_+_, _-_, _/_, _^_, _≤_};

@@ -12,7 +12,7 @@ use crate::runs::count_series;
 use crate::runs::pair_run;
 use crate::runs::partner_run;
 use formats::Mark;
-use message::Kind;
+use kinds::Kind;
 use message::WriteAnswer;
 use moments::Judged;
 ghost use mathlib.Core.Path.{_≡_};

@@ -1,6 +1,6 @@
 -- Each kind has its own head.
 use mathlib.Core.List.{_++_}
-use Rattle.message.specs.declared.Kind.the-variants.{Toe01, Toe02}
+use Rattle.kinds.specs.declared.Kind.the-variants.{Toe01, Toe02}
 use Rattle.text.specs.Ascii.{bytes}
 use Rattle.message.specs.Bytes.{opening, ending, closing, group, partner}
 use Rattle.reader.specs.ReaderPartner.{headParse, of-company}
