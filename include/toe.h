@@ -37,8 +37,9 @@ uint64_t toe_file(const uint8_t *book, size_t book_length, uint8_t kind, uint64_
 
 /* Reads a file: the number of rows. A row is six numbers: partner, supply, delivery direction, position, watts, 0.
  * `facts` gets kind, receiver, year, month, start and length of the ID, start and length of the moment.
- * Refusals 13, 10 item 0. */
-uint64_t toe_read(const uint8_t *file, size_t file_length, uint64_t *rows, size_t rows_length, uint64_t facts[8]);
+ * Refusals 13, 10 item 0, 10 item 1 where `facts_length` is less than 8. */
+uint64_t toe_read(const uint8_t *file, size_t file_length, uint64_t *rows, size_t rows_length, uint64_t *facts,
+                  size_t facts_length);
 
 /* Writes a file from such rows: the number of bytes. `rows_length` counts numbers. Refusals 12 for the kind, 13,
  * 12 for ID or moment, 10 item 1. */

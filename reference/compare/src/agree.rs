@@ -39,6 +39,14 @@ fn check(alike: bool, call: &str, what: &str, bytes: &[u8]) {
     }
 }
 
+/// The library's own rule: fewer than eight facts lent are 10 with item 1, after the reader's refusals.
+fn enough_facts(read: FileRead, lent: usize) -> Result<FileRead, Refusal> {
+    if lent < 8 {
+        return Err(Refusal { number: 10, item: 1 });
+    }
+    Ok(read)
+}
+
 impl Comparison {
     /// One book through all calls of a book, and a file through the reader and the writer.
     fn round(&mut self) {
@@ -146,10 +154,11 @@ impl Comparison {
     fn read_once(&mut self, file: &[u8]) {
         let needed = message::read(file, LONG).map_or(6, |read| read.numbers.len());
         let length = near(&mut self.random, needed);
-        let expected = message::read(file, length);
+        let facts_length = near(&mut self.random, 8);
+        let expected = message::read(file, length).and_then(|read| enough_facts(read, facts_length));
         let mut rows = Lent::new(&mut self.random, length, |n| n);
-        let mut facts = Lent::new(&mut self.random, 8, |n| n);
-        let answer = calls::read(file, rows.slice(), facts.slice().try_into().unwrap());
+        let mut facts = Lent::new(&mut self.random, facts_length, |n| n);
+        let answer = calls::read(file, rows.slice(), facts.slice());
         let alike = answer == expected.as_ref().map(|read| read.numbers.len() / 6).map_err(|r| *r)
             && rows.is_as(&expected.clone().map(|read| read.numbers))
             && facts.is_as(&expected.as_ref().map(Comparison::facts).map_err(|r| *r));

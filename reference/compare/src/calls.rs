@@ -19,7 +19,14 @@ extern "C" {
         file: *mut u8,
         file_length: usize,
     ) -> u64;
-    fn toe_read(file: *const u8, file_length: usize, rows: *mut u64, rows_length: usize, facts: *mut u64) -> u64;
+    fn toe_read(
+        file: *const u8,
+        file_length: usize,
+        rows: *mut u64,
+        rows_length: usize,
+        facts: *mut u64,
+        facts_length: usize,
+    ) -> u64;
     fn toe_write(
         kind: u8,
         receiver: u64,
@@ -86,8 +93,10 @@ pub fn file(book: &[u8], named: Named, rows: &mut [i64], file: &mut [u8]) -> Ans
     })
 }
 
-pub fn read(file: &[u8], rows: &mut [u64], facts: &mut [u64; 8]) -> Answer {
-    decode(unsafe { toe_read(file.as_ptr(), file.len(), rows.as_mut_ptr(), rows.len(), facts.as_mut_ptr()) })
+pub fn read(file: &[u8], rows: &mut [u64], facts: &mut [u64]) -> Answer {
+    decode(unsafe {
+        toe_read(file.as_ptr(), file.len(), rows.as_mut_ptr(), rows.len(), facts.as_mut_ptr(), facts.len())
+    })
 }
 
 pub fn write(named: Named, year: u64, month: u64, rows: &[u64], file: &mut [u8]) -> Answer {
