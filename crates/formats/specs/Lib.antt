@@ -10,3 +10,4 @@ pub mod Name
 pub mod Run
 pub mod Place
 pub mod PlaceLaws
+pub mod ExactlyLaws

@@ -1,8 +1,12 @@
 // The file of document 01: the answers of its two calls, and what its reader and its writer share. Its form and its laws stand in specs/.
+use formats::Mark;
 use kinds::Kind;
 ghost use mathlib.Core.Path.{_≡_};
+ghost use lib.ListN.{take};
+ghost use Rattle.formats.specs.Exactly.{exactlyParse};
+ghost use Rattle.formats.specs.Place.{Within, Parsed, left};
 ghost use Rattle.moments.specs.Moments.{momentBytes};
-ghost use Rattle.message.specs.Valid.{lastPosition};
+ghost use Rattle.message.specs.Valid.{isMoment, lastPosition};
 ghost use Rattle.message.specs.ObservationForm.{isPeriod};
 
 // What a file says beside its rows, their number, and where in the file its ID and its moment stand.
@@ -59,4 +63,22 @@ pub fn is_period(year: u64, month: u64) -> bool
         return false;
     }
     month <= 12
+}
+
+// The 29 bytes of a moment: the place behind them.
+pub fn moment_at(s: &[u8], m: Mark) -> Mark
+    requires { ⌜ Within (now s) m ⌝ }
+    ensures { λ r. ⌜ Parsed (exactlyParse 29 isMoment) (now (s .entry)) m r (take 29 (left (now (s .entry)) m)) ⌝ }
+{
+    let Mark::At(p) = m else {
+        return Mark::No;
+    };
+    if s.len() - p < 29 {
+        return Mark::No;
+    }
+    let j = moments::read_moment(&s[p..p + 29]);
+    let moments::Judged::Real(_) = j else {
+        return Mark::No;
+    };
+    Mark::At(p + 29)
 }

@@ -1,18 +1,12 @@
 -- How the judge reads a file: its root and moment, and what month and rows its partners give.
 use mathlib.Core.Path.{_≡_, refl, sym, ap, _∙_}
-use mathlib.Core.Bool.{Bool, true, false}
 use mathlib.Core.List.{List, [], _∷_, _++_, map, flatMap}
-use Prim.Native.Nat.{ℕ, zero, suc, _+_, _≤_, _<_}
-use lib.Dec.{leb}
-use lib.ListN.{length, take, drop, length-append, length-map, length-drop}
-use lib.Seq.{drop-drop}
+use Prim.Native.Nat.{ℕ, zero, suc, _+_}
+use lib.ListN.{length, take, length-append, length-map}
 use native.Mathlib.Omega.{arith}
-use borrow.Author.Tests.{le-leb, lt-leb}
-use Rattle.formats.specs.Format.{Res, got, bad, pick}
 use Rattle.formats.specs.FormatLaws.{got-bad}
 use Rattle.formats.specs.Combine.{strip}
 use Rattle.formats.specs.Words.{wordsParse}
-use Rattle.formats.specs.Exactly.{exactlyParse}
 use Rattle.formats.specs.Name.{nameByte, span}
 use Rattle.formats.specs.Rising.{All}
 use Rattle.formats.specs.Run.{run-map, run-seq, run-pre, run-post}
@@ -24,7 +18,7 @@ use Rattle.kinds.specs.declared.Kind.{Kind}
 use Rattle.kinds.specs.declared.Kind.the-variants.{Toe01, Toe02, Toe03}
 use Rattle.message.specs.Contents.{Observation, Series, Partner, File}
 use Rattle.message.specs.Bytes.{opening, closing, root}
-use Rattle.message.specs.Valid.{isMoment, monthOf, periods, firstOf, IsFile}
+use Rattle.message.specs.Valid.{monthOf, periods, firstOf, IsFile}
 use Rattle.message.specs.Group.{spread}
 use Rattle.message.specs.Rows.{Row, seriesRows, partnerRows, rowsOf}
 use Rattle.message.specs.SeriesListForm.{after}
@@ -73,29 +67,6 @@ pub kind-third : (n : ℕ) → (n ≡ 0 → ⊥) → Toe03 ≡ kindOf (suc n)
 unfolding kindOf
 kind-third zero e = absurd (e refl)
 kind-third (suc n) e = refl
-
--- ---- the moment
-
-module _ (s : List ℕ) (p : ℕ) where
-  pub moment-there : p + 29 ≤ length s → isMoment (take 29 (drop p s)) ≡ true → Parsed (exactlyParse 29 isMoment) s (At p) (At (p + 29)) (take 29 (drop p s))
-  unfolding exactlyParse
-  moment-there h e =
-      let l : 29 ≤ length (drop p s) = omega (arith, length-drop p s) in
-      parsed (exactlyParse 29 isMoment) s p (take 29 (drop p s)) (p + 29) (rw (le-leb 29 (length (drop p s)) l, e) (ap (got (take 29 (drop p s))) (drop-drop 29 p s))) h
-
-  pub moment-none : isMoment (take 29 (drop p s)) ≡ false → Parsed (exactlyParse 29 isMoment) s (At p) No (take 29 (drop p s))
-  unfolding exactlyParse
-  moment-none e = not-there (exactlyParse 29 isMoment) s p (take 29 (drop p s)) (rw e (go (leb 29 (length (drop p s)))))
-    where
-      go : (b : Bool) → _≡_ {A = Res (List ℕ)} (pick b bad) bad
-      go true = refl
-      go false = refl
-
-  pub moment-short : p ≤ length s → length s < p + 29 → Parsed (exactlyParse 29 isMoment) s (At p) No (take 29 (drop p s))
-  unfolding exactlyParse
-  moment-short w h =
-      let l : length (drop p s) < 29 = omega (arith, length-drop p s) in
-      not-there (exactlyParse 29 isMoment) s p (take 29 (drop p s)) (rw (lt-leb 29 (length (drop p s)) l))
 
 -- ---- the file
 

@@ -8,11 +8,8 @@ ghost use mathlib.Core.Path.{_≡_};
 ghost use mathlib.Core.List.{_++_, flatMap};
 ghost use Prim.Native.Nat.{suc, _+_, _*_, _≤_};
 ghost use Rattle.formats.specs.Combine.{mapParse, strip};
-ghost use lib.ListN.{take};
-ghost use Rattle.formats.specs.Exactly.{exactlyParse};
-ghost use Rattle.formats.specs.Place.{Within, Parsed, left};
+ghost use Rattle.formats.specs.Place.{Within, Parsed};
 ghost use Rattle.formats.specs.declared.Mark.the-variants.{At};
-ghost use Rattle.message.specs.Valid.{isMoment};
 ghost use Rattle.message.specs.SeriesListForm.{follows};
 ghost use Rattle.reader.specs.Reading.{outline};
 ghost use Rattle.reader.specs.ReaderItems.{folded};
@@ -383,24 +380,6 @@ fn file_root(s: &[u8], m: Mark) -> Root
     Root { kind, next }
 }
 
-// The moment of a file.
-fn file_moment(s: &[u8], m: Mark) -> Mark
-    requires { ⌜ Within (now s) m ⌝ }
-    ensures { λ r. ⌜ Parsed (exactlyParse 29 isMoment) (now (s .entry)) m r (take 29 (left (now (s .entry)) m)) ⌝ }
-{
-    let Mark::At(p) = m else {
-        return Mark::No;
-    };
-    if s.len() - p < 29 {
-        return Mark::No;
-    }
-    let j = moments::read_moment(&s[p..p + 29]);
-    let moments::Judged::Real(_) = j else {
-        return Mark::No;
-    };
-    Mark::At(p + 29)
-}
-
 // The receiver and the counter of partners, in a file of a kind.
 fn receiver(s: &[u8], start: Cursor, kind: Kind) -> ReceiverRow
     ensures { λ r. ⌜ r ≡ receiverRow (now (s .entry)) start (closing "ReceiverID" ++ opening (counter kind)) (ending (counter kind)) ⌝ }
@@ -467,7 +446,7 @@ pub fn file_read(s: &[u8], out: &mut [u64]) -> FileRead
     let id = cursor::place(at_id, s);
     let id_end = cursor::place(at_end, s);
     let moment = cursor::place(at_moment, s);
-    let b = file_moment(s, moment);
+    let b = message::moment_at(s, moment);
     let c = cursor::at_mark(b);
     let v = receiver(s, c, kind);
     let to = v.to;

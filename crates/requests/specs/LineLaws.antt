@@ -1,24 +1,24 @@
 -- A line's words stand where the code says.
 use mathlib.Core.Path.{_≡_, refl, sym, ap, _∙_}
-use mathlib.Core.Bool.{Bool, true, false}
+use mathlib.Core.Bool.{true, false}
 use mathlib.Core.List.{List, _++_, append-assoc}
-use Prim.Native.Nat.{ℕ, _+_, _-_, _≤_, _<_}
+use Prim.Native.Nat.{ℕ, _+_, _-_, _≤_}
 use lib.Dec.{leb}
 use lib.ListN.{length, take, drop, length-append, length-drop}
-use lib.Seq.{drop-drop, take-at, drop-at}
+use lib.Seq.{take-at, drop-at}
 use native.Mathlib.Omega.{arith}
-use borrow.Author.Tests.{le-leb, lt-leb, leb-true}
+use borrow.Author.Tests.{leb-true}
 use Rattle.text.specs.Ascii.{bytes}
 use Rattle.text.specs.Decimal.{fixed}
 use Rattle.text.specs.DecimalLaws.{length-fixed}
-use Rattle.formats.specs.Format.{Res, got, bad, pick}
+use Rattle.formats.specs.Format.{Res, got, bad}
 use Rattle.formats.specs.FormatLaws.{sound-of}
 use Rattle.formats.specs.Combine.{strip, onlyParse}
 use Rattle.formats.specs.Exactly.{exactlyParse, fixedDigits}
 use Rattle.formats.specs.Name.{nameByte, span, nameParse}
 use Rattle.formats.specs.Run.{run-seq, run-post, run-only, run-fail}
 use Rattle.formats.specs.Place.{Parsed, left}
-use Rattle.formats.specs.PlaceLaws.{parsed, not-there}
+use Rattle.formats.specs.PlaceLaws.{parsed}
 use Rattle.formats.specs.declared.Mark.{Mark}
 use Rattle.formats.specs.declared.Mark.the-variants.{At, No}
 use Rattle.moments.specs.MomentsLaws.{and-both}
@@ -26,29 +26,6 @@ use Rattle.message.specs.Valid.{isMoment}
 use Rattle.requests.specs.declared.Asked.{Asked}
 use Rattle.requests.specs.declared.Request.the-variants.{Line, NoLine}
 use Rattle.requests.specs.Line.{isKind, Words, line, asked, requestBy, requestOf}
-
--- ---- n bytes that pass a test
-
-module _ (n : ℕ) (test : List ℕ → Bool) (s : List ℕ) (p : ℕ) where
-  pub exactly-there : p + n ≤ length s → test (take n (drop p s)) ≡ true → Parsed (exactlyParse n test) s (At p) (At (p + n)) (take n (drop p s))
-  unfolding exactlyParse
-  exactly-there h e =
-      let l : n ≤ length (drop p s) = omega (arith, length-drop p s) in
-      parsed (exactlyParse n test) s p (take n (drop p s)) (p + n) (rw (le-leb n (length (drop p s)) l, e) (ap (got (take n (drop p s))) (drop-drop n p s))) h
-
-  pub exactly-none : test (take n (drop p s)) ≡ false → Parsed (exactlyParse n test) s (At p) No (take n (drop p s))
-  unfolding exactlyParse
-  exactly-none e = not-there (exactlyParse n test) s p (take n (drop p s)) (rw e (go (leb n (length (drop p s)))))
-    where
-      go : (b : Bool) → _≡_ {A = Res (List ℕ)} (pick b bad) bad
-      go true = refl
-      go false = refl
-
-  pub exactly-short : p ≤ length s → length s < p + n → Parsed (exactlyParse n test) s (At p) No (take n (drop p s))
-  unfolding exactlyParse
-  exactly-short w h =
-      let l : length (drop p s) < n = omega (arith, length-drop p s) in
-      not-there (exactlyParse n test) s p (take n (drop p s)) (rw (lt-leb n (length (drop p s)) l))
 
 -- ---- a kind
 

@@ -2,11 +2,9 @@
 use formats::Mark;
 use formats::Val;
 ghost use mathlib.Core.Path.{_≡_};
-ghost use lib.ListN.{take};
 ghost use Rattle.formats.specs.Combine.{onlyParse};
-ghost use Rattle.formats.specs.Exactly.{exactlyParse, fixedDigits};
-ghost use Rattle.formats.specs.Place.{Within, Parsed, left};
-ghost use Rattle.message.specs.Valid.{isMoment};
+ghost use Rattle.formats.specs.Exactly.{fixedDigits};
+ghost use Rattle.formats.specs.Place.{Within, Parsed};
 ghost use Rattle.requests.specs.Line.{isKind, requestOf};
 ghost use Rattle.requests.specs.LineLaws.{Lined};
 
@@ -47,24 +45,6 @@ fn kind(s: &[u8], m: Mark) -> Val
     v
 }
 
-// The 29 bytes of a moment.
-fn moment(s: &[u8], m: Mark) -> Mark
-    requires { ⌜ Within (now s) m ⌝ }
-    ensures { λ r. ⌜ Parsed (exactlyParse 29 isMoment) (now (s .entry)) m r (take 29 (left (now (s .entry)) m)) ⌝ }
-{
-    let Mark::At(p) = m else {
-        return Mark::No;
-    };
-    if s.len() - p < 29 {
-        return Mark::No;
-    }
-    let j = moments::read_moment(&s[p..p + 29]);
-    let moments::Judged::Real(_) = j else {
-        return Mark::No;
-    };
-    Mark::At(p + 29)
-}
-
 // Kind and receiver of a line, and the place behind it.
 struct LineRead {
     kind: u64,
@@ -83,7 +63,7 @@ fn line(s: &[u8]) -> LineRead
     let c = v.next;
     let d = formats::tag(s, c, b" ");
     let e = formats::name(s, d, 1, 36, 32);
-    let f = moment(s, e);
+    let f = message::moment_at(s, e);
     let next = formats::tag(s, f, b"\n");
     LineRead {
         kind: k.value,

@@ -26,8 +26,8 @@ tag-requires-2 c κs = search needs
 name-requires : tie.Need-name-requires
 name-requires c κs = search needs
 
-moment-requires : tie.Need-moment-requires
-moment-requires c κs = search needs
+moment-at-requires : tie.Need-moment-at-requires
+moment-at-requires c κs = search needs
 
 slice-aggregate-tag-3 : tie.Need-slice-aggregate-tag-3
 slice-aggregate-tag-3 c = search needs
@@ -44,7 +44,7 @@ returns c =
     (c .before .before .before .before .before .before .fixed .ensures)
     (c .before .before .before .before .tag2 .ensures)
     (c .before .before .before .name .ensures)
-    (c .before .before .moment .ensures)
+    (c .before .before .moment-at .ensures)
     (c .tag3 .ensures)
 
 pub line-spec : {M : Type 1} → statement M
@@ -58,7 +58,7 @@ line-spec =
     slice-aggregate-tag-2
     tag-requires-2
     name-requires
-    moment-requires
+    moment-at-requires
     slice-aggregate-tag-3
     tag-requires-3
     returns)

@@ -25,8 +25,8 @@ place-requires-2 c κs = search needs
 place-requires-3 : tie.Need-place-requires-3
 place-requires-3 c κs = search needs
 
-file-moment-requires : tie.Need-file-moment-requires
-file-moment-requires c κs = rw (c .place3 .ensures) (standing-within (c .before .before .before .before .before .before .before .before .before .before .before .args .s .now) (c .before .before .before .before .before .before .message .result .to))
+moment-at-requires : tie.Need-moment-at-requires
+moment-at-requires c κs = rw (c .place3 .ensures) (standing-within (c .before .before .before .before .before .before .before .before .before .before .before .args .s .now) (c .before .before .before .before .before .before .message .result .to))
 
 at-mark-requires-2 : tie.Need-at-mark-requires-2
 at-mark-requires-2 c κs = search needs
@@ -46,15 +46,15 @@ root-end-requires c κs = search needs
 same-length : tie.Need-same-length
 same-length c = search needs
 
-receives : (c : tie.After-root-end) → ReceiverSteps (c .before .before .before .before .before .before .before .before .before .before .before .before .before .before .before .before .before .before .before .before .before .args .s .now) (c .before .before .before .before .before .before .before .before .before .file-moment .result) (c .before .before .before .before .before .place4 .result) (c .before .before .before .before .before .before .before .before .before .before .before .before .before .before .before .before .before .before .file-root .result .kind) (c .before .before .before .before .before .before .before .receiver .result .receiver) (c .before .before .before .before .before .before .before .receiver .result .count)
+receives : (c : tie.After-root-end) → ReceiverSteps (c .before .before .before .before .before .before .before .before .before .before .before .before .before .before .before .before .before .before .before .before .before .args .s .now) (c .before .before .before .before .before .before .before .before .before .moment-at .result) (c .before .before .before .before .before .place4 .result) (c .before .before .before .before .before .before .before .before .before .before .before .before .before .before .before .before .before .before .file-root .result .kind) (c .before .before .before .before .before .before .before .receiver .result .receiver) (c .before .before .before .before .before .before .before .receiver .result .count)
 receives c =
-    let m = c .before .before .before .before .before .before .before .before .before .file-moment in
+    let m = c .before .before .before .before .before .before .before .before .before .moment-at in
     let from = c .before .before .before .before .before .before .before .before .at-mark2 in
     let v = c .before .before .before .before .before .before .before .receiver in
     let d = c .before .before .before .before .before .place4 in
     receiver-steps (c .before .before .before .before .before .before .before .before .before .before .before .before .before .before .before .before .before .before .before .before .before .args .s .now) (m .result) (m .ensures .within) (from .result) (from .ensures) (c .before .before .before .before .before .before .before .before .before .before .before .before .before .before .before .before .before .before .file-root .result .kind) (v .result) (v .ensures) (d .result) (d .ensures)
 
-steps : (c : tie.After-root-end) → Steps (c .before .before .before .before .before .before .before .before .before .before .before .before .before .before .before .before .before .before .before .before .before .args .s .now) (c .before .before .before .before .before .before .before .before .before .before .before .before .before .before .before .before .before .before .file-root .result .next) (c .before .before .before .before .before .before .before .before .before .before .before .before .place .result) (c .before .before .before .before .before .before .before .before .before .before .before .place2 .result) (c .before .before .before .before .before .before .before .before .before .before .place3 .result) (c .before .before .before .before .before .before .before .before .before .file-moment .result) (receives c .a) (receives c .b) (receives c .c) (receives c .d) (c .before .before .before .before .before .place4 .result) (c .before .before .before .partners .result .next) (c .root-end .result) (c .before .before .before .before .before .before .before .before .before .before .before .before .before .before .before .before .before .before .file-root .result .kind) (c .before .before .before .before .before .before .before .receiver .result .receiver) (c .before .before .before .before .before .before .before .receiver .result .count) ((c .before .before .before .partners .result .year, c .before .before .before .partners .result .month), c .before .before .before .partners .result .rows)
+steps : (c : tie.After-root-end) → Steps (c .before .before .before .before .before .before .before .before .before .before .before .before .before .before .before .before .before .before .before .before .before .args .s .now) (c .before .before .before .before .before .before .before .before .before .before .before .before .before .before .before .before .before .before .file-root .result .next) (c .before .before .before .before .before .before .before .before .before .before .before .before .place .result) (c .before .before .before .before .before .before .before .before .before .before .before .place2 .result) (c .before .before .before .before .before .before .before .before .before .before .place3 .result) (c .before .before .before .before .before .before .before .before .before .moment-at .result) (receives c .a) (receives c .b) (receives c .c) (receives c .d) (c .before .before .before .before .before .place4 .result) (c .before .before .before .partners .result .next) (c .root-end .result) (c .before .before .before .before .before .before .before .before .before .before .before .before .before .before .before .before .before .before .file-root .result .kind) (c .before .before .before .before .before .before .before .receiver .result .receiver) (c .before .before .before .before .before .before .before .receiver .result .count) ((c .before .before .before .partners .result .year, c .before .before .before .partners .result .month), c .before .before .before .partners .result .rows)
 steps c =
     let s = c .before .before .before .before .before .before .before .before .before .before .before .before .before .before .before .before .before .before .before .before .before .args .s .now in
     let root = c .before .before .before .before .before .before .before .before .before .before .before .before .before .before .before .before .before .before .file-root in
@@ -70,7 +70,7 @@ steps c =
       before-id = i .before-id;
       id = i .id;
       before-moment = i .before-moment;
-      moment = c .before .before .before .before .before .before .before .before .before .file-moment .ensures;
+      moment = c .before .before .before .before .before .before .before .before .before .moment-at .ensures;
       before-receiver = r .before-receiver;
       receiver = r .receiver;
       before-count = r .before-count;
@@ -93,7 +93,7 @@ file-read-spec =
     place-requires
     place-requires-2
     place-requires-3
-    file-moment-requires
+    moment-at-requires
     at-mark-requires-2
     receiver-requires
     place-requires-4

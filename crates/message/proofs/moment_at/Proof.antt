@@ -3,12 +3,12 @@ use mathlib.Core.Path.{_≡_, sym, ap, _∙_, subst}
 use mathlib.Core.Bool.{true, false}
 use Prim.Native.Nat.{ℕ, _+_, _-_}
 use lib.ListN.{take, drop}
 use Rattle.message.specs.Valid.{isReal, isMoment}
-use Rattle.requests.specs.LineLaws.{exactly-there, exactly-none, exactly-short}
+use Rattle.formats.specs.ExactlyLaws.{exactly-there, exactly-none, exactly-short}
 use native.Mathlib.Omega.{arith}
 use borrow.Author.Needs.{needs}
-use Rattle.requests.proofs.moment.Statement.{statement}
-use Rattle.requests.proofs.moment.Tie as tie
+use Rattle.message.proofs.moment_at.Statement.{statement}
+use Rattle.message.proofs.moment_at.Tie as tie
 
 enum-known-m : tie.Need-enum-known-m
 enum-known-m c = search needs
@@ -74,8 +74,8 @@ returns-4 c =
     let e = ap isReal (sym (c .before .before .read-moment .ensures) ∙ c .enum-told2 .given .1) in
     rw (m .1) (exactly-there 29 isMoment (a .s .now) p (omega (arith, h, c .before .before .before .before .if1 .left)) (subst (λ (k : ℕ). isMoment (take k (drop p (a .s .now))) ≡ true) n e))
 
-pub moment-spec : {M : Type 1} → statement M
-moment-spec =
+pub moment-at-spec : {M : Type 1} → statement M
+moment-at-spec =
     tie.close
     (tie.spec
     enum-known-m
