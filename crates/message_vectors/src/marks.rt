@@ -1,17 +1,7 @@
-// What no answer may change is marked before a call and looked at after it.
+// Rows that no answer may change are marked before a call and looked at after it.
 
-// The byte and the number at each place before a call.
-const BYTE: u8 = 77;
-
+// The number at each place before a call.
 const NUMBER: u64 = 77;
-
-pub fn mark_bytes(out: &mut [u8]) {
-    let mut i = 0;
-    while i < out.len() {
-        out[i] = BYTE;
-        i += 1;
-    }
-}
 
 pub fn mark_numbers(out: &mut [u64]) {
     let mut i = 0;
@@ -21,18 +11,7 @@ pub fn mark_numbers(out: &mut [u64]) {
     }
 }
 
-// Says so if one of these bytes changed.
-pub fn kept_bytes(out: &[u8]) {
-    let mut i = 0;
-    while i < out.len() {
-        if out[i] != BYTE {
-            cases::answers::text(b"changed\n");
-            return;
-        }
-        i += 1;
-    }
-}
-
+// Says so if one of these numbers changed.
 pub fn kept_numbers(out: &[u64]) {
     let mut i = 0;
     while i < out.len() {

@@ -1,6 +1,4 @@
 // The writer's cases.
-use crate::marks::kept_bytes;
-use crate::marks::mark_bytes;
 use crate::marks::same_bytes;
 use crate::marks::same_numbers;
 use crate::reading::kind_number;
@@ -92,7 +90,7 @@ fn answer_bytes(
 ) {
     let n = clamp(written, file.len());
     print_part(&file[..n], from, to);
-    kept_bytes(&file[n..]);
+    cases::lent::kept_bytes(&file[n..]);
     if !read_back(head, rows, id, moment, &file[..n], again) {
         cases::answers::text(b"not read back\n");
     }
@@ -110,7 +108,7 @@ fn write_rows(
     to: usize,
     again: &mut [u64],
 ) {
-    mark_bytes(file);
+    cases::lent::prepare_bytes(file);
     let most = clamp(lent, file.len());
     let answer = writer::writing::write(
         head.kind,
@@ -126,7 +124,7 @@ fn write_rows(
         WriteAnswer::Bytes(n) => answer_bytes(head, rows, id, moment, file, n, from, to, again),
         WriteAnswer::Refused(number, item) => {
             cases::answers::refused(number as u64, item as u64);
-            kept_bytes(file);
+            cases::lent::kept_bytes(file);
         }
     }
 }

@@ -5,8 +5,8 @@ use borrow.Author.Needs.{needs}
 use Rattle.message_vectors.proofs.writing.write_rows.Statement.{statement}
 use Rattle.message_vectors.proofs.writing.write_rows.Tie as tie
 
-mark-bytes-requires : tie.Need-mark-bytes-requires
-mark-bytes-requires c κs = search needs
+prepare-bytes-requires : tie.Need-prepare-bytes-requires
+prepare-bytes-requires c κs = search needs
 
 clamp-requires : tie.Need-clamp-requires
 clamp-requires c κs = search needs
@@ -15,7 +15,7 @@ slice-relend-prefix-write : tie.Need-slice-relend-prefix-write
 slice-relend-prefix-write c = search needs
 
 slice-aggregate-write : tie.Need-slice-aggregate-write
-slice-aggregate-write c = sym (length-take-le (c .before .clamp .result) (c .before .before .before .before .mark-bytes .last .0) (search needs))
+slice-aggregate-write c = sym (length-take-le (c .before .clamp .result) (c .before .before .before .before .prepare-bytes .last .0) (search needs))
 
 write-requires : tie.Need-write-requires
 write-requires c κs = search needs
@@ -57,7 +57,7 @@ pub write-rows-spec : {M : Type 1} → statement M
 write-rows-spec =
     tie.close
     (tie.spec
-    mark-bytes-requires
+    prepare-bytes-requires
     clamp-requires
     slice-relend-prefix-write
     slice-aggregate-write
