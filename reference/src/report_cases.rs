@@ -39,7 +39,7 @@ fn pool() -> Book {
 }
 
 /// Case two: 180 heat pumps of three suppliers and two providers, three reference days, baselines that end in a third of a watt.
-fn heat_pumps() -> Book {
+pub fn heat_pumps() -> Book {
     let mut book = june(3, 180, 3, 3);
     for point in 0..180 {
         let row = &mut book.register[point];
@@ -179,8 +179,9 @@ pub fn sheet_cases() -> Vec<SheetCase> {
         add("P8", party, 2880, &above_baseline());
     }
     let pumps = heat_pumps();
-    add("a source party of 180 points", 12, 2880, &pumps);
-    add("an FSP party of 180 points", 21, 2880, &pumps);
+    for party in [11, 12, 13, 21, 22] {
+        add(&format!("case two: 180 points, party {party}"), party, 2880, &pumps);
+    }
     let mut random = Random::new(7);
     for _ in 0..60 {
         let book = random_book(&mut random);
@@ -340,8 +341,9 @@ pub fn file_cases() -> Vec<FileCase> {
     }
     order_of_refusals(&mut cases, &f);
     let pumps = heat_pumps();
-    cases.add("case two: 180 points, a provider's file", 1, 7, &pumps);
-    cases.add("case two: 180 points, a supplier's file", 2, 4, &pumps);
+    for (kind, receiver) in [(1, 7), (1, 8), (2, 3), (2, 4), (2, 5)] {
+        cases.add(&format!("case two: 180 points, kind {kind}, receiver {receiver}"), kind, receiver, &pumps);
+    }
     let mut random = Random::new(8);
     for number in 1..=50 {
         let book = random_book(&mut random);

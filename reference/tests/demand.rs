@@ -4,8 +4,9 @@
 use reference::book::{decode, Book};
 use reference::message::read;
 use reference::random::Random;
+use reference::report_cases::heat_pumps;
 use reference::series::{file_call, series_grains};
-use reference::settle::{settle_book, GRAINS_PER_WATT};
+use reference::settle::{settle_book, Quarter, GRAINS_PER_WATT};
 use reference::settle_cases::random_book;
 use reference::sheet::{parties, requested_volume, sheet};
 use std::collections::{BTreeMap, BTreeSet};
@@ -34,6 +35,45 @@ fn all_files(book: &Book, bytes: &[u8]) -> Watts {
     watts
 }
 
+/// Demand 3 of one accepted book.
+fn holds(book: &Book, bytes: &[u8], quarters: &[Quarter]) {
+    let positions = 96 * book.month_days();
+
+    let mut sum = vec![0i128; positions];
+    for party in parties(book) {
+        for (place, grains) in sheet(bytes, party, positions).unwrap().into_iter().enumerate() {
+            sum[place] += grains as i128;
+        }
+    }
+    assert_eq!(sum, requested_volume(book, quarters));
+
+    let watts = all_files(book, bytes);
+    let pairs = |kind: u8| -> BTreeMap<(u64, u64, u64, u64, u64), u64> {
+        let of_kind = watts.iter().filter(|(place, _)| place.0 == kind);
+        of_kind
+            .map(|(&(kind, receiver, partner, supply, direction, position), &watts)| {
+                let (fsp, supplier) = if kind == 1 { (receiver, partner) } else { (partner, receiver) };
+                ((fsp, supplier, supply, direction, position), watts)
+            })
+            .collect()
+    };
+    assert_eq!(pairs(1), pairs(2));
+
+    for kind in 1..=3 {
+        for receiver in 0..10 {
+            for ((partner, supply, direction), grains) in series_grains(book, quarters, kind, receiver) {
+                let (mut carried, mut exact) = (0, 0);
+                for position in 1..=positions {
+                    let place = (kind, receiver, partner, supply, direction, position as u64);
+                    carried += watts.get(&place).copied().unwrap_or(0) as i128;
+                    exact += grains[position - 1];
+                    assert_eq!(carried, exact / GRAINS_PER_WATT);
+                }
+            }
+        }
+    }
+}
+
 #[test]
 fn sheets_and_files_of_random_books() {
     let mut random = Random::new(6);
@@ -41,45 +81,16 @@ fn sheets_and_files_of_random_books() {
     for _ in 0..400 {
         let bytes = random_book(&mut random).encode();
         let book = decode(&bytes).unwrap();
-        let Ok(quarters) = settle_book(&book) else {
-            continue;
-        };
-        accepted += 1;
-        let positions = 96 * book.month_days();
-
-        let mut sum = vec![0i128; positions];
-        for party in parties(&book) {
-            for (place, grains) in sheet(&bytes, party, positions).unwrap().into_iter().enumerate() {
-                sum[place] += grains as i128;
-            }
-        }
-        assert_eq!(sum, requested_volume(&book, &quarters));
-
-        let watts = all_files(&book, &bytes);
-        let pairs = |kind: u8| -> BTreeMap<(u64, u64, u64, u64, u64), u64> {
-            let of_kind = watts.iter().filter(|(place, _)| place.0 == kind);
-            of_kind
-                .map(|(&(kind, receiver, partner, supply, direction, position), &watts)| {
-                    let (fsp, supplier) = if kind == 1 { (receiver, partner) } else { (partner, receiver) };
-                    ((fsp, supplier, supply, direction, position), watts)
-                })
-                .collect()
-        };
-        assert_eq!(pairs(1), pairs(2));
-
-        for kind in 1..=3 {
-            for receiver in 0..5 {
-                for ((partner, supply, direction), grains) in series_grains(&book, &quarters, kind, receiver) {
-                    let (mut carried, mut exact) = (0, 0);
-                    for position in 1..=positions {
-                        let place = (kind, receiver, partner, supply, direction, position as u64);
-                        carried += watts.get(&place).copied().unwrap_or(0) as i128;
-                        exact += grains[position - 1];
-                        assert_eq!(carried, exact / GRAINS_PER_WATT);
-                    }
-                }
-            }
+        if let Ok(quarters) = settle_book(&book) {
+            accepted += 1;
+            holds(&book, &bytes, &quarters);
         }
     }
     assert!(accepted > 100);
+}
+
+#[test]
+fn sheets_and_files_of_case_two() {
+    let book = heat_pumps();
+    holds(&book, &book.encode(), &settle_book(&book).unwrap());
 }
