@@ -1,10 +1,16 @@
 //! The largest answers of any book, as docs/BOOK.md gives them.
 
-use reference::book::{Book, Engagement};
+use reference::book::{Book, Engagement, RegisterRow};
 use reference::examples::CASE_F_MOMENT;
+use reference::message::{good_rows, write};
+use reference::message_cases::random_file;
+use reference::random::Random;
+use reference::report_cases::heat_pumps;
 use reference::series::file_call;
 use reference::settle::settle;
+use reference::settle_cases::random_book;
 use reference::sheet::sheet;
+use std::collections::BTreeSet;
 
 const LARGEST_ROWS: usize = 196_608;
 const LARGEST_SHEET: usize = 2_976;
@@ -49,7 +55,9 @@ fn largest(kind: u8) -> Book {
 fn largest_files() {
     for (kind, receiver) in [(1, 7), (2, 3), (3, 3)] {
         let length = LARGEST_FILES[kind as usize - 1];
-        let bytes = largest(kind).encode();
+        let book = largest(kind);
+        let bytes = book.encode();
+        assert!(length <= enough(&book));
         let call = |file| file_call(&bytes, kind, receiver, &[b'x'; 36], CASE_F_MOMENT, LARGEST_ROWS, file);
         let filed = call(length).unwrap();
         assert_eq!((filed.rows.len(), filed.file.len()), (LARGEST_ROWS, length));
@@ -62,4 +70,49 @@ fn largest_rows_and_sheet() {
     let bytes = largest(1).encode();
     assert_eq!(settle(&bytes, LARGEST_ROWS).unwrap().len(), LARGEST_ROWS);
     assert_eq!(sheet(&bytes, 0, LARGEST_SHEET).unwrap().len(), LARGEST_SHEET);
+}
+
+/// The length that docs/BOOK.md gives for every file of a book.
+fn enough(book: &Book) -> usize {
+    let quarters: usize = book.engagements.iter().map(|row| row.count as usize).sum();
+    285 + 160 * book.register.len() + 378 * book.engagements.len() + 84 * quarters
+}
+
+/// How many files of the book are not refused; each has no more than that length, with the longest ID.
+fn files_within(book: &Book) -> usize {
+    let bytes = book.encode();
+    let of_row = |row: &RegisterRow| [(1, row.fsp), (2, row.supplier), (3, row.supplier)];
+    let receivers: BTreeSet<(u8, u64)> = book.register.iter().flat_map(of_row).collect();
+    let lengths = receivers.into_iter().filter_map(|(kind, receiver)| {
+        let filed = file_call(&bytes, kind, receiver, &[b'x'; 36], CASE_F_MOMENT, usize::MAX, usize::MAX).ok()?;
+        Some(filed.file.len())
+    });
+    lengths.inspect(|&length| assert!(length <= enough(book))).count()
+}
+
+#[test]
+fn files_of_random_books() {
+    let mut random = Random::new(12);
+    let accepted: usize = (0..200).map(|_| files_within(&random_book(&mut random))).sum();
+    assert!(accepted > 100);
+    assert!(files_within(&heat_pumps()) > 0);
+}
+
+/// 300 + 600 n bytes for a file written from n rows, and six numbers for every 75 bytes of a file that is read.
+#[test]
+fn files_from_rows() {
+    let mut random = Random::new(13);
+    let mut checked = 0;
+    for _ in 0..2000 {
+        let case = random_file(&mut random);
+        if good_rows(case.kind, case.receiver, case.year, case.month, &case.numbers) {
+            let (year, month, id) = (case.year, case.month, [b'x'; 36]);
+            let file =
+                write(case.kind, case.receiver, year, month, &case.numbers, &id, CASE_F_MOMENT, usize::MAX).unwrap();
+            assert!(file.len() <= 300 + 600 * (case.numbers.len() / 6));
+            assert!(case.numbers.len() <= 6 * (file.len() / 75));
+            checked += 1;
+        }
+    }
+    assert!(checked > 1000);
 }
