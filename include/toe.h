@@ -5,9 +5,10 @@
  * reads and writes the lent memory alone, keeps nothing, needs no start, and may run in several threads at once. Memory that is
  * written must not overlap other lent memory. A buffer of length 0 needs an aligned pointer that is not null: any array's will do.
  *
- * An answer below TOE_REFUSED is a count. Any other is a refusal: its number and its item are those of document
- * 01, "What is sent back". A refusal changes no buffer; an acceptance changes only the places of its answer. An answer has 64 bits:
- * where it is cut to 32, a refusal looks like a count.
+ * An answer below TOE_REFUSED is a count (of toe_write: where fewer bytes than 2^63 are lent). Any other is a refusal:
+ * TOE_NUMBER and TOE_ITEM are its number and its item in document 01, "What is sent back". A refusal changes no
+ * buffer; an acceptance changes only the places of its answer.
+ * An answer has 64 bits: where it is cut to 32, a refusal looks like a count.
  */
 #ifndef TOE_H
 #define TOE_H
@@ -25,7 +26,7 @@ extern "C" {
 /* Long enough for any book: numbers of settlement rows, numbers of a sheet, bytes of a file. */
 #define TOE_ROWS_LARGEST 196608
 #define TOE_SHEET_LARGEST 2976
-#define TOE_FILE_LARGEST 4357393
+#define TOE_FILE_LARGEST 4680238
 
 /* Answers. */
 #define TOE_REFUSED (UINT64_C(1) << 63)
