@@ -1,14 +1,14 @@
-/* The calls of a month's transfer of energy (document 01), as target/staticlib/libtoe_c.a has them. docs/BOOK.md has the book's
- * layout and what each refusal means; docs/LIBRARY.md has how to link, and examples.
+/* The calls of a month's transfer of energy (document 01), as target/staticlib/libtoe_c.a has them. docs/BOOK.md has the
+ * book's layout and what each refusal means; docs/LIBRARY.md has how to link, what pointers and stack are asked for, and
+ * examples. The calls may run in several threads at once.
  *
  * Every function is proved to answer, and to leave every lent buffer, as document 01 defines it for all inputs. It
- * reads and writes the lent memory alone, keeps nothing, needs no start, and may run in several threads at once. Memory that is
- * written must not overlap other lent memory. A buffer of length 0 needs an aligned pointer that is not null: any array's will do.
+ * reads and writes the lent memory alone, keeps nothing, and needs no start. Memory that is written must not
+ * overlap other lent memory; a buffer of length 0 needs an aligned pointer that is not null.
  *
  * An answer below TOE_REFUSED is a count (of toe_write: where fewer bytes than 2^63 are lent). Any other is a refusal:
  * TOE_NUMBER and TOE_ITEM are its number and its item in document 01, "What is sent back". A refusal changes no
  * buffer; an acceptance changes only the places of its answer.
- * An answer has 64 bits: where it is cut to 32, a refusal looks like a count.
  */
 #ifndef TOE_H
 #define TOE_H
@@ -28,7 +28,7 @@ extern "C" {
 #define TOE_SHEET_LARGEST 2976
 #define TOE_FILE_LARGEST 4680238
 
-/* Answers. */
+/* An answer has 64 bits: where it is cut to 32, a refusal looks like a count. */
 #define TOE_REFUSED (UINT64_C(1) << 63)
 #define TOE_NUMBER(answer) ((unsigned)(((answer) >> 32) & 0x7fffffff))
 #define TOE_ITEM(answer) ((uint32_t)(answer))

@@ -10,7 +10,8 @@ mod timing;
 
 use std::process::ExitCode;
 
-const USAGE: &str = "usage: compare agree [SEED [ROUNDS]]  all five calls on random and damaged input; 1 and 2000 if not given
+const USAGE: &str =
+    "usage: compare agree [SEED [ROUNDS]]  all five calls on random and damaged input; 1 and 2000 if not given
        compare timing                 settling against one in Rust that keeps each point's day sums
        compare files                  a month's whole set of files of a pool of 180 points
 see ../README.md
