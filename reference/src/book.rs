@@ -2,7 +2,7 @@
 //! The comments in quotation marks are sentences of document 01.
 
 use crate::calendar::{book_days, is_clock_change, month_length};
-use crate::refusal::{refused, Refusal};
+use crate::refusal::{Refusal, refused};
 
 pub const MISSING: i32 = i32::MIN;
 pub const HEADER_LENGTH: usize = 56;
@@ -290,11 +290,7 @@ fn judge_header(bytes: &[u8]) -> Result<Book, Refusal> {
         && (1..=256).contains(&book.points)
         && book.engagement_count <= 512
         && book.zeros == [0; 6];
-    if good {
-        Ok(book)
-    } else {
-        refused(1, 0)
-    }
+    if good { Ok(book) } else { refused(1, 0) }
 }
 
 /// The lengths of the five sections.
@@ -314,11 +310,7 @@ fn judge_layout(bytes: &[u8], book: &Book) -> Result<(), Refusal> {
         }
         offset += length;
     }
-    if bytes.len() == offset {
-        Ok(())
-    } else {
-        refused(2, 0)
-    }
+    if bytes.len() == offset { Ok(()) } else { refused(2, 0) }
 }
 
 fn read_sections(bytes: &[u8], book: &mut Book) {

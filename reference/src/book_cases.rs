@@ -1,8 +1,8 @@
 //! Books at both sides of each edge of refusals 1 to 7, in the order of document 01, and random ones.
 
-use crate::book::{judge, Book, Choice, Engagement, RegisterRow, MISSING};
+use crate::book::{Book, Choice, Engagement, MISSING, RegisterRow, judge};
 use crate::calendar::last_sunday;
-use crate::case_text::{read_sparse, write_sparse, Case};
+use crate::case_text::{Case, read_sparse, write_sparse};
 use crate::random::Random;
 
 const EAN_LIMIT: u64 = 1_000_000_000_000_000_000;
@@ -588,7 +588,8 @@ impl Cases {
 
     /// Everything is bad from a refusal on: the books tell in which order the refusals come.
     fn order_of_refusals(&mut self) {
-        let spoil: [(u8, fn(&mut Book)); 7] = [
+        type Spoil = fn(&mut Book);
+        let spoil: [(u8, Spoil); 7] = [
             (1, |book| book.zeros[5] = 1),
             (2, |book| book.pairs[4].1 += 1),
             (3, |book| *book = rebuilt_as_march(book)),
@@ -679,7 +680,7 @@ fn random_book(random: &mut Random) -> Book {
         row.supply = random.range(0, 1) as u8;
         row.access_ean = 10 * row.supplier + row.supply as u64;
         row.fsp = random.range(0, 2) as u64;
-        row.excluded_days = if random.once_in(3) { random.next() & ((1u128 << days) - 1) as u64 } else { 0 };
+        row.excluded_days = if random.once_in(3) { random.number() & ((1u128 << days) - 1) as u64 } else { 0 };
         row.largest_up = random.range(0, 255) as u32;
         row.situation = random.range(0, 3) as u8;
         row.method = random.range(0, 2) as u8;

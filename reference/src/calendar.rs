@@ -76,11 +76,7 @@ pub fn is_clock_change(date: Date) -> bool {
 pub fn offset_hours(date: Date) -> i64 {
     let summer_starts = Date::new(date.year, 3, last_sunday(date.year, 3));
     let summer_ends = Date::new(date.year, 10, last_sunday(date.year, 10));
-    if summer_starts < date && date <= summer_ends {
-        2
-    } else {
-        1
-    }
+    if summer_starts < date && date <= summer_ends { 2 } else { 1 }
 }
 
 /// The N days of a book's calendar: "day 0 is L days before the 1st".

@@ -2,35 +2,56 @@
 
 use reference::{book_cases, calendar, case_text, message_cases, report_cases, settle_cases};
 use std::io::{Read, Write};
+use std::process::ExitCode;
 
-fn main() {
-    let command = std::env::args().nth(1).unwrap_or_default();
-    let output = match command.as_str() {
-        "months" => calendar::months_text(),
-        "index" => index(),
-        "book-cases" => book_cases::cases_text(&book_cases::cases()),
-        "book-random" => book_cases::cases_text(&book_cases::random_cases(argument(2), argument(3) as usize)),
-        "book-answers" => book_cases::answers(&input()),
-        "settle-cases" => settle_cases::cases_text(&settle_cases::cases()),
-        "settle-random" => settle_cases::cases_text(&settle_cases::random_cases(argument(2), argument(3) as usize)),
-        "settle-answers" => settle_cases::answers(&input()),
-        "write-cases" => message_cases::write_cases_text(),
-        "write-answers" => message_cases::write_answers(&input()),
-        "read-cases" => message_cases::read_cases_text(),
-        "read-answers" => message_cases::read_answers(&input()),
-        "sheet-cases" => report_cases::sheet_cases_text(),
-        "sheet-answers" => report_cases::sheet_answers(&input()),
-        "file-cases" => report_cases::file_cases_text(),
-        "file-answers" => report_cases::file_answers(&input()),
-        "program-cases" => report_cases::program_cases_text(),
-        "program-answers" => report_cases::program_answers(&input()),
-        _ => panic!("no such command; see README.md"),
+const USAGE: &str = "usage: reference NAME-cases              the cases
+       reference NAME-answers < CASES    the expected output for these cases
+       reference book-random SEED COUNT  more random cases of that form
+       reference settle-random SEED COUNT
+       reference index                   what each line of all cases tests
+       reference months                  the same lines as brussels.py prints
+NAME is one of book, settle, write, read, sheet, file, program; see README.md.
+";
+
+fn main() -> ExitCode {
+    let words: Vec<String> = std::env::args().skip(1).collect();
+    let words: Vec<&str> = words.iter().map(String::as_str).collect();
+    let Some(output) = output(&words) else {
+        eprint!("{USAGE}");
+        return ExitCode::from(2);
     };
     std::io::stdout().write_all(output.as_bytes()).unwrap();
+    ExitCode::SUCCESS
 }
 
-fn argument(index: usize) -> u64 {
-    std::env::args().nth(index).expect("SEED COUNT").parse().expect("a number")
+/// What these words ask for; none if they ask for nothing.
+fn output(words: &[&str]) -> Option<String> {
+    let text = match words {
+        ["months"] => calendar::months_text(),
+        ["index"] => index(),
+        ["book-random", seed, count] => {
+            book_cases::cases_text(&book_cases::random_cases(seed.parse().ok()?, count.parse().ok()?))
+        }
+        ["settle-random", seed, count] => {
+            settle_cases::cases_text(&settle_cases::random_cases(seed.parse().ok()?, count.parse().ok()?))
+        }
+        ["book-cases"] => book_cases::cases_text(&book_cases::cases()),
+        ["book-answers"] => book_cases::answers(&input()),
+        ["settle-cases"] => settle_cases::cases_text(&settle_cases::cases()),
+        ["settle-answers"] => settle_cases::answers(&input()),
+        ["write-cases"] => message_cases::write_cases_text(),
+        ["write-answers"] => message_cases::write_answers(&input()),
+        ["read-cases"] => message_cases::read_cases_text(),
+        ["read-answers"] => message_cases::read_answers(&input()),
+        ["sheet-cases"] => report_cases::sheet_cases_text(),
+        ["sheet-answers"] => report_cases::sheet_answers(&input()),
+        ["file-cases"] => report_cases::file_cases_text(),
+        ["file-answers"] => report_cases::file_answers(&input()),
+        ["program-cases"] => report_cases::program_cases_text(),
+        ["program-answers"] => report_cases::program_answers(&input()),
+        _ => return None,
+    };
+    Some(text)
 }
 
 fn input() -> String {

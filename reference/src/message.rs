@@ -1,7 +1,7 @@
 //! The file: its text, writing from rows, and reading.
 
-use crate::calendar::{digits, is_moment, is_transaction_id, month_length, offset_hours, Date};
-use crate::refusal::{refused, Refusal};
+use crate::calendar::{Date, digits, is_moment, is_transaction_id, month_length, offset_hours};
+use crate::refusal::{Refusal, refused};
 
 /// "six u64 a row: partner, supply, delivery direction, position, watts, 0".
 #[derive(Clone, Copy, Debug, PartialEq, Eq)]
@@ -78,11 +78,7 @@ fn period_moment(year: i64, month: i64) -> String {
 }
 
 fn next_month(year: i64, month: i64) -> (i64, i64) {
-    if month == 12 {
-        (year + 1, 1)
-    } else {
-        (year, month + 1)
-    }
+    if month == 12 { (year + 1, 1) } else { (year, month + 1) }
 }
 
 /// The file of good rows: "Elements as in case F, no white space".
@@ -174,7 +170,7 @@ pub fn write(
 /// "rows, receiver, year or month that no file has give 13, as does a length that isn't six numbers a row";
 /// "writing from no rows takes these two [year 0 and month 0] and no others".
 pub fn good_rows(kind: u8, receiver: u64, year: u64, month: u64, numbers: &[u64]) -> bool {
-    if receiver >= 10u64.pow(10) || numbers.len() % 6 != 0 {
+    if receiver >= 10u64.pow(10) || !numbers.len().is_multiple_of(6) {
         return false;
     }
     if numbers.is_empty() {
@@ -268,21 +264,13 @@ impl<'a> Reader<'a> {
     fn word(&mut self, name: &str) -> Option<&'a str> {
         let place = self.content(name)?;
         let content = &self.file[place];
-        if content.is_ascii() {
-            std::str::from_utf8(content).ok()
-        } else {
-            None
-        }
+        if content.is_ascii() { std::str::from_utf8(content).ok() } else { None }
     }
 
     /// Exactly so many digits.
     fn digits(&mut self, name: &str, count: usize) -> Option<u64> {
         let word = self.word(name)?;
-        if word.len() == count && word.bytes().all(|byte| byte.is_ascii_digit()) {
-            word.parse().ok()
-        } else {
-            None
-        }
+        if word.len() == count && word.bytes().all(|byte| byte.is_ascii_digit()) { word.parse().ok() } else { None }
     }
 
     /// A whole number without leading zero, "a lone 0 is allowed".
@@ -298,11 +286,7 @@ impl<'a> Reader<'a> {
             return None;
         }
         let watts = 1000 * kilowatts + decimals.parse::<u64>().ok()?;
-        if watts > 0 {
-            Some(watts)
-        } else {
-            None
-        }
+        if watts > 0 { Some(watts) } else { None }
     }
 
     /// One of two words, as 0 or 1.
@@ -315,11 +299,7 @@ impl<'a> Reader<'a> {
 fn plain_number(word: &str) -> Option<u64> {
     let plain =
         !word.is_empty() && word.bytes().all(|byte| byte.is_ascii_digit()) && (word == "0" || !word.starts_with('0'));
-    if plain {
-        word.parse().ok()
-    } else {
-        None
-    }
+    if plain { word.parse().ok() } else { None }
 }
 
 fn read_file(file: &[u8]) -> Option<FileRead> {

@@ -1,7 +1,7 @@
 //! Cases for writing a file from rows and for reading a file.
 
 use crate::case_text::{hex_word, read_hex_word};
-use crate::message::{file_text, read, write, FileRow};
+use crate::message::{FileRow, file_text, read, write};
 use crate::random::Random;
 
 const ID: &[u8] = b"T-1";
@@ -390,7 +390,8 @@ impl WriteCases {
     }
 
     fn order_of_refusals(&mut self) {
-        let spoil: [(&str, fn(&mut WriteCase)); 5] = [
+        type Spoil = fn(&mut WriteCase);
+        let spoil: [(&str, Spoil); 5] = [
             ("kind", |case| case.kind = 4),
             ("rows", |case| case.numbers[4] = 0),
             ("ID", |case| case.id.clear()),
@@ -450,7 +451,7 @@ impl WriteCases {
 pub fn random_file(random: &mut Random) -> WriteCase {
     let mut case = base();
     case.kind = random.range(1, 3) as u8;
-    case.receiver = random.next() % 10u64.pow(10);
+    case.receiver = random.number() % 10u64.pow(10);
     case.year = random.range(2018, 2099) as u64;
     case.month = random.range(1, 12) as u64;
     case.id = vec![b'i'; random.range(1, 36) as usize];

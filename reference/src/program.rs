@@ -1,7 +1,7 @@
 //! The program: one line, then a book; the file's bytes alone, or one line of refusal.
 
 use crate::calendar::{digits, is_moment, is_transaction_id};
-use crate::refusal::{refused, Refusal};
+use crate::refusal::{Refusal, refused};
 use crate::series::file_call;
 
 const INPUT_LIMIT: usize = 65_536;

@@ -7,7 +7,8 @@ impl Random {
         Random(seed)
     }
 
-    pub fn next(&mut self) -> u64 {
+    /// Any number of 64 bits.
+    pub fn number(&mut self) -> u64 {
         self.0 = self.0.wrapping_add(0x9e37_79b9_7f4a_7c15);
         let mut z = self.0;
         z = (z ^ (z >> 30)).wrapping_mul(0xbf58_476d_1ce4_e5b9);
@@ -18,7 +19,7 @@ impl Random {
     /// A number of `low` to `high`, both included.
     pub fn range(&mut self, low: i64, high: i64) -> i64 {
         assert!(low <= high);
-        low + (self.next() % (high - low + 1) as u64) as i64
+        low + (self.number() % (high - low + 1) as u64) as i64
     }
 
     /// True once in `times`.

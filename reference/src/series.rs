@@ -1,10 +1,10 @@
 //! The series of the three kinds of file, and the file call.
 
-use crate::book::{decode, Book, RegisterRow};
+use crate::book::{Book, RegisterRow, decode};
 use crate::calendar::{is_moment, is_transaction_id};
-use crate::message::{file_text, FileRow};
-use crate::refusal::{refused, Refusal};
-use crate::settle::{rows, settle_book, Quarter, GRAINS_PER_WATT};
+use crate::message::{FileRow, file_text};
+use crate::refusal::{Refusal, refused};
+use crate::settle::{GRAINS_PER_WATT, Quarter, rows, settle_book};
 use crate::sheet::position;
 use std::collections::BTreeMap;
 

@@ -1,7 +1,7 @@
 //! Baselines, delivered volumes, corrections, and refusals 8, 9 and 10.
 
-use crate::book::{decode, Book, Engagement};
-use crate::refusal::{refused, Refusal};
+use crate::book::{Book, Engagement, decode};
+use crate::refusal::{Refusal, refused};
 
 /// "One watt is 30,240 grains; all results are whole grains."
 pub const GRAINS_PER_WATT: i128 = 30_240;

@@ -1,8 +1,8 @@
 //! A balance party's sheet.
 
-use crate::book::{decode, Book};
-use crate::refusal::{refused, Refusal};
-use crate::settle::{settle_book, Quarter};
+use crate::book::{Book, decode};
+use crate::refusal::{Refusal, refused};
+use crate::settle::{Quarter, settle_book};
 
 /// The sheet call: 96 numbers for each day of the month, or 1 to 9, 11, 10 with item 0.
 pub fn sheet(bytes: &[u8], party: u16, sheet_length: usize) -> Result<Vec<i64>, Refusal> {

@@ -1,12 +1,12 @@
 //! Demand 3 on random books: sheets sum to the requested volume, TOE01 and TOE02 agree, and every series
 //! is rounded down once.
 
-use reference::book::{decode, Book};
+use reference::book::{Book, decode};
 use reference::message::read;
 use reference::random::Random;
 use reference::report_cases::heat_pumps;
 use reference::series::{file_call, series_grains};
-use reference::settle::{settle_book, Quarter, GRAINS_PER_WATT};
+use reference::settle::{GRAINS_PER_WATT, Quarter, settle_book};
 use reference::settle_cases::random_book;
 use reference::sheet::{parties, requested_volume, sheet};
 use std::collections::{BTreeMap, BTreeSet};

@@ -5,7 +5,7 @@ use reference::examples::*;
 use reference::program;
 use reference::refusal::Refusal;
 use reference::series::{file_call, file_rows};
-use reference::settle::{settle, settle_book, GRAINS_PER_WATT};
+use reference::settle::{GRAINS_PER_WATT, settle, settle_book};
 
 const WATT: i64 = GRAINS_PER_WATT as i64;
 

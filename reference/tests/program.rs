@@ -1,6 +1,6 @@
 //! What the program and the program that runs its stored cases are run on and held to is what this crate makes.
 
-use reference::examples::{case_f, CASE_F_FILE, CASE_F_ID, CASE_F_MOMENT};
+use reference::examples::{CASE_F_FILE, CASE_F_ID, CASE_F_MOMENT, case_f};
 use reference::report_cases;
 
 fn stored(program: &str, name: &str) -> Vec<u8> {

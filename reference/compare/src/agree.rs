@@ -2,7 +2,7 @@
 
 use crate::books::{damaged_book, damaged_file, random_book};
 use crate::calls::{self, Named};
-use crate::lent::{near, Lent, Tally};
+use crate::lent::{Lent, Tally, near};
 use crate::quick;
 use reference::book::decode;
 use reference::message::{self, FileRead};
@@ -95,11 +95,7 @@ impl Comparison {
         let receiver = match decode(bytes) {
             Ok(book) if !self.random.once_in(8) => {
                 let row = book.register[self.random.range(0, book.register.len() as i64 - 1) as usize];
-                if kind == 1 {
-                    row.fsp
-                } else {
-                    row.supplier
-                }
+                if kind == 1 { row.fsp } else { row.supplier }
             }
             _ => any,
         };

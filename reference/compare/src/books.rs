@@ -5,11 +5,7 @@ use reference::random::Random;
 use reference::settle_cases;
 
 pub fn random_book(random: &mut Random) -> Book {
-    if random.once_in(3) {
-        settle_cases::random_book(random)
-    } else {
-        full_book(random)
-    }
+    if random.once_in(3) { settle_cases::random_book(random) } else { full_book(random) }
 }
 
 /// A book with readings everywhere, whose points share access points, companies and parties.

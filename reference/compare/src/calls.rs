@@ -2,7 +2,7 @@
 
 use reference::refusal::Refusal;
 
-extern "C" {
+unsafe extern "C" {
     fn toe_settle(book: *const u8, book_length: usize, rows: *mut i64, rows_length: usize) -> u64;
     fn toe_sheet(book: *const u8, book_length: usize, party: u16, sums: *mut i64, sums_length: usize) -> u64;
     fn toe_file(

@@ -15,7 +15,7 @@ pub struct Lent<T> {
 
 impl<T: Copy + PartialEq + Debug> Lent<T> {
     pub fn new(random: &mut Random, length: usize, from: fn(u64) -> T) -> Lent<T> {
-        let before: Vec<T> = (0..length + BEHIND).map(|_| from(random.next())).collect();
+        let before: Vec<T> = (0..length + BEHIND).map(|_| from(random.number())).collect();
         Lent { now: before.clone(), before, length }
     }
 

@@ -8,15 +8,34 @@ mod pool;
 mod quick;
 mod timing;
 
-fn argument(index: usize, otherwise: u64) -> u64 {
-    std::env::args().nth(index).map_or(otherwise, |word| word.parse().expect("a number"))
+use std::process::ExitCode;
+
+const USAGE: &str =
+    "usage: compare agree [SEED [ROUNDS]]  all five calls on random and damaged input; 1 and 2000 if not given
+       compare timing                 settling against one in Rust that keeps each point's day sums
+       compare files                  a month's whole set of files of a pool of 180 points
+see ../README.md
+";
+
+fn main() -> ExitCode {
+    let words: Vec<String> = std::env::args().skip(1).collect();
+    let words: Vec<&str> = words.iter().map(String::as_str).collect();
+    if run(&words).is_none() {
+        eprint!("{USAGE}");
+        return ExitCode::from(2);
+    }
+    ExitCode::SUCCESS
 }
 
-fn main() {
-    match std::env::args().nth(1).as_deref() {
-        Some("agree") => agree::run(argument(2, 1), argument(3, 2000) as usize),
-        Some("timing") => timing::run(),
-        Some("files") => pool::run(),
-        _ => panic!("no such command; see ../README.md"),
+/// Does what these words ask for; none if they ask for nothing.
+fn run(words: &[&str]) -> Option<()> {
+    match words {
+        ["agree"] => agree::run(1, 2000),
+        ["agree", seed] => agree::run(seed.parse().ok()?, 2000),
+        ["agree", seed, rounds] => agree::run(seed.parse().ok()?, rounds.parse().ok()?),
+        ["timing"] => timing::run(),
+        ["files"] => pool::run(),
+        _ => return None,
     }
+    Some(())
 }

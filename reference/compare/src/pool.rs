@@ -2,20 +2,22 @@
 
 use crate::calls::{self, Named};
 use reference::book::{Book, Engagement};
-use reference::examples::{june, CASE_F_ID, CASE_F_MOMENT};
+use reference::examples::{CASE_F_ID, CASE_F_MOMENT, june};
 use reference::random::Random;
 use reference::series;
 use std::time::Instant;
 
 const LONG: usize = 1 << 24;
 
-/// Points with three reference days, so that most baselines end in a third of a watt, of some suppliers and FSPs.
+/// Points with three reference days, so that most baselines end in a third of a watt. Suppliers take turns; FSP and situation are
+/// drawn for each point, one in three pass-through, so that a supplier has points of every FSP and an FSP of every supplier.
 fn pool(points: u16, suppliers: u64, providers: u64, engagements: usize, count: u8) -> Book {
     let mut random = Random::new(2);
     let mut book = june(3, points, 3, 3);
     for (index, row) in book.register.iter_mut().enumerate() {
-        (row.supplier, row.fsp) = (1 + index as u64 % suppliers, 100 + index as u64 % providers);
-        row.situation = if index % 3 == 2 { 1 } else { 0 };
+        row.supplier = 1 + index as u64 % suppliers;
+        row.fsp = 100 + random.range(0, providers as i64 - 1) as u64;
+        row.situation = random.once_in(3) as u8;
     }
     for watts in book.readings.iter_mut().flatten() {
         *watts = random.range(0, 6000) as i32;

@@ -2,7 +2,7 @@
 //! it, and keeps the day sums of the point that it is at, so that a day's sum over any quarter-hours is one difference.
 
 use reference::calendar::{book_days, is_clock_change, month_length};
-use reference::refusal::{refused, Refusal};
+use reference::refusal::{Refusal, refused};
 use std::collections::HashMap;
 
 const GRAINS_PER_WATT: i64 = 30_240;
