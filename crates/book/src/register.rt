@@ -10,7 +10,7 @@ ghost use lib.Dec.{ltb};
 ghost use lib.ListN.{length};
 ghost use Rattle.integers.specs.First.{first, anyBelow};
 ghost use Rattle.book.specs.Judged.{foundAt};
-ghost use Rattle.book.specs.Register.{situationOf, supplyOf, methodOf, takersOf, isKnown, pointOf, pointAt, deliveryIn, registerRow, excludes, numbersGood, bytesGood, notAbove, differs, badPoint};
+ghost use Rattle.book.specs.Register.{situationOf, supplyOf, methodOf, takersOf, isKnown, pointOf, pointAt, excludes, numbersGood, bytesGood, notAbove, differs, badPoint};
 
 // The file kinds that take a delivery point: 01 and 02, 03, none; or no situation at all.
 pub enum Takers {
@@ -113,7 +113,7 @@ pub fn excludes(mask: u64, day: u32) -> bool
     requires { ⌜ day < 64 ⌝ }
     ensures { λ r. ⌜ r ≡ excludes mask day ⌝ }
 {
-    (mask >> day) % 2 == 1
+    (mask >> day) & 1 == 1
 }
 
 // Bits from `days` up are 0.
