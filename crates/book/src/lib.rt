@@ -21,6 +21,14 @@ pub enum Situation {
     NetInjector,
 }
 
+// The file kinds that take a delivery point: 01 and 02, 03, none; or no situation at all.
+pub enum Takers {
+    Aggregated,
+    Individual,
+    Neither,
+    Refused,
+}
+
 pub enum Supply {
     OffTake,
     Injection,
@@ -53,6 +61,7 @@ pub struct Point {
     pub sourceparty: u16,
     pub fspparty: u16,
     pub situation: Situation,
+    pub takers: Takers,
     pub supply: Supply,
     pub method: Method,
 }
