@@ -48,7 +48,7 @@ use Rattle.reports.specs.SeriesSums.{byPosition, cellAt, grainsTo, volum
 
 -- ---- kinds and directions
 
--- what files that sum up leave, the others take; and "the rest appear in none"
+-- files are aggregated or individual; and "the rest appear in none"
 pub individual-is : (kind : Kind) → takenBy kind Individual ≡ not (takenBy kind Aggregated)
 unfolding takenBy
 individual-is Toe01 = refl

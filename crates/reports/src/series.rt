@@ -37,7 +37,7 @@ ghost use Rattle.reports.specs.FileRows.{supplyNumber, deliveryNumber, o
 ghost use Rattle.reports.specs.SeriesSumsWritten.{observationIf, observationsIn, seriesIn, seriesIf};
 ghost use Rattle.reports.specs.SeriesSums.{byPosition, cellAt, volumeIn, added, Addable, Parts, Parted, SettledIn};
 
-// Whether a kind's files sum up over delivery points, and so take transfer points.
+// Whether a kind's files are aggregated: those take transfer points, and the individual ones pass-through points.
 fn is_aggregated(kind: Kind) -> bool
     ensures { λ r. ⌜ r ≡ takenBy kind Aggregated ⌝ }
 {
@@ -48,7 +48,7 @@ fn is_aggregated(kind: Kind) -> bool
     }
 }
 
-// Whether a kind's files take a point, by its situation's byte.
+// Whether a kind's files take a point, by what its situation's byte said.
 pub fn takes(kind: Kind, takers: Takers) -> bool
     ensures { λ r. ⌜ r ≡ takenBy kind takers ⌝ }
 {

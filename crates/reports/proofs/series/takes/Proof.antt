@@ -1,4 +1,4 @@
--- Transfer points by the files that sum up, pass-through points by the others, the rest in none.
+-- Transfer points in aggregated files, pass-through points in individual ones, the rest in none.
 use mathlib.Core.Path.{sym, ap, _∙_}
 use mathlib.Core.Bool.{not}
 use borrow.Author.Needs.{needs}
