@@ -13,8 +13,8 @@ use Rattle.book.specs.declared.Supply.the-variants.{OffTake, Injection}
 use Rattle.book.specs.declared.Method.{Method}
 use Rattle.book.specs.declared.Method.the-variants.{LastQuarter, HighXOfY, Adjusted}
 use Rattle.book.specs.declared.Point.{Point}
-use Rattle.book.specs.declared.register.Takers.{Takers}
-use Rattle.book.specs.declared.register.Takers.the-variants.{Aggregated, Individual, Neither, Refused}
+use Rattle.book.specs.declared.Takers.{Takers}
+use Rattle.book.specs.declared.Takers.the-variants.{Aggregated, Individual, Neither, Refused}
 
 -- "situation (0 transfer, 1 pass-through, 2 opt-out, 3 net injector)"
 abbrev pub situationOf : ℕ → Situation
@@ -100,6 +100,7 @@ pointOf row =
       sourceparty = sourcePartyIn row;
       fspparty = fspPartyIn row;
       situation = situationOf (situationIn row);
+      takers = takersOf (situationIn row);
       supply = supplyOf (supplyIn row);
       method = methodOf (methodIn row);
     }

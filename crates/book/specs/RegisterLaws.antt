@@ -11,7 +11,7 @@ use Rattle.book.specs.Register.{situationOf, takersOf, isKnown, supplyOf
 use Rattle.book.specs.declared.Situation.the-variants.{NetInjector}
 use Rattle.book.specs.declared.Supply.the-variants.{Injection}
 use Rattle.book.specs.declared.Method.the-variants.{Adjusted}
-use Rattle.book.specs.declared.register.Takers.the-variants.{Refused}
+use Rattle.book.specs.declared.Takers.the-variants.{Refused}
 
 -- the last case of each byte
 pub supply-else : (n : ℕ) → (n ≡ 0 → ⊥) → Injection ≡ supplyOf n

@@ -28,7 +28,8 @@ fn judge_rows(
     }
     let quarters = crate::header::quarters_of(c) as usize;
     if let Found::At(i) = crate::metering::judge_readings(readings, quarters * points) {
-        return Judged::Readings(i / quarters);
+        let point = i / quarters;
+        return Judged::Readings(point);
     }
     if let Found::At(row) = crate::engagements::judge_engagements(engagements, rows, c, points) {
         return Judged::Engagements(row);

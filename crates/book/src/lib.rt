@@ -21,6 +21,14 @@ pub enum Situation {
     NetInjector,
 }
 
+// The file kinds that take a delivery point: 01 and 02, 03, none; or no situation at all.
+pub enum Takers {
+    Aggregated,
+    Individual,
+    Neither,
+    Refused,
+}
+
 pub enum Supply {
     OffTake,
     Injection,
@@ -52,7 +60,9 @@ pub struct Point {
     // The balance parties.
     pub sourceparty: u16,
     pub fspparty: u16,
+    // The situation, and by the same byte the file kinds that take the point.
     pub situation: Situation,
+    pub takers: Takers,
     pub supply: Supply,
     pub method: Method,
 }

@@ -1,23 +1,11 @@
 // Section 4: the readings.
-use crate::Calendar;
 use crate::Found;
-use wire::Reading;
 ghost use mathlib.Core.Path.{_≡_};
-ghost use Prim.Native.Nat.{_+_, _*_, _≤_, _<_};
+ghost use Prim.Native.Nat.{_*_, _≤_};
 ghost use lib.ListN.{length};
 ghost use Rattle.integers.specs.First.{first};
-ghost use Rattle.book.specs.Calendars.{quartersOf, Ranged};
 ghost use Rattle.book.specs.Judged.{foundAt};
-ghost use Rattle.book.specs.Metering.{meterAt, isOutside, badReading};
-
-// The reading of point p at quarter-hour k of the calendar.
-pub fn reading_of(readings: &[u8], c: Calendar, p: usize, k: usize) -> Reading
-    requires { ⌜ Ranged c × (p < 256) × (4 * (quartersOf c * p + k) + 4 ≤ length (now readings)) ⌝ }
-    ensures { λ r. ⌜ r ≡ meterAt c (now (readings .entry)) p k ⌝ }
-{
-    let before = (crate::header::quarters_of(c) as usize) * p;
-    wire::reading_at(readings, before + k)
-}
+ghost use Rattle.book.specs.Metering.{isOutside, badReading};
 
 // A raised reading is there, and more than 10^9 watts off.
 fn outside(raised: u32) -> bool

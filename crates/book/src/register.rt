@@ -4,21 +4,14 @@ use crate::Method;
 use crate::Point;
 use crate::Situation;
 use crate::Supply;
+use crate::Takers;
 ghost use mathlib.Core.Path.{_≡_};
 ghost use Prim.Native.Nat.{_+_, _*_, _^_, _≤_, _<_};
 ghost use lib.Dec.{ltb};
 ghost use lib.ListN.{length};
 ghost use Rattle.integers.specs.First.{first, anyBelow};
 ghost use Rattle.book.specs.Judged.{foundAt};
-ghost use Rattle.book.specs.Register.{situationOf, supplyOf, methodOf, takersOf, isKnown, pointOf, pointAt, deliveryIn, registerRow, excludes, numbersGood, bytesGood, notAbove, differs, badPoint};
-
-// The file kinds that take a delivery point: 01 and 02, 03, none; or no situation at all.
-pub enum Takers {
-    Aggregated,
-    Individual,
-    Neither,
-    Refused,
-}
+ghost use Rattle.book.specs.Register.{situationOf, supplyOf, methodOf, takersOf, isKnown, pointOf, pointAt, excludes, numbersGood, bytesGood, notAbove, differs, badPoint};
 
 // The situation's byte decides which file kinds take the point.
 pub fn takers_of(situation: u8) -> Takers
@@ -79,7 +72,9 @@ fn point_of(row: &[u8]) -> Point
     requires { ⌜ 64 ≤ length (now row) ⌝ }
     ensures { λ r. ⌜ r ≡ pointOf (now (row .entry)) ⌝ }
 {
-    let situation = situation_of(wire::u8_at(row, 52));
+    let byte = wire::u8_at(row, 52);
+    let situation = situation_of(byte);
+    let takers = takers_of(byte);
     let supply = supply_of(wire::u8_at(row, 53));
     let method = method_of(wire::u8_at(row, 54));
     Point {
@@ -93,6 +88,7 @@ fn point_of(row: &[u8]) -> Point
         sourceparty: wire::u16_at(row, 48),
         fspparty: wire::u16_at(row, 50),
         situation,
+        takers,
         supply,
         method,
     }
@@ -113,7 +109,7 @@ pub fn excludes(mask: u64, day: u32) -> bool
     requires { ⌜ day < 64 ⌝ }
     ensures { λ r. ⌜ r ≡ excludes mask day ⌝ }
 {
-    (mask >> day) % 2 == 1
+    (mask >> day) & 1 == 1
 }
 
 // Bits from `days` up are 0.

@@ -323,20 +323,12 @@ october-has y lead =
     rw (has-clock-change y 10 lead, own-month y 10 lead (lit≤ tt) (lit≤ tt))
     (or-true (inCalendar y 10 lead (marchSunday y)))
 
--- the test of a clock-change day, March first
-pub clock-change-yes : (y m lead k : ℕ) → marchSunday y + lead ≡ dayNumber y m 1 + k → clockChange y m lead k ≡ true
-unfolding clockChange marchChange octoberChange
-clock-change-yes y m lead k e = rw (eq-eqb (marchSunday y + lead) (dayNumber y m 1 + k) e)
-
-pub clock-change-no : (y m lead k : ℕ) → (marchSunday y + lead ≡ dayNumber y m 1 + k → ⊥) → clockChange y m lead k ≡ eqb (octoberSunday y + lead) (dayNumber y m 1 + k)
-unfolding clockChange marchChange octoberChange
-clock-change-no y m lead k e = rw (ne-eqb (marchSunday y + lead) (dayNumber y m 1 + k) e)
-
 -- the day on which the clocks change, of whatever year, is one by the definition
 pub march-of-any-year : (y m lead k z : ℕ) → 1 ≤ y → 1 ≤ z → 1 ≤ m → m ≤ 12 → lead ≤ 33 → k < calendarDays y m lead → marchSunday z + lead ≡ dayNumber y m 1 + k → clockChange y m lead k ≡ true
+unfolding clockChange marchChange
 march-of-any-year y m lead k z hy hz h l few below day =
     let own : z ≡ y = own-year y m lead k z (marchSunday z) hy hz h l few below (march-inner z) day in
-    clock-change-yes y m lead k (rw own at day)
+    rw (eq-eqb (marchSunday y + lead) (dayNumber y m 1 + k) (rw own at day))
 
 pub october-of-any-year : (y m lead k z : ℕ) → 1 ≤ y → 1 ≤ z → 1 ≤ m → m ≤ 12 → lead ≤ 33 → k < calendarDays y m lead → octoberSunday z + lead ≡ dayNumber y m 1 + k → clockChange y m lead k ≡ true
 unfolding clockChange octoberChange

@@ -3,7 +3,7 @@ ghost use mathlib.Core.Path.{_≡_};
 ghost use mathlib.Core.Bool.{_&&_};
 ghost use Prim.Native.Nat.{_≤_};
 ghost use lib.Dec.{leb, ltb};
-ghost use Rattle.calendar.specs.Dates.{IsMonth, leap, monthLength, daysBeforeYear, daysBeforeMonth, dayNumber, weekday, lastSunday, marchSunday, octoberSunday, offsetHours, calendarDays, clockChange, hasClockChange, nextYear, nextMonth};
+ghost use Rattle.calendar.specs.Dates.{IsMonth, leap, monthLength, daysBeforeYear, daysBeforeMonth, dayNumber, weekday, lastSunday, marchSunday, octoberSunday, offsetHours, calendarDays, hasClockChange, nextYear, nextMonth};
 
 // Whether a year has a 29 February.
 pub fn is_leap(year: u64) -> bool
@@ -124,20 +124,6 @@ pub fn calendar_days(year: u64, month: u64, lead: u64) -> u64
     ensures { λ r. ⌜ r ≡ calendarDays year month lead ⌝ }
 {
     lead + month_length(year, month)
-}
-
-// Whether the clocks change on day `day` of the calendar.
-pub fn clock_change(year: u64, month: u64, lead: u64, day: u64) -> bool
-    requires { ⌜ IsMonth year month × (lead ≤ 255) × (day ≤ 65535) ⌝ }
-    ensures { λ r. ⌜ r ≡ clockChange year month lead day ⌝ }
-{
-    let number = day_number(year, month, 1) + day;
-    let march = march_sunday(year) + lead;
-    if march == number {
-        return true;
-    }
-    let october = october_sunday(year) + lead;
-    october == number
 }
 
 // Whether the clocks change on some day of the calendar.

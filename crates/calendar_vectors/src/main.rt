@@ -30,18 +30,22 @@ fn month_name(year: u64, month: u64) {
     number(month);
 }
 
-// The day of the month on which the clocks change, or 0. With a lead of 1 the day of the month is the day of the
-// calendar.
+// The day of the month on which the clocks change, or 0, as refusal 3 finds it: the month alone is a calendar with that
+// day, and so is the next month with a lead that reaches back to it, and with none shorter.
 fn change(year: u64, month: u64) -> u64
-    requires { ⌜ IsMonth year month ⌝ }
+    requires { ⌜ IsMonth year month × (year ≤ 2099) ⌝ }
 {
+    if !dates::has_clock_change(year, month, 0) {
+        return 0;
+    }
+    let next = dates::next_month(year, month);
     let days = dates::month_length(year, month);
-    let mut day = 1;
-    while day <= days {
-        if dates::clock_change(year, month, 1, day) {
-            return day;
+    let mut lead = 0;
+    while lead < days {
+        lead += 1;
+        if dates::has_clock_change(next.year, next.month, lead) {
+            return days + 1 - lead;
         }
-        day += 1;
     }
     0
 }

@@ -1,11 +1,9 @@
-// Reading and writing the parts of a text of fixed form. A reader takes a mark and gives one: the place behind what it read, or none.
+// Reading the parts of a text of fixed form. A reader takes a mark and gives one: the place behind what it read, or none.
 // So what is made of such readers is a straight line, and a place that is missing stays missing to its end.
 ghost use mathlib.Core.Path.{_≡_};
-ghost use mathlib.Core.List.{[], _∷_, _++_};
+ghost use mathlib.Core.List.{[], _∷_};
 ghost use Prim.Native.Nat.{_+_, _≤_};
 ghost use lib.ListN.{length, drop};
-ghost use Rattle.text.specs.Decimal.{plain};
-ghost use Rattle.text.specs.Written.{Wrote};
 ghost use Rattle.formats.specs.Combine.{strip};
 ghost use Rattle.formats.specs.Words.{wordsParse};
 ghost use Rattle.formats.specs.Exactly.{fixedDigits};
@@ -202,14 +200,4 @@ pub fn name(s: &[u8], m: Mark, least: usize, most: usize, stop: u8) -> Mark
     }
     let t = [stop];
     tag(s, Mark::At(e), &t)
-}
-
-// Writes v without leading zeros and the byte that ends it; answers the place behind them.
-pub fn put_number(out: &mut [u8], at: usize, v: u64, stop: u8) -> usize
-    requires { ⌜ at + length (plain v) + 1 ≤ length (now out) ⌝ }
-    ensures { λ r. ⌜ Wrote (now (out .entry)) at (plain v ++ (stop ∷ [])) (now (out .exit)) r ⌝ }
-{
-    let p = text::put_plain(out, at, v);
-    out[p] = stop;
-    p + 1
 }

@@ -19,7 +19,7 @@ use Rattle.integers.specs.Running.{upTo, floorAt, floorAt-cong}
 use Rattle.integers.specs.Z.{up, dn, inside}
 use Rattle.integers.specs.Sums.{naturals, sumBy, sumOf, sum-append}
 use Rattle.grains.specs.Grains.{perWatt}
-use Rattle.book.specs.declared.Situation.the-variants.{OptOut, NetInjector}
+use Rattle.book.specs.declared.Takers.the-variants.{Aggregated, Individual, Neither, Refused}
 use Rattle.book.specs.declared.Supply.{Supply}
 use Rattle.book.specs.declared.Supply.the-variants.{OffTake, Injection}
 use Rattle.book.specs.declared.Direction.{Direction}
@@ -34,7 +34,7 @@ use Rattle.volumes.specs.QuartersLaws.{map-range-cong, flatMap-append, position
 use Rattle.volumes.specs.Settlement.{delivered, rowWidth, row, rowsOf, rows, rowCount}
 use Rattle.volumes.specs.SettlementLaws.{row-length, rowsOf-length, rows-length-of, rows-length, passing}
 use Rattle.volumes.specs.Sheets.{startPosition, covers, quarterAt}
-use Rattle.volumes.specs.Series.{Kind, Toe01, Toe02, Toe03, takes, Series, sameSupply, sameDirection, isEngagement, grainsOf, grainsAt, seriesWatts}
+use Rattle.volumes.specs.Series.{Kind, Toe01, Toe02, Toe03, takenBy, Series, sameSupply, sameDirection, isEngagement, grainsOf, grainsAt, seriesWatts}
 use Rattle.volumes.specs.Baseline.{pointOf}
 use Rattle.volumes.specs.Sound.{Placed}
 use Rattle.volumes.specs.SoundLaws.{sound}
@@ -48,18 +48,24 @@ use Rattle.reports.specs.SeriesSums.{byPosition, cellAt, grainsTo, volum
 
 -- ---- kinds and directions
 
--- "the rest appear in none"
-pub takes-no-opt-out : (kind : Kind) → takes kind OptOut ≡ false
-unfolding takes
-takes-no-opt-out Toe01 = refl
-takes-no-opt-out Toe02 = refl
-takes-no-opt-out Toe03 = refl
+-- files are aggregated or individual; and "the rest appear in none"
+pub individual-is : (kind : Kind) → takenBy kind Individual ≡ not (takenBy kind Aggregated)
+unfolding takenBy
+individual-is Toe01 = refl
+individual-is Toe02 = refl
+individual-is Toe03 = refl
 
-pub takes-no-injector : (kind : Kind) → takes kind NetInjector ≡ false
-unfolding takes
-takes-no-injector Toe01 = refl
-takes-no-injector Toe02 = refl
-takes-no-injector Toe03 = refl
+pub takes-neither : (kind : Kind) → takenBy kind Neither ≡ false
+unfolding takenBy
+takes-neither Toe01 = refl
+takes-neither Toe02 = refl
+takes-neither Toe03 = refl
+
+pub takes-refused : (kind : Kind) → takenBy kind Refused ≡ false
+unfolding takenBy
+takes-refused Toe01 = refl
+takes-refused Toe02 = refl
+takes-refused Toe03 = refl
 
 -- what isn't the one direction is the other
 pub injection-is : (a : Supply) → sameSupply a Injection ≡ not (sameSupply a OffTake)

@@ -3,7 +3,7 @@ use book::Point;
 use kinds::Kind;
 ghost use mathlib.Core.Path.{_≡_};
 ghost use mathlib.Core.List.{map};
-ghost use Rattle.volumes.specs.Series.{receiverOf};
+ghost use Rattle.volumes.specs.Series.{Told, receiverOf};
 ghost use Rattle.message.specs.Calls.{kindNumbered};
 ghost use Rattle.reports.specs.FileRows.{isTaken};
 ghost use Rattle.reports.specs.Calls.{stands};
@@ -48,10 +48,11 @@ pub fn in_role(register: &[u8], kind: Kind, receiver: u64) -> bool
 
 // Whether a kind's files take the point, and it has the receiver.
 fn is_taken(kind: Kind, receiver: u64, point: Point) -> bool
+    requires { ⌜ Told point ⌝ }
     ensures { λ r. ⌜ r ≡ isTaken kind receiver point ⌝ }
 {
-    let situation = point.situation;
-    crate::series::takes(kind, situation) & (crate::series::receiver_of(kind, point) == receiver)
+    let takers = point.takers;
+    crate::series::takes(kind, takers) & (crate::series::receiver_of(kind, point) == receiver)
 }
 
 // The nearer of two: a taken point's partner that is not below `low`, if it is below `next`.

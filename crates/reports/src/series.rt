@@ -3,8 +3,8 @@ use book::Calendar;
 use book::Direction;
 use book::Engagement;
 use book::Point;
-use book::Situation;
 use book::Supply;
+use book::Takers;
 use formats::Mark;
 use grains::Grains;
 use kinds::Kind;
@@ -22,14 +22,14 @@ ghost use Rattle.integers.specs.Z.{up, dn};
 ghost use Rattle.grains.specs.Grains.{perWatt};
 ghost use Rattle.book.specs.declared.Supply.the-variants.{OffTake};
 ghost use Rattle.book.specs.declared.Direction.the-variants.{Up};
-ghost use Rattle.book.specs.declared.Situation.the-variants.{Transfer, PassThrough};
+ghost use Rattle.book.specs.declared.Takers.the-variants.{Aggregated};
 ghost use Rattle.book.specs.declared.Direction.{Direction};
 ghost use Rattle.book.specs.Calendars.{Ranged};
 ghost use Rattle.book.specs.Register.{pointAt};
 ghost use Rattle.book.specs.Book.{Book, bookOf};
 ghost use Rattle.volumes.specs.Quarters.{monthQuarters};
 ghost use Rattle.volumes.specs.Baseline.{pointOf};
-ghost use Rattle.volumes.specs.Series.{takes, receiverOf, partnerOf, sameSupply, sameDirection, isPoint, isEngagement, grainsAt, seriesWatts};
+ghost use Rattle.volumes.specs.Series.{takenBy, Told, receiverOf, partnerOf, sameSupply, sameDirection, isPoint, isEngagement, grainsAt, seriesWatts};
 ghost use Rattle.volumes.specs.SeriesLaws.{seriesOf};
 ghost use Rattle.message.specs.Bytes.{observationBytes, seriesBytes};
 ghost use Rattle.writer.specs.WriterLaid.{Laid, Stands};
@@ -37,9 +37,9 @@ ghost use Rattle.reports.specs.FileRows.{supplyNumber, deliveryNumber, o
 ghost use Rattle.reports.specs.SeriesSumsWritten.{observationIf, observationsIn, seriesIn, seriesIf};
 ghost use Rattle.reports.specs.SeriesSums.{byPosition, cellAt, volumeIn, added, Addable, Parts, Parted, SettledIn};
 
-// Whether a kind's files take transfer points, and pass-through points.
-fn takes_transfer(kind: Kind) -> bool
-    ensures { λ r. ⌜ r ≡ takes kind Transfer ⌝ }
+// Whether a kind's files are aggregated: those take transfer points, and the individual ones pass-through points.
+fn is_aggregated(kind: Kind) -> bool
+    ensures { λ r. ⌜ r ≡ takenBy kind Aggregated ⌝ }
 {
     match kind {
         Kind::Toe01 => true,
@@ -48,25 +48,16 @@ fn takes_transfer(kind: Kind) -> bool
     }
 }
 
-fn takes_pass_through(kind: Kind) -> bool
-    ensures { λ r. ⌜ r ≡ takes kind PassThrough ⌝ }
+// Whether a kind's files take a point, by what its situation's byte said.
+pub fn takes(kind: Kind, takers: Takers) -> bool
+    ensures { λ r. ⌜ r ≡ takenBy kind takers ⌝ }
 {
-    match kind {
-        Kind::Toe01 => false,
-        Kind::Toe02 => false,
-        Kind::Toe03 => true,
-    }
-}
-
-// Whether a kind's files take a point of this situation.
-pub fn takes(kind: Kind, situation: Situation) -> bool
-    ensures { λ r. ⌜ r ≡ takes kind situation ⌝ }
-{
-    match situation {
-        Situation::Transfer => takes_transfer(kind),
-        Situation::PassThrough => takes_pass_through(kind),
-        Situation::OptOut => false,
-        Situation::NetInjector => false,
+    let aggregated = is_aggregated(kind);
+    match takers {
+        Takers::Aggregated => aggregated,
+        Takers::Individual => !aggregated,
+        Takers::Neither => false,
+        Takers::Refused => false,
     }
 }
 
@@ -131,11 +122,12 @@ fn same_direction(a: Direction, b: Direction) -> bool
 
 // A point of the series, whatever its delivery direction: taken, with the receiver, the partner and the supply direction.
 pub fn is_point(kind: Kind, receiver: u64, partner: u64, supply: Supply, point: Point) -> bool
+    requires { ⌜ Told point ⌝ }
     ensures { λ r. ⌜ ((d : Direction) → r ≡ isPoint kind receiver (seriesOf partner supply d) point) ⌝ }
 {
-    let situation = point.situation;
+    let takers = point.takers;
     let own = point.supply;
-    takes(kind, situation)
+    takes(kind, takers)
         & ((receiver_of(kind, point) == receiver)
             & ((partner_of(kind, point) == partner) & same_supply(own, supply)))
 }
@@ -150,6 +142,7 @@ pub fn is_engagement(
     point: Point,
     e: Engagement,
 ) -> bool
+    requires { ⌜ Told point ⌝ }
     ensures { λ r. ⌜ ((b : Book) → point ≡ pointOf b e → r ≡ isEngagement b kind receiver (seriesOf partner supply delivery) e) ⌝ }
 {
     let direction = e.direction;

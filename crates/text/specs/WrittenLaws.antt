@@ -95,17 +95,6 @@ and-then {d} {at} {a} {b} {out} {out′} {p} {p′} v w =
       list = w .list ∙ ap (λ (o : List ℕ). written o p b) (v .list) ∙ ap (λ (k : ℕ). written (written d at a) k b) n ∙ written-both d at a b (omega arith);
     }
 
--- one element more
-pub wrote-one : {d : List ℕ} {at : ℕ} {bs out : List ℕ} {p : ℕ} (x : ℕ) → Wrote d at bs out p → p < length d → Wrote d at (bs ++ (x ∷ [])) (set out p x) (p + 1)
-wrote-one {d} {at} {bs} {out} {p} x w h =
-    let n = w .behind in
-    let l = length-append bs (x ∷ []) in
-    record {
-      room = omega arith;
-      behind = omega arith;
-      list = ap (λ (o : List ℕ). set o p x) (w .list) ∙ ap (λ (k : ℕ). set (written d at bs) k x) n ∙ written-snoc d at bs x (omega arith);
-    }
-
 pub wrote-none : (d : List ℕ) (at : ℕ) → at ≤ length d → Wrote d at [] d at
 wrote-none d at h = record { room = omega arith; behind = omega arith; list = sym (written-nil d at) }
 

@@ -11,6 +11,7 @@ use Rattle.wire.specs.declared.Reading.{Reading}
 use Rattle.wire.specs.declared.Reading.the-variants.{Watts, Missing}
 use Rattle.grains.specs.Grains.{grainsZ, share}
 use Rattle.book.specs.declared.Situation.the-variants.{OptOut}
+use Rattle.book.specs.declared.Takers.the-variants.{Neither}
 use Rattle.book.specs.declared.Supply.the-variants.{OffTake}
 use Rattle.book.specs.declared.Method.{Method}
 use Rattle.book.specs.declared.Method.the-variants.{LastQuarter, HighXOfY, Adjusted}
@@ -35,6 +36,7 @@ noPoint =
       sourceparty = 0;
       fspparty = 0;
       situation = OptOut;
+      takers = Neither;
       supply = OffTake;
       method = LastQuarter;
     }

@@ -124,7 +124,7 @@ module _ (book : Book) (e : Engagement) (low : 1 ≤ xOf book e) (most : xOf boo
       ∙ ap₂ _-ℤ_ (sym (mul-mul (mean (ownWindow book e)) 12 (xOf book e)) ∙ ap (λ z. z *ℤ pos (xOf book e)) own ∙ mul-swap (sumZ watts (ownWindow book e)) perWatt (xOf book e)) days
       ∙ sym (dif-mul (sumZ watts (ownWindow book e) *ℤ pos (xOf book e)) (sumZ (λ d. sumZ watts (dayWindow book e d)) (taken book e)) perWatt)
 
--- the baselines of an engagement, added up, are the mean of the X largest day sums
+-- the baselines of an engagement, added up, are the mean of the X largest day sums; for bounds on them, by LargestLaws (C-22)
 pub high-sum : (book : Book) (e : Engagement) → length (taken book e) ≡ xOf book e → sumZ (high book e) (quarterHours e) ≡ sumOfLargest (daySum book e) (xOf book e) (latest book e) *ℤ pos (share (xOf book e))
 unfolding high mean sumOfLargest taken daySum dayReadings
 high-sum book e all =

@@ -11,6 +11,7 @@ use Rattle.wire.specs.declared.Reading.{Reading}
 use Rattle.wire.specs.declared.Reading.the-variants.{Watts, Missing}
 use Rattle.grains.specs.Grains.{grains}
 use Rattle.book.specs.declared.Situation.the-variants.{Transfer}
+use Rattle.book.specs.declared.Takers.the-variants.{Aggregated}
 use Rattle.book.specs.declared.Supply.the-variants.{OffTake}
 use Rattle.book.specs.declared.Method.{Method}
 use Rattle.book.specs.declared.Method.the-variants.{LastQuarter, HighXOfY, Adjusted}
@@ -45,6 +46,7 @@ pointFor source fsp ean method most =
       sourceparty = source;
       fspparty = fsp;
       situation = Transfer;
+      takers = Aggregated;
       supply = OffTake;
       method = method;
     }

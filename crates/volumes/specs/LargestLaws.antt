@@ -1,4 +1,6 @@
 -- The sum of the n largest, by recursion: it grows with the keys, and by no more than all keys together do.
+-- No code needs it. It is for bounds on baselines: with readings that are known within bounds, the mean of the X largest is too (`largest-grows`, C-16); and
+-- one corrected reading moves an engagement's baselines together by no more than its own mean's share (`largest-within` with `high-sum`, C-22).
 use mathlib.Core.Path.{_≡_, refl, sym, ap, _∙_}
 use mathlib.Core.Logic.{⊎-elim}
 use mathlib.Core.Bool.{Bool, true, false, cond}

@@ -20,6 +20,5 @@ pub mod LargestLaws
 pub mod BookLaws
 pub mod SoundLaws
 pub mod WidthsLaws
-pub mod RaisedLaws
 pub mod RunningLaws
 pub mod ExamplesLaws

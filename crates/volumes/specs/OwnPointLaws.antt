@@ -1,4 +1,6 @@
 -- An engagement's numbers and refusal depend on its own point, that point's readings and the tables alone.
+-- No code needs it: it says that an engagement that comes or goes leaves the rows of other points as they are (C-19), and that a provider's volumes are the same
+-- whatever else the register holds (C-21).
 use mathlib.Core.Path.{_≡_, refl, ap, ap₂}
 use mathlib.Core.Bool.{cond}
 use mathlib.Core.List.{[], _∷_, _++_, map}

@@ -16,6 +16,6 @@ unfoldable pub ranked {ℓ} : {A : Type ℓ} → (A → ℤ) → List A → List
 ranked key [] = []
 ranked key (a ∷ l) = insert key a (ranked key l)
 
--- the sum of the n largest
+-- the sum of the n largest, of which LargestLaws speaks
 unfoldable pub sumOfLargest {ℓ} : {A : Type ℓ} → (A → ℤ) → ℕ → List A → ℤ
 sumOfLargest key n l = sumZ key (take n (ranked key l))

@@ -1,8 +1,8 @@
 -- A series' watts add up to its grains rounded down once, a pair's TOE01 and TOE02 series are the same, and a kind takes what the register says.
 use mathlib.Core.Path.{_≡_, refl, ap, _∙_}
 use mathlib.Core.Bool.{Bool, true, false, cond, _&&_}
-use Prim.Native.Nat.{ℕ, zero, suc, _≤_}
-use native.Mathlib.Omega.{arith}
+use mathlib.Core.List.{List}
+use Prim.Native.Nat.{ℕ, zero, suc}
 use lib.Dec.{eqb}
 use Rattle.integers.specs.Sums.{naturals, sum-all}
 use Rattle.integers.specs.Running.{upTo, telescope, floorAt-cong}
@@ -12,52 +12,39 @@ use Rattle.book.specs.declared.Situation.the-variants.{Transfer, PassThrough, O
 use Rattle.book.specs.declared.Supply.{Supply}
 use Rattle.book.specs.declared.Direction.{Direction}
 use Rattle.book.specs.declared.Point.{Point}
-use Rattle.book.specs.declared.register.Takers.{Takers}
-use Rattle.book.specs.declared.register.Takers.the-variants.{Aggregated, Individual, Neither, Refused}
-use Rattle.book.specs.Register.{situationOf, takersOf}
+use Rattle.book.specs.Register.{situationOf, takersOf, situationIn, registerRow, pointAt}
 use Rattle.book.specs.Book.{Book}
 use Rattle.volumes.specs.Baseline.{pointOf}
 use Rattle.volumes.specs.Settlement.{delivered}
 use Rattle.volumes.specs.Sheets.{covers, quarterAt}
-use Rattle.volumes.specs.Series.{Kind, Toe01, Toe02, Toe03, takes, receiverOf, partnerOf, Series, sameSupply, sameDirection, isPoint, isEngagement, grainsOf, grainsAt, seriesWatts}
+use Rattle.volumes.specs.Series.{Kind, Toe01, Toe02, Toe03, takes, takenBy, Told, receiverOf, partnerOf, Series, sameSupply, sameDirection, isPoint, isEngagement, grainsOf, grainsAt, seriesWatts}
 
 -- up to each position: "the series' grains up to it, over 30,240 rounded down"
 pub series-prefix : (book : Book) (kind : Kind) (receiver : ℕ) (s : Series) (p : ℕ) → upTo (seriesWatts book kind receiver s) p ≡ wholeWatts (upTo (grainsAt book kind receiver s) p)
 unfolding seriesWatts
 series-prefix book kind receiver s p = telescope perWatt (grainsAt book kind receiver s) p
 
--- the files that take a point, by the register's byte
-unfoldable pub takenBy : Kind → Takers → Bool
-takenBy Toe01 Aggregated = true
-takenBy Toe01 Individual = false
-takenBy Toe01 Neither = false
-takenBy Toe01 Refused = false
-takenBy Toe02 Aggregated = true
-takenBy Toe02 Individual = false
-takenBy Toe02 Neither = false
-takenBy Toe02 Refused = false
-takenBy Toe03 Aggregated = false
-takenBy Toe03 Individual = true
-takenBy Toe03 Neither = false
-takenBy Toe03 Refused = false
-
-pub takes-by : (kind : Kind) (n : ℕ) → n ≤ 3 → takes kind (situationOf n) ≡ takenBy kind (takersOf n)
+-- a register row's takers are those of its situation, for every byte: of one that is no situation, none
+takes-by : (kind : Kind) (n : ℕ) → takenBy kind (takersOf n) ≡ takes kind (situationOf n)
 unfolding takes takenBy
-takes-by Toe01 zero h = refl
-takes-by Toe01 (suc zero) h = refl
-takes-by Toe01 (suc (suc zero)) h = refl
-takes-by Toe01 (suc (suc (suc zero))) h = refl
-takes-by Toe01 (suc (suc (suc (suc n)))) h = absurd (omega arith)
-takes-by Toe02 zero h = refl
-takes-by Toe02 (suc zero) h = refl
-takes-by Toe02 (suc (suc zero)) h = refl
-takes-by Toe02 (suc (suc (suc zero))) h = refl
-takes-by Toe02 (suc (suc (suc (suc n)))) h = absurd (omega arith)
-takes-by Toe03 zero h = refl
-takes-by Toe03 (suc zero) h = refl
-takes-by Toe03 (suc (suc zero)) h = refl
-takes-by Toe03 (suc (suc (suc zero))) h = refl
-takes-by Toe03 (suc (suc (suc (suc n)))) h = absurd (omega arith)
+takes-by Toe01 zero = refl
+takes-by Toe01 (suc zero) = refl
+takes-by Toe01 (suc (suc zero)) = refl
+takes-by Toe01 (suc (suc (suc zero))) = refl
+takes-by Toe01 (suc (suc (suc (suc n)))) = refl
+takes-by Toe02 zero = refl
+takes-by Toe02 (suc zero) = refl
+takes-by Toe02 (suc (suc zero)) = refl
+takes-by Toe02 (suc (suc (suc zero))) = refl
+takes-by Toe02 (suc (suc (suc (suc n)))) = refl
+takes-by Toe03 zero = refl
+takes-by Toe03 (suc zero) = refl
+takes-by Toe03 (suc (suc zero)) = refl
+takes-by Toe03 (suc (suc (suc zero))) = refl
+takes-by Toe03 (suc (suc (suc (suc n)))) = refl
+
+pub told-at : (register : List ℕ) (i : ℕ) → Told (pointAt register i)
+told-at register i = record { law = λ kind. takes-by kind (situationIn (registerRow register i)) }
 
 -- FSP f by supplier s, and supplier s by FSP f: the same points, grains and watts
 abbrev pub seriesOf : ℕ → Supply → Direction → Series

@@ -4,12 +4,11 @@ use mathlib.Core.Bool.{Bool, true, false}
 use Prim.Native.Nat.{ℕ, suc, _+_, _-_, _%_, _^_, _<_}
 use native.Mathlib.Omega.{arith}
 use lib.Dec.{eqb, ltb}
-use lib.IntN.{ℤ, pos, negsuc, _-ℤ_}
-use mir.Syntax.{w32, w64}
+use lib.IntN.{ℤ, pos, negsuc}
+use mir.Syntax.{w32}
 use mir.Val.{toZ}
-use mir.ValLaws.{toZ-pos}
-use borrow.Author.Tests.{eqb-true, eqb-false, ne-eqb, ltb-true, ltb-false}
-use Rattle.integers.specs.Z.{sum, dif, eqZ, Over, Within, low, high}
+use borrow.Author.Tests.{eqb-true, eqb-false, ltb-true, ltb-false}
+use Rattle.integers.specs.Z.{sum, Over, Within, low, high}
 use Rattle.wire.specs.Readings.{readingOf, missingIf, raised}
 use Rattle.wire.specs.declared.Reading.the-variants.{Watts, Missing}
 
@@ -22,22 +21,6 @@ raised-over (negsuc w) h = go (eqb (suc w) 2147483648) refl
     go : (b : Bool) → eqb (suc w) 2147483648 ≡ b → Over 2147483648 (negsuc w) (raised (missingIf b (Watts (negsuc w))))
     go true e = record { law = omega (arith, eqb-true (suc w) 2147483648 e) }
     go false e = record { law = omega (arith, h .below, sum (negsuc w) (pos 2147483648)) }
-
--- the bits n as a reading, in the lower half, at its end and above it
-pub low-watts : (n : ℕ) → n < 2147483648 → readingOf (toZ w32 n) ≡ Watts (toZ w64 n)
-unfolding readingOf
-low-watts n h = rw (toZ-pos w32 n h, toZ-pos w64 n (omega arith))
-
-pub no-watts : (n : ℕ) → n ≡ 2147483648 → readingOf (toZ w32 n) ≡ Missing
-unfolding readingOf
-no-watts n e = rw e
-
-pub high-watts : (n : ℕ) → 2147483648 < n → n < 4294967296 → readingOf (toZ w32 n) ≡ Watts (toZ w64 n -ℤ pos 4294967296)
-unfolding readingOf
-high-watts n h k =
-    let e : toZ w64 n -ℤ pos 4294967296 ≡ negsuc (4294967295 - n) = eqZ (toZ w64 n -ℤ pos 4294967296) (negsuc (4294967295 - n)) (omega (arith, low w64 n (omega arith), dif (toZ w64 n) (pos 4294967296))) in
-    let f : toZ w32 n ≡ negsuc (4294967295 - n) = eqZ (toZ w32 n) (negsuc (4294967295 - n)) (omega (arith, high w32 n (omega arith) k)) in
-    rw (e, f, ne-eqb (suc (4294967295 - n)) 2147483648 (λ q. omega arith))
 
 -- a number of 32 bits, with its sign
 pub in-range : (n : ℕ) → n < 4294967296 → Within (toZ w32 n) 2147483648

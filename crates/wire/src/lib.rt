@@ -1,9 +1,9 @@
-// Numbers out of bytes: unsigned ones of 1, 2, 4 and 8 bytes, the least byte first, and the signed reading of 4.
+// Numbers out of bytes: unsigned ones of 1, 2, 4 and 8 bytes, the least byte first, and a reading of 4, raised.
 ghost use mathlib.Core.Path.{_≡_};
 ghost use Prim.Native.Nat.{_+_, _*_, _≤_};
 ghost use lib.ListN.{length};
 ghost use Rattle.wire.specs.Numbers.{numberAt};
-ghost use Rattle.wire.specs.Readings.{readingAt, Raised};
+ghost use Rattle.wire.specs.Readings.{Raised};
 
 pub fn u8_at(s: &[u8], at: usize) -> u8
     requires { ⌜ at + 1 ≤ length (now s) ⌝ }
@@ -33,28 +33,13 @@ pub fn u64_at(s: &[u8], at: usize) -> u64
     (u32_at(s, at) as u64) + 4294967296 * (u32_at(s, at + 4) as u64)
 }
 
-// A reading: watts, off-take positive, or none.
+// A reading as the definitions speak of it: watts, off-take positive, or none. Code has it raised.
 pub enum Reading {
     Watts(i64),
     Missing,
 }
 
-// Reading `i` of the readings that `s` holds.
-pub fn reading_at(s: &[u8], i: usize) -> Reading
-    requires { ⌜ 4 * i + 4 ≤ length (now s) ⌝ }
-    ensures { λ r. ⌜ r ≡ readingAt (now (s .entry)) i ⌝ }
-{
-    let bits = u32_at(s, 4 * i);
-    if bits < 2147483648 {
-        return Reading::Watts(bits as i64);
-    }
-    if bits == 2147483648 {
-        return Reading::Missing;
-    }
-    Reading::Watts(bits as i64 - 4294967296)
-}
-
-// The same reading without a sign: its watts plus 2^31, and 0 where it is missing.
+// Reading `i` of the readings that `s` holds, without a sign: its watts plus 2^31, and 0 where it is missing.
 pub fn raised_at(s: &[u8], i: usize) -> u32
     requires { ⌜ 4 * i + 4 ≤ length (now s) ⌝ }
     ensures { λ r. ⌜ Raised (now (s .entry)) i r ⌝ }

@@ -61,8 +61,8 @@ judge-readings-requires c κs = let s = c .before .before .before .before .befor
 enum-known-i : tie.Need-enum-known-i
 enum-known-i c = search needs
 
-div-t16 : tie.Need-div-t16
-div-t16 c = let s = c .before .before .before .before .before .before .before .before .before .before .before .before in
+div-point : tie.Need-div-point
+div-point c = let s = c .before .before .before .before .before .before .before .before .before .before .before .before in
     omega (arith, quarters-some (s .args .c) (s .pre .0), c .before .before .before .before .quarters-of .ensures)
 
 returns-2 : tie.Need-returns-2
@@ -103,7 +103,7 @@ judge-rows-spec =
     mul-judge-readings
     judge-readings-requires
     enum-known-i
-    div-t16
+    div-point
     returns-2
     enum-told-2
     judge-engagements-requires

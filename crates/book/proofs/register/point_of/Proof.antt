@@ -1,7 +1,6 @@
--- Each field is the number that its bytes say.
+-- Each field is the number that its bytes say; situation and takers come from one byte.
 use mathlib.Core.Path.{ap, _∙_}
-use Rattle.book.specs.Register.{situationOf, supplyOf, methodOf}
--- Each field is the number that its bytes say.
+use Rattle.book.specs.Register.{situationOf, takersOf, supplyOf, methodOf}
 use borrow.Author.Needs.{needs}
 use Rattle.book.proofs.register.point_of.Statement.{statement}
 use Rattle.book.proofs.register.point_of.Tie as tie
@@ -11,6 +10,9 @@ u8-at-requires c κs = search needs
 
 situation-of-requires : tie.Need-situation-of-requires
 situation-of-requires c κs = search needs
+
+takers-of-requires : tie.Need-takers-of-requires
+takers-of-requires c κs = search needs
 
 u8-at-requires-2 : tie.Need-u8-at-requires-2
 u8-at-requires-2 c κs = search needs
@@ -53,6 +55,10 @@ u16-at-requires-2 c κs = search needs
 
 returns : tie.Need-returns
 returns c = λ i.
+    let method = c .before .before .before .before .before .before .before .before .before in
+    let supply = method .before .before in
+    let takers = supply .before .before in
+    let byte = takers .before .before in
     record {
       delivery = c .before .before .before .before .before .before .before .before .u64-at .ensures i;
       access = c .before .before .before .before .before .before .before .u64-at2 .ensures i;
@@ -63,9 +69,10 @@ returns c = λ i.
       downward = c .before .before .u32-at2 .ensures i;
       sourceparty = c .before .u16-at .ensures i;
       fspparty = c .u16-at2 .ensures i;
-      situation = (c .before .before .before .before .before .before .before .before .before .before .before .before .before .situation-of .ensures ∙ ap situationOf (c .before .before .before .before .before .before .before .before .before .before .before .before .before .before .u8-at .ensures)) i;
-      supply = (c .before .before .before .before .before .before .before .before .before .before .before .supply-of .ensures ∙ ap supplyOf (c .before .before .before .before .before .before .before .before .before .before .before .before .u8-at2 .ensures)) i;
-      method = (c .before .before .before .before .before .before .before .before .before .method-of .ensures ∙ ap methodOf (c .before .before .before .before .before .before .before .before .before .before .u8-at3 .ensures)) i;
+      situation = (takers .before .situation-of .ensures ∙ ap situationOf (byte .u8-at .ensures)) i;
+      takers = (takers .takers-of .ensures ∙ ap takersOf (byte .u8-at .ensures)) i;
+      supply = (supply .supply-of .ensures ∙ ap supplyOf (supply .before .u8-at2 .ensures)) i;
+      method = (method .method-of .ensures ∙ ap methodOf (method .before .u8-at3 .ensures)) i;
     }
 
 pub point-of-spec : {M : Type 1} → statement M
@@ -74,6 +81,7 @@ point-of-spec =
     (tie.spec
     u8-at-requires
     situation-of-requires
+    takers-of-requires
     u8-at-requires-2
     supply-of-requires
     u8-at-requires-3

@@ -1,4 +1,5 @@
--- The definition, test by test.
+-- The definition, test by test; the point's takers are those of its situation.
+use mathlib.Core.Path.{_∙_}
 use Rattle.reports.specs.FileRows.{isTaken}
 use borrow.Author.Needs.{needs}
 use Rattle.reports.proofs.partners.is_taken.Statement.{statement}
@@ -12,7 +13,9 @@ receiver-of-requires c κs = search needs
 
 returns : tie.Need-returns
 unfolding isTaken
-returns c = rw (c .before .takes .ensures, c .receiver-of .ensures)
+returns c =
+    let start = c .before .before in
+    rw (c .before .takes .ensures ∙ start .pre .law (start .args .kind), c .receiver-of .ensures)
 
 pub is-taken-spec : {M : Type 1} → statement M
 is-taken-spec = tie.close (tie.spec takes-requires receiver-of-requires returns)

@@ -4,6 +4,7 @@ use Prim.Native.Nat.{_-_, _≤_}
 use borrow.Author.Needs.{needs}
 use Rattle.settlement.specs.Sections.{pointCountIn}
 use Rattle.volumes.specs.Series.{partnerOf}
+use Rattle.volumes.specs.SeriesLaws.{told-at}
 use Rattle.reports.specs.FileRows.{isTaken}
 use Rattle.reports.specs.PartnersLaws.{Scanned, nearer, scanned-none, scanned-more, scanned-all}
 use Rattle.reports.proofs.partners.next_partner.Statement.{statement}
@@ -25,7 +26,9 @@ partner-of-requires : tie.Need-partner-of-requires Inv-loop μ-loop
 partner-of-requires c κs = search needs
 
 is-taken-requires : tie.Need-is-taken-requires Inv-loop μ-loop
-is-taken-requires c κs = search needs
+is-taken-requires c κs =
+    let l = c .before .before .before in
+    rw (c .before .point-at .ensures) (told-at (l .before .before .args .register .now) (l .loop .i))
 
 nearer-requires : tie.Need-nearer-requires Inv-loop μ-loop
 nearer-requires c κs = search needs

@@ -1,5 +1,5 @@
--- The four tests of the definition.
-use mathlib.Core.Path.{ap, ap₂}
+-- The four tests of the definition; the point's takers are those of its situation.
+use mathlib.Core.Path.{ap, ap₂, _∙_}
 use mathlib.Core.Bool.{_&&_}
 use Prim.Native.Nat.{ℕ}
 use lib.Dec.{eqb}
@@ -23,8 +23,9 @@ same-supply-requires c κs = search needs
 returns : tie.Need-returns
 unfolding isPoint
 returns c = λ d.
-    let a = c .before .before .before .before .args in
-    ap₂ _&&_ (c .before .before .before .takes .ensures) (ap₂ _&&_ (ap (λ (n : ℕ). eqb n (a .receiver)) (c .before .before .receiver-of .ensures)) (ap₂ _&&_ (ap (λ (n : ℕ). eqb n (a .partner)) (c .before .partner-of .ensures)) (c .same-supply .ensures)))
+    let start = c .before .before .before .before in
+    let a = start .args in
+    ap₂ _&&_ (c .before .before .before .takes .ensures ∙ start .pre .law (a .kind)) (ap₂ _&&_ (ap (λ (n : ℕ). eqb n (a .receiver)) (c .before .before .receiver-of .ensures)) (ap₂ _&&_ (ap (λ (n : ℕ). eqb n (a .partner)) (c .before .partner-of .ensures)) (c .same-supply .ensures)))
 
 pub is-point-spec : {M : Type 1} → statement M
 is-point-spec =

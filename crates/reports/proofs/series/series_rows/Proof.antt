@@ -1,6 +1,7 @@
--- By the test that tells the series' engagements.
+-- By the test that tells the series' engagements; the point is one of the register.
 use mathlib.Core.Path.{sym, _∙_}
 use borrow.Author.Needs.{needs}
+use Rattle.volumes.specs.SeriesLaws.{told-at}
 use Rattle.reports.proofs.series.series_rows.Statement.{statement}
 use Rattle.reports.proofs.series.series_rows.Tie as tie
 
@@ -11,7 +12,9 @@ point-at-requires : tie.Need-point-at-requires
 point-at-requires c κs = search needs
 
 is-engagement-requires : tie.Need-is-engagement-requires
-is-engagement-requires c κs = search needs
+is-engagement-requires c κs =
+    let a = c .before .before .before .args in
+    rw (c .point-at .ensures) (told-at (a .register .now) (a .e .point))
 
 cast-result : tie.Need-cast-result
 cast-result c = search needs

@@ -1,8 +1,8 @@
 -- The definition's own cases.
 use borrow.Author.Needs.{needs}
-use Rattle.volumes.specs.Series.{takes}
-use Rattle.reports.proofs.series.takes_transfer.Statement.{statement}
-use Rattle.reports.proofs.series.takes_transfer.Tie as tie
+use Rattle.volumes.specs.Series.{takenBy}
+use Rattle.reports.proofs.series.is_aggregated.Statement.{statement}
+use Rattle.reports.proofs.series.is_aggregated.Tie as tie
 
 enum-told : tie.Need-enum-told
 enum-told c = search needs
@@ -14,17 +14,17 @@ enum-told-3 : tie.Need-enum-told-3
 enum-told-3 c = search needs
 
 returns : tie.Need-returns
-unfolding takes
+unfolding takenBy
 returns c = rw (c .enum-told .given .1)
 
 returns-2 : tie.Need-returns-2
-unfolding takes
+unfolding takenBy
 returns-2 c = rw (c .enum-told2 .given .1)
 
 returns-3 : tie.Need-returns-3
-unfolding takes
+unfolding takenBy
 returns-3 c = rw (c .enum-told3 .given .1)
 
-pub takes-transfer-spec : {M : Type 1} → statement M
-takes-transfer-spec =
+pub is-aggregated-spec : {M : Type 1} → statement M
+is-aggregated-spec =
     tie.close (tie.spec enum-told enum-told-2 enum-told-3 returns returns-2 returns-3)
