@@ -24,13 +24,13 @@ pub struct FileFacts {
 // What reading a file answers: what it says, or a number and an item of document 01.
 pub enum ReadAnswer {
     File(FileFacts),
-    Refused(u8, usize),
+    Refused(u64, usize),
 }
 
 // What writing from rows answers: the bytes that it filled, or a number and an item.
 pub enum WriteAnswer {
     Bytes(usize),
-    Refused(u8, usize),
+    Refused(u64, usize),
 }
 
 // The last position of a month.

@@ -28,9 +28,6 @@ put-facts-requires c κs = search needs
 enum-known-answer-2 : tie.Need-enum-known-answer-2
 enum-known-answer-2 c = search needs
 
-cast-refusal-code : tie.Need-cast-refusal-code
-cast-refusal-code c = search needs
-
 refusal-code-requires : tie.Need-refusal-code-requires
 refusal-code-requires c κs = read-small (rw (c .before .answer2 .given .1) at (c .before .before .before .before .before .read .ensures))
 
@@ -66,7 +63,6 @@ toe-read-spec =
     enum-known-answer
     put-facts-requires
     enum-known-answer-2
-    cast-refusal-code
     refusal-code-requires
     same-length
     same-length-2
