@@ -8,6 +8,7 @@ ghost use Rattle.formats.specs.Place.{Within, Parsed, left};
 ghost use Rattle.moments.specs.Moments.{momentBytes};
 ghost use Rattle.message.specs.Valid.{isMoment, lastPosition};
 ghost use Rattle.message.specs.ObservationForm.{isPeriod};
+ghost use Rattle.message.specs.Exact.{ReaderExact};
 
 // What a file says beside its rows, their number, and where in the file its ID and its moment stand.
 pub struct FileFacts {
@@ -82,3 +83,8 @@ pub fn moment_at(s: &[u8], m: Mark) -> Mark
     };
     Mark::At(p + 29)
 }
+
+// That the file reader accepts exactly the files of our form. It does nothing: what it ensures has to be proved.
+pub fn reader_is_exact()
+    ensures { λ r. ⌜ ReaderExact ⌝ }
+{}
