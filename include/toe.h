@@ -4,8 +4,9 @@
  * reads and writes the lent memory alone, keeps nothing, and needs no start. Memory that is written must not
  * overlap other lent memory; a buffer of length 0 needs an aligned pointer that is not null.
  *
- * An answer below TOE_REFUSED is a count. Any other is a refusal: its number and its item are those of document
- * 01, "What is sent back". A refusal changes no buffer; an acceptance changes only the places of its answer.
+ * An answer below TOE_REFUSED is a count (of toe_write: where fewer bytes than 2^63 are lent). Any other is a refusal:
+ * TOE_NUMBER and TOE_ITEM are its number and its item in document 01, "What is sent back". A refusal changes no
+ * buffer; an acceptance changes only the places of its answer.
  */
 #ifndef TOE_H
 #define TOE_H
