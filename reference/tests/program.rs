@@ -1,6 +1,7 @@
 //! What the program and the program that runs its stored cases are run on and held to is what this crate makes.
 
 use reference::examples::{case_f, CASE_F_FILE, CASE_F_ID, CASE_F_MOMENT};
+use reference::program;
 use reference::report_cases;
 
 fn stored(program: &str, name: &str) -> Vec<u8> {
@@ -19,4 +20,13 @@ fn toe_vectors() {
     let cases = report_cases::program_cases_text();
     assert!(stored("toe_vectors", "stdin") == cases.as_bytes());
     assert!(stored("toe_vectors", "stdout") == report_cases::program_answers(&cases).as_bytes());
+}
+
+/// A good input of the greatest length, and bytes behind it that `toe` doesn't read to their end.
+#[test]
+fn toe_long() {
+    let input = stored("toe_long", "stdin");
+    assert!(input.len() > 65537);
+    assert!(program::output(&input[..65536]).starts_with(b"<AggregatedToEVolumesForFSP>"));
+    assert!(stored("toe_long", "stdout") == program::output(&input));
 }
