@@ -13,7 +13,7 @@ use Rattle.message.specs.FileForm.{file}
 use Rattle.message.specs.Rows.{Message, contents, message, IsMessage}
 use Rattle.message.specs.MessageForm.{message-recast}
 use Rattle.message.specs.FileLaws.{messageBytes, readMessage, written-is-read, read-is-written, refused-is-none}
-use Rattle.message.specs.Calls.{factsOf, ReadCalled}
+use Rattle.message.specs.Calls.{ReadCalled}
 use Rattle.message.specs.CallsLaws.{says-no-file, says-file, refused-is}
 use Rattle.message.specs.Exact.{OfValidFile, ReaderExact}
 
@@ -41,8 +41,8 @@ pub reader-exact : ReaderExact
 unfolding message
 reader-exact =
     record {
-      no-file-refused = λ f ok before after r c e.
+      valid-not-refused = λ f ok before after r c e.
           refused-is-none (fileBytes f) (refused-is (fileBytes f) before after (subst (ReadCalled (fileBytes f) before after) e c)) (message f) (by-rows f ok) (sym (same-bytes f ok));
-      files-accepted = λ f ok before after r c h. c .answer ∙ sym (says-file (fileBytes f) (length before) (message f) [] (is-read f ok) h);
-      only-files = read-of;
+      valid-accepted = λ f ok before after r c h. c .answer ∙ sym (says-file (fileBytes f) (length before) (message f) [] (is-read f ok) h);
+      only-valid = read-of;
     }

@@ -1,19 +1,18 @@
 -- How long a valid file is: a row takes at least 69 and at most 86 bytes, a partner beside its rows at most 1,769, and the rest at most 302.
 use mathlib.Core.Path.{_≡_, refl}
 use mathlib.Core.Bool.{Bool, true, false, _&&_}
-use mathlib.Core.List.{List, [], _∷_, _++_, map, flatMap}
-use Prim.Native.Nat.{ℕ, zero, suc, _+_, _*_, _/_, _%_, _^_, _≤_, _<_}
-use Prim.Native.String.{String}
+use mathlib.Core.List.{List, [], _∷_, map, flatMap}
+use Prim.Native.Nat.{ℕ, zero, suc, _+_, _*_, _/_, _^_, _≤_, _<_}
 use lib.Dec.{leb}
 use lib.ListN.{length, length-append, length-map}
 use native.Mathlib.Omega.{arith}
 use borrow.Author.Tests.{leb-true, leb-false}
 use Rattle.text.specs.Ascii.{bytes}
-use Rattle.text.specs.Decimal.{above, count, fixed, plain}
+use Rattle.text.specs.Decimal.{count, fixed, plain}
 use Rattle.text.specs.DecimalLaws.{above-none, below-within, length-fixed, length-plain, plain-has}
 use Rattle.formats.specs.Words.{wordAt}
 use Rattle.formats.specs.Rising.{rises, All, all-map, and-left, and-right}
-use Rattle.moments.specs.Moments.{momentBytes, periodStart, periodEnd}
+use Rattle.moments.specs.Moments.{periodStart, periodEnd}
 use Rattle.moments.specs.MomentsLaws.{length-moment}
 use Rattle.moments.specs.Ids.{isTransactionId}
 use Rattle.formats.specs.Name.{nameByte, each}
@@ -21,11 +20,11 @@ use Rattle.kinds.specs.declared.Kind.{Kind}
 use Rattle.kinds.specs.declared.Kind.the-variants.{Toe01, Toe02, Toe03}
 use Rattle.message.specs.Contents.{Observation, Series, Partner, File, place}
 use Rattle.message.specs.Bytes.{opening, ending, closing, element, root, counter, group, partner, digits, quantityBytes, observationBytes, periodBytes, supplies, deliveries, supplyBytes, volumeBytes, inSeries, withPartner, seriesBytes, supplyOf, partnerBytes, fileBytes}
-use Rattle.message.specs.Valid.{most, lastPosition, IsObservation, IsVolume, IsSeries, IsPartner, IsFile}
+use Rattle.message.specs.Valid.{most, lastPosition, IsObservation, IsSeries, IsPartner, IsFile}
 use Rattle.message.specs.SeriesForm.{position-small}
 use Rattle.message.specs.FileForm.{moment-length}
 use Rattle.message.specs.Group.{spread}
-use Rattle.message.specs.Rows.{Row, seriesRows, partnerRows, rowsOf}
+use Rattle.message.specs.Rows.{seriesRows, partnerRows, rowsOf}
 
 -- ---- numbers
 

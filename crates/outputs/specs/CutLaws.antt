@@ -13,7 +13,7 @@ use Rattle.formats.specs.Format.{Res, got, bad}
 use Rattle.formats.specs.FormatLaws.{got-bad, sound-of}
 use Rattle.requests.specs.Line.{Words, line}
 use Rattle.requests.specs.LineLaws.{line-length}
-use Rattle.outputs.specs.Output.{inputMost, inputRead, refusedLine, refusalFor, judged, fileIn, output}
+use Rattle.outputs.specs.Output.{inputMost, inputRead, refusedLine, refusalFor, output}
 
 -- ---- the line of a part of the input
 

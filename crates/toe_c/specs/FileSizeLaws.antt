@@ -1,16 +1,15 @@
 -- A file has at most as many observations as its book has settlement rows: where a series has watts at a position, one of its engagements
 -- covers it, and an engagement is of one series at most. So the file that a book gives is at most `fileMost` bytes long.
-use mathlib.Core.Path.{_≡_, refl, sym, ap, _∙_}
+use mathlib.Core.Path.{_≡_, refl, _∙_}
 use mathlib.Core.Bool.{Bool, true, false, cond, _&&_}
-use mathlib.Core.List.{List, [], _∷_, map, flatMap, List·Memᴰ}
+use mathlib.Core.List.{List, [], _∷_, map, flatMap}
 use mathlib.Core.Option.{Option, none, some}
-use Prim.Native.Nat.{ℕ, zero, suc, _+_, _-_, _*_, _/_, _≤_, _<_}
+use Prim.Native.Nat.{ℕ, zero, suc, _+_, _-_, _*_, _/_, _≤_}
 use lib.Dec.{eqb, leb, ltb}
 use lib.ListN.{length}
 use native.Mathlib.Omega.{arith}
-use borrow.Author.Tests.{lt-ltb, leb-true, leb-false, ltb-true, ltb-false}
+use borrow.Author.Tests.{lt-ltb, leb-true, ltb-true}
 use Rattle.integers.specs.Counts.{times, times-mem}
-use Rattle.integers.specs.Once.{Once}
 use Rattle.integers.specs.Ranges.{range}
 use Rattle.integers.specs.Running.{upTo, floorAt}
 use Rattle.integers.specs.Sums.{naturals, sumBy, sumOf, sum-zero, sum-all, sum-swap, sum-once, sum-absent}
@@ -26,16 +25,15 @@ use Rattle.book.specs.Refusals.{Refusal}
 use Rattle.book.specs.Book.{Book, bookOf}
 use Rattle.volumes.specs.Quarters.{monthQuarters}
 use Rattle.volumes.specs.Baseline.{pointOf}
-use Rattle.volumes.specs.Settlement.{delivered, rowWidth, rowCount, orElse, bookRefusal}
+use Rattle.volumes.specs.Settlement.{delivered, rowCount, orElse, bookRefusal}
 use Rattle.volumes.specs.Sound.{Sound}
 use Rattle.volumes.specs.SoundLaws.{never, sound}
 use Rattle.volumes.specs.Sheets.{startPosition, covers, quarterAt}
 use Rattle.volumes.specs.Series.{Kind, takes, receiverOf, partnerOf, Series, sameSupply, sameDirection, isPoint, isEngagement, grainsOf, grainsAt, seriesWatts}
 use Rattle.volumes.specs.SeriesLaws.{seriesOf}
 use Rattle.volumes.specs.SettlementLaws.{passing}
-use Rattle.message.specs.Contents.{Observation, Series as TimeSeries, Partner, File}
-use Rattle.message.specs.Bytes.{fileBytes}
-use Rattle.message.specs.Valid.{IsObservation, IsSeries, IsPartner, IsFile}
+use Rattle.message.specs.Contents.{Partner}
+use Rattle.message.specs.Valid.{IsPartner}
 use Rattle.message.specs.Months.{all-append}
 use Rattle.message.specs.Group.{spread}
 use Rattle.message.specs.Rows.{Row, seriesRows, partnerRows, rowsOf}

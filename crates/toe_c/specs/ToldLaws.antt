@@ -1,6 +1,5 @@
 -- A count is below 2^63 and a refusal's code is not, so that every answer tells which it is: for each of the five calls.
 use mathlib.Core.Path.{_≡_, refl, sym, ap, subst, _∙_}
-use mathlib.Core.Bool.{true}
 use mathlib.Core.List.{List}
 use mathlib.Core.Option.{Option, none, some}
 use Prim.Native.Nat.{ℕ, _^_, _≤_, _<_}
@@ -9,9 +8,9 @@ use native.Mathlib.Omega.{arith}
 use Rattle.book.specs.Refusals.{Refusal}
 use Rattle.book.specs.Book.{bookOf}
 use Rattle.volumes.specs.Quarters.{monthQuarters}
-use Rattle.volumes.specs.Settlement.{rowCount, orElse, bookRefusal, settlingRefusal}
+use Rattle.volumes.specs.Settlement.{rowCount, bookRefusal, settlingRefusal}
 use Rattle.volumes.specs.SettlementLaws.{passing}
-use Rattle.volumes.specs.SoundLaws.{never, sound}
+use Rattle.volumes.specs.SoundLaws.{sound}
 use Rattle.settlement.specs.Settling.{answerBy}
 use Rattle.message.specs.Rows.{Message}
 use Rattle.message.specs.FileLaws.{readMessage}
@@ -21,7 +20,7 @@ use Rattle.writer.specs.WriteCalls.{writeVerdict, WriteCalled}
 use Rattle.reports.specs.Calls.{sheetRefusal, sheetSays, sheetAnswer, textOf, fileRefusal, fileSays, fileAnswer}
 use Rattle.reports.specs.EmissionLaws.{rows-most}
 use Rattle.reports.specs.SeriesSumsWrittenLaws.{month-most}
-use Rattle.toe_c.specs.Codes.{refusalCode, Tells, VerdictTells, settleCode, sheetCode, fileCode, readCode, writeCode, withFacts, codedVerdict}
+use Rattle.toe_c.specs.Codes.{Tells, VerdictTells, settleCode, sheetCode, fileCode, readCode, writeCode, codedVerdict}
 use Rattle.toe_c.specs.SmallLaws.{AllSmall, VerdictSmall, RowsRoom, decoded, settling-small, sheet-judged, file-judged, verdict-written, read-judged, facts-judged}
 use Rattle.toe_c.specs.FileSizeLaws.{first-none, file-few}
 
