@@ -1,7 +1,6 @@
 //! What the program and the program that runs its stored cases are run on and held to is what this crate makes.
 
 use reference::examples::{case_f, CASE_F_FILE, CASE_F_ID, CASE_F_MOMENT};
-use reference::program;
 use reference::report_cases;
 
 fn stored(program: &str, name: &str) -> Vec<u8> {
@@ -27,6 +26,6 @@ fn toe_vectors() {
 fn toe_long() {
     let input = stored("toe_long", "stdin");
     assert!(input.len() > 65537);
-    assert!(program::output(&input[..65536]).starts_with(b"<AggregatedToEVolumesForFSP>"));
-    assert!(stored("toe_long", "stdout") == program::output(&input));
+    assert!(reference::program::output(&input[..65536]).starts_with(b"<AggregatedToEVolumesForFSP>"));
+    assert!(stored("toe_long", "stdout") == reference::program::output(&input));
 }
