@@ -20,3 +20,12 @@ fn toe_vectors() {
     assert!(stored("toe_vectors", "stdin") == cases.as_bytes());
     assert!(stored("toe_vectors", "stdout") == report_cases::program_answers(&cases).as_bytes());
 }
+
+/// A good input of the greatest length, and bytes behind it that `toe` doesn't read to their end.
+#[test]
+fn toe_long() {
+    let input = stored("toe_long", "stdin");
+    assert!(input.len() > 65537);
+    assert!(reference::program::output(&input[..65536]).starts_with(b"<AggregatedToEVolumesForFSP>"));
+    assert!(stored("toe_long", "stdout") == reference::program::output(&input));
+}

@@ -18,4 +18,7 @@ pub mod MessageForm
 pub mod FileLaws
 pub mod Calls
 pub mod CallsLaws
+pub mod Exact
+pub mod ExactLaws
+pub mod SizeLaws
 pub mod CaseFRead

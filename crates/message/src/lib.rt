@@ -8,6 +8,7 @@ ghost use Rattle.formats.specs.Place.{Within, Parsed, left};
 ghost use Rattle.moments.specs.Moments.{momentBytes};
 ghost use Rattle.message.specs.Valid.{isMoment, lastPosition};
 ghost use Rattle.message.specs.ObservationForm.{isPeriod};
+ghost use Rattle.message.specs.Exact.{ReaderExact};
 
 // What a file says beside its rows, their number, and where in the file its ID and its moment stand.
 pub struct FileFacts {
@@ -24,13 +25,13 @@ pub struct FileFacts {
 // What reading a file answers: what it says, or a number and an item of document 01.
 pub enum ReadAnswer {
     File(FileFacts),
-    Refused(u8, usize),
+    Refused(u64, usize),
 }
 
 // What writing from rows answers: the bytes that it filled, or a number and an item.
 pub enum WriteAnswer {
     Bytes(usize),
-    Refused(u8, usize),
+    Refused(u64, usize),
 }
 
 // The last position of a month.
@@ -82,3 +83,8 @@ pub fn moment_at(s: &[u8], m: Mark) -> Mark
     };
     Mark::At(p + 29)
 }
+
+// That the file reader accepts exactly the files of our form. It does nothing: what it ensures has to be proved.
+pub fn reader_is_exact()
+    ensures { λ r. ⌜ ReaderExact ⌝ }
+{}

@@ -101,7 +101,7 @@ fn read_file(file: &[u8], rows: &mut [u64], lent: usize, again: &mut [u8])
     match answer {
         ReadAnswer::File(facts) => answer_file(facts, file, rows, again),
         ReadAnswer::Refused(number, item) => {
-            cases::answers::refused(number as u64, item as u64);
+            cases::answers::refused(number, item as u64);
             kept_numbers(rows);
         }
     }

@@ -123,7 +123,7 @@ fn write_rows(
     match answer {
         WriteAnswer::Bytes(n) => answer_bytes(head, rows, id, moment, file, n, from, to, again),
         WriteAnswer::Refused(number, item) => {
-            cases::answers::refused(number as u64, item as u64);
+            cases::answers::refused(number, item as u64);
             cases::lent::kept_bytes(file);
         }
     }

@@ -5,7 +5,7 @@ use mathlib.Core.Option.{Option, none, some}
 use Prim.Native.Nat.{ℕ}
 use lib.Dec.{leb}
 use lib.IntN.{ℤ}
-use lib.ListN.{length}
+use lib.ListN.{length, take}
 use Rattle.text.specs.Ascii.{bytes}
 use Rattle.text.specs.Decimal.{plain}
 use Rattle.formats.specs.Format.{Res, got, bad}
@@ -19,6 +19,10 @@ use Rattle.message.specs.Calls.{kindNumbered}
 -- "at most 65,536 bytes in all", "The program's rows buffer has 8,192 numbers, its file buffer 65,536 bytes."
 abbrev pub inputMost : ℕ
 inputMost = 65536
+
+-- how much of its input the program reads: one byte more than that, so that a longer one is noticed
+abbrev pub inputRead : ℕ
+inputRead = 65537
 
 abbrev pub rowsLent : ℕ
 rowsLent = 8192
@@ -59,6 +63,10 @@ rowsIn (got w book) = rows (bookOf book)
 -- what the program prints
 unfoldable pub output : List ℕ → List ℕ
 output input = printed (judged (length input) (line .parse input)) (fileIn (line .parse input))
+
+-- for every input, what the program prints for the part that it reads is what it prints for the whole
+abbrev pub CutAlike : Type 0
+CutAlike = (input : List ℕ) → output (take inputRead input) ≡ output input
 
 -- what the program's function leaves: the output in front of its file buffer, and the rows that the file call fills
 pub record Printed (input : List ℕ) (rowsBefore rowsAfter : List ℤ) (before after : List ℕ) (count : ℕ) : Type 0 where

@@ -8,7 +8,7 @@ ghost use lib.ListN.{length};
 ghost use Rattle.text.specs.Written.{Wrote};
 ghost use Rattle.requests.specs.Line.{requestOf};
 ghost use Rattle.requests.specs.declared.Request.the-variants.{Line};
-ghost use Rattle.outputs.specs.Output.{inputMost, rowsLent, fileLent, refusedLine, Printed};
+ghost use Rattle.outputs.specs.Output.{inputMost, rowsLent, fileLent, refusedLine, CutAlike, Printed};
 
 // Writes `refused NUMBER ITEM` and a line feed; answers how many bytes.
 pub fn put_refused(out: &mut [u8], number: u64, item: u64) -> usize
@@ -60,3 +60,8 @@ pub fn answer(input: &[u8], rows: &mut [i64; 8192], out: &mut [u8; 65536]) -> us
     }
     put_file(input, asked, rows, out)
 }
+
+// That the program may leave the rest of a long input unread. It does nothing: what it ensures has to be proved.
+pub fn long_input_may_be_cut()
+    ensures { λ r. ⌜ CutAlike ⌝ }
+{}

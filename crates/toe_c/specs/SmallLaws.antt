@@ -1,5 +1,5 @@
--- Every refusal has a number of at most 13 and an item of at most 512, so that no code wraps and no two refusals share one.
-use mathlib.Core.Path.{_≡_, refl}
+-- Every refusal has a number of at most 13 and an item of at most 512, so that no code wraps, no two refusals share one, and both are taken out of it.
+use mathlib.Core.Path.{_≡_, refl, ap}
 use mathlib.Core.Bool.{Bool, true, false, cond, not, _&&_}
 use mathlib.Core.List.{List, [], _∷_}
 use mathlib.Core.Option.{Option, none, some}
@@ -9,6 +9,7 @@ use lib.IntN.{ℤ}
 use lib.ListN.{length, length-map}
 use native.Mathlib.Nat.{div-le-of-le-mul}
 use native.Mathlib.Omega.{arith}
+use borrow.Author.Tests.{leb-true}
 use Rattle.integers.specs.First.{first}
 use Rattle.integers.specs.Ranges.{range, length-range}
 use Rattle.book.specs.declared.Calendar.{Calendar}
@@ -33,13 +34,15 @@ use Rattle.kinds.specs.declared.Kind.{Kind as FileKind}
 use Rattle.message.specs.declared.ReadAnswer.{ReadAnswer}
 use Rattle.message.specs.declared.WriteAnswer.{WriteAnswer}
 use Rattle.message.specs.Valid.{isMoment}
-use Rattle.message.specs.FileLaws.{messageBytes, readMessage}
+use Rattle.message.specs.FileLaws.{messageBytes, readMessage, read-is-written}
+use Rattle.message.specs.SizeLaws.{file-least}
+use Rattle.message.specs.RowsLaws.{rows-undo}
 use Rattle.message.specs.Calls.{Verdict, accepted, refused as sent, unless as judge, kindNumbered, readVerdict, readSays, ReadCalled, writeSays}
-use Rattle.message.specs.Rows.{Message}
+use Rattle.message.specs.Rows.{Row, Message, contents}
 use Rattle.formats.specs.Format.{Res, got, bad}
 use Rattle.writer.specs.WriterRows.{isRows, rowsMessage}
 use Rattle.writer.specs.WriteCalls.{fitting, writeVerdict, WriteCalled}
-use Rattle.toe_c.specs.Codes.{refusalCode}
+use Rattle.toe_c.specs.Codes.{refusalCode, Decoded, withFacts}
 use Rattle.volumes.specs.Quarters.{monthQuarters}
 use Rattle.volumes.specs.Sheets.{parties}
 use Rattle.reports.specs.declared.SheetAnswer.{SheetAnswer}
@@ -54,14 +57,25 @@ abbrev pub AllSmall : Option Refusal → Type 0
 AllSmall none = Unit {0}
 AllSmall (some r) = Small (r .number) (r .item)
 
-abbrev pub VerdictSmall : {A : Type 0} → Verdict A → Type 0
-VerdictSmall (accepted a) = Unit {0}
-VerdictSmall (sent number item) = Small number item
+-- a small refusal, or what is so accepted
+abbrev pub VerdictSmall : {A : Type 0} → (A → Type 0) → Verdict A → Type 0
+VerdictSmall P (accepted a) = P a
+VerdictSmall P (sent number item) = Small number item
 
 -- two refusals of one code are the same
 pub told-apart : (m n i j : ℕ) → Small m i → Small n j → refusalCode m i ≡ refusalCode n j → (m ≡ n) × (i ≡ j)
 unfolding refusalCode
 told-apart m n i j h k e = (omega (arith, h .item-few, k .item-few), omega (arith, h .item-few, k .item-few))
+
+-- a refusal's number and item are taken out of its code
+pub decoded : (number item : ℕ) → Small number item → Decoded (refusalCode number item) number item
+unfolding refusalCode
+decoded number item h =
+    record {
+      high = omega arith;
+      number-is = omega (arith, h .number-few, h .item-few);
+      item-is = omega (arith, h .item-few);
+    }
 
 -- ---- by the shape of what is refused
 
@@ -168,7 +182,7 @@ pub settle-small : {bytes : List ℕ} {lent left : List ℤ} {answer : Settled} 
 settle-small {bytes} {lent} s = rw (s .answered) (settled-small (settlingRefusal bytes (length lent)) (rowCount (bookOf bytes)) (settling-small bytes (length lent)))
 
 -- 1 to 9, 11 and 10
-sheet-judged : (bytes : List ℕ) (party lent : ℕ) → AllSmall (sheetRefusal bytes party lent)
+pub sheet-judged : (bytes : List ℕ) (party lent : ℕ) → AllSmall (sheetRefusal bytes party lent)
 unfolding sheetRefusal
 sheet-judged bytes party lent =
     small-else (bookRefusal bytes) _ (book-small bytes) (λ e.
@@ -202,7 +216,7 @@ asked-judged book (some kind) receiver id moment rowsLent fileLent =
     small-unless (isTransactionId id && isMoment moment) 12 _ (omega arith) (λ f.
     short-judged (rowWidth * rowCount book) rowsLent (length (fileText book kind receiver id moment)) fileLent))
 
-file-judged : (bytes : List ℕ) (kind receiver : ℕ) (id moment : List ℕ) (rowsLent fileLent : ℕ) → AllSmall (fileRefusal bytes kind receiver id moment rowsLent fileLent)
+pub file-judged : (bytes : List ℕ) (kind receiver : ℕ) (id moment : List ℕ) (rowsLent fileLent : ℕ) → AllSmall (fileRefusal bytes kind receiver id moment rowsLent fileLent)
 unfolding fileRefusal
 file-judged bytes kind receiver id moment rowsLent fileLent =
     small-else (bookRefusal bytes) _ (book-small bytes) (λ e. asked-judged (bookOf bytes) (kindNumbered kind) receiver id moment rowsLent fileLent)
@@ -219,45 +233,62 @@ file-small {bytes} {kind} {receiver} {id} {moment} {rowsBefore} {before = before
     rw (c .answer) (file-said x (rowCount (bookOf bytes)) (length (textOf (bookOf bytes) (kindNumbered kind) receiver id moment)) (file-judged bytes kind receiver id moment (length rowsBefore) (length before)))
 
 -- writing from rows: 12, 13, 12 and 10
-verdict-small : {A : Type 0} (t : Bool) (number item : ℕ) (later : Verdict A) → Small number item → VerdictSmall later → VerdictSmall (judge t number item later)
-verdict-small true number item later h k = k
-verdict-small false number item later h k = h
+verdict-small : {A : Type 0} (P : A → Type 0) (t : Bool) (number item : ℕ) (later : Verdict A) → Small number item → (t ≡ true → VerdictSmall P later) → VerdictSmall P (judge t number item later)
+verdict-small P true number item later h k = k refl
+verdict-small P false number item later h k = h
 
-written-small : (v : Verdict (List ℕ)) → VerdictSmall v → WrittenSmall (writeSays v)
+written-small : (P : List ℕ → Type 0) (v : Verdict (List ℕ)) → VerdictSmall P v → WrittenSmall (writeSays v)
 unfolding writeSays
-written-small (accepted bytes) h = tt
-written-small (sent number item) h = h
+written-small P (accepted bytes) h = tt
+written-small P (sent number item) h = h
 
 few : (number item : ℕ) → number ≤ 13 → item ≤ 512 → Small number item
 few number item h k = record { number-few = h; item-few = k }
 
-verdict-written : (kind : Option FileKind) (receiver year month : ℕ) (rows id moment : List ℕ) (lent : ℕ) → VerdictSmall (writeVerdict kind receiver year month rows id moment lent)
+-- what is written has room
+pub verdict-written : (kind : Option FileKind) (receiver year month : ℕ) (rows id moment : List ℕ) (lent : ℕ) → VerdictSmall (λ bytes. length bytes ≤ lent) (writeVerdict kind receiver year month rows id moment lent)
 unfolding writeVerdict fitting
 verdict-written none receiver year month rows id moment lent = few 12 0 (omega arith) (omega arith)
 verdict-written (some kind) receiver year month rows id moment lent =
     let bytes = messageBytes (rowsMessage kind receiver year month rows id moment) in
-    verdict-small (isRows kind receiver year month rows) 13 0 _ (few 13 0 (omega arith) (omega arith))
-    (verdict-small (isTransactionId id && isMoment moment) 12 0 _ (few 12 0 (omega arith) (omega arith))
-    (verdict-small (leb (length bytes) lent) 10 1 (accepted bytes) (few 10 1 (omega arith) (omega arith)) tt))
+    verdict-small (λ bytes. length bytes ≤ lent) (isRows kind receiver year month rows) 13 0 _ (few 13 0 (omega arith) (omega arith)) (λ e.
+    verdict-small (λ bytes. length bytes ≤ lent) (isTransactionId id && isMoment moment) 12 0 _ (few 12 0 (omega arith) (omega arith)) (λ f.
+    verdict-small (λ bytes. length bytes ≤ lent) (leb (length bytes) lent) 10 1 (accepted bytes) (few 10 1 (omega arith) (omega arith)) (λ g. leb-true (length bytes) lent g)))
 
 pub write-small : {kind receiver year month : ℕ} {rows id moment before after : List ℕ} {r : WriteAnswer} → WriteCalled kind receiver year month rows id moment before after r → WrittenSmall r
 write-small {kind} {receiver} {year} {month} {rows} {id} {moment} {before} w =
     let v = writeVerdict (kindNumbered kind) receiver year month rows id moment (length before) in
-    rw (w .answer) (written-small v (verdict-written (kindNumbered kind) receiver year month rows id moment (length before)))
+    rw (w .answer) (written-small _ v (verdict-written (kindNumbered kind) receiver year month rows id moment (length before)))
 
--- reading: 13 and 10
-read-judged : (m : Res Message) (lent : ℕ) → VerdictSmall (readVerdict m lent)
+-- reading: 13 and 10; a row that is read takes 69 bytes of the file and more
+rows-room : (file : List ℕ) (m : Message) (rest : List ℕ) → readMessage file ≡ got m rest → 69 * length (m .rows) ≤ length file
+unfolding contents
+rows-room file m rest e =
+    omega (arith, ap length (read-is-written file m rest e .0), file-least (contents m), ap (λ (l : List Row). length l) (rows-undo (m .year, m .month) (m .rows)))
+
+abbrev pub RowsRoom : List ℕ → Message → Type 0
+RowsRoom file m = 69 * length (m .rows) ≤ length file
+
+pub read-judged : (file : List ℕ) (lent : ℕ) → VerdictSmall (RowsRoom file) (readVerdict (readMessage file) lent)
 unfolding readVerdict
-read-judged bad lent = few 13 0 (omega arith) (omega arith)
-read-judged (got m rest) lent = verdict-small (leb (6 * length (m .rows)) lent) 10 0 (accepted m) (few 10 0 (omega arith) (omega arith)) tt
+read-judged file lent = go (readMessage file) refl
+  where
+    go : (r : Res Message) → readMessage file ≡ r → VerdictSmall (RowsRoom file) (readVerdict r lent)
+    go bad e = few 13 0 (omega arith) (omega arith)
+    go (got m rest) e = verdict-small (RowsRoom file) (leb (6 * length (m .rows)) lent) 10 0 (accepted m) (few 10 0 (omega arith) (omega arith)) (λ f. rows-room file m rest e)
 
-read-said : (v : Verdict Message) → VerdictSmall v → ReadSmall (readSays v)
+pub facts-judged : (file : List ℕ) (v : Verdict Message) (lent : ℕ) → VerdictSmall (RowsRoom file) v → VerdictSmall (RowsRoom file) (withFacts v lent)
+unfolding withFacts
+facts-judged file (accepted m) lent h = verdict-small (RowsRoom file) (leb 8 lent) 10 1 (accepted m) (few 10 1 (omega arith) (omega arith)) (λ e. h)
+facts-judged file (sent number item) lent h = h
+
+read-said : (P : Message → Type 0) (v : Verdict Message) → VerdictSmall P v → ReadSmall (readSays v)
 unfolding readSays
-read-said (accepted m) h = tt
-read-said (sent number item) h = h
+read-said P (accepted m) h = tt
+read-said P (sent number item) h = h
 
 pub judged-small : (file : List ℕ) (lent : ℕ) {r : ReadAnswer} → r ≡ readSays (readVerdict (readMessage file) lent) → ReadSmall r
-judged-small file lent e = rw e (read-said (readVerdict (readMessage file) lent) (read-judged (readMessage file) lent))
+judged-small file lent e = rw e (read-said _ (readVerdict (readMessage file) lent) (read-judged file lent))
 
 pub read-small : {file before after : List ℕ} {r : ReadAnswer} → ReadCalled file before after r → ReadSmall r
 read-small {file} {before} c = judged-small file (length before) (c .answer)

@@ -57,7 +57,7 @@ fn write_code(answer: WriteAnswer) -> u64
 {
     match answer {
         WriteAnswer::Bytes(count) => count as u64,
-        WriteAnswer::Refused(number, item) => refusal_code(number as u64, item),
+        WriteAnswer::Refused(number, item) => refusal_code(number, item),
     }
 }
 
@@ -126,7 +126,7 @@ fn short_facts(answer: ReadAnswer) -> u64
 {
     match answer {
         ReadAnswer::File(_) => refusal_code(10, 1),
-        ReadAnswer::Refused(number, item) => refusal_code(number as u64, item),
+        ReadAnswer::Refused(number, item) => refusal_code(number, item),
     }
 }
 
@@ -145,7 +145,7 @@ pub extern "C" fn toe_read(file: &[u8], rows: &mut [u64], facts: &mut [u64]) -> 
             put_facts(f, facts);
             f.rows as u64
         }
-        ReadAnswer::Refused(number, item) => refusal_code(number as u64, item),
+        ReadAnswer::Refused(number, item) => refusal_code(number, item),
     }
 }
 

@@ -12,9 +12,6 @@ refusal-code-requires c κs = search needs
 enum-known-answer : tie.Need-enum-known-answer
 enum-known-answer c = search needs
 
-cast-refusal-code : tie.Need-cast-refusal-code
-cast-refusal-code c = search needs
-
 refusal-code-requires-2 : tie.Need-refusal-code-requires-2
 refusal-code-requires-2 c κs = rw (c .before .answer .given .1) at (c .before .before .before .pre)
 
@@ -31,7 +28,6 @@ short-facts-spec =
     enum-told
     refusal-code-requires
     enum-known-answer
-    cast-refusal-code
     refusal-code-requires-2
     returns
     returns-2)

@@ -2,6 +2,7 @@
 use mathlib.Core.Path.{ap, _∙_}
 use Rattle.toe_c.specs.Codes.{fileCode}
 use Rattle.toe_c.specs.SmallLaws.{file-small}
+use Rattle.toe_c.specs.ToldLaws.{file-told}
 use borrow.Author.Needs.{needs}
 use Rattle.toe_c.proofs.toe_file.Statement.{statement}
 use Rattle.toe_c.proofs.toe_file.Tie as tie
@@ -21,7 +22,8 @@ same-length-2 c = search needs
 returns : tie.Need-returns
 returns c =
     let f = c .before .before .before .before .file .ensures in
-    record { answered = c .file-code .ensures ∙ ap fileCode (f .answer); filled = f .rows; file = f .file }
+    let code = c .file-code .ensures ∙ ap fileCode (f .answer) in
+    record { answered = code; filled = f .rows; file = f .file; told = file-told _ _ _ _ _ _ _ _ code }
 
 pub toe-file-spec : {M : Type 1} → statement M
 toe-file-spec =

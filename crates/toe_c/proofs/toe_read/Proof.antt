@@ -1,6 +1,7 @@
 -- Fewer than eight facts leave all as it is. Else, accepted, the facts are put; refused, nothing is.
 use Rattle.toe_c.specs.SmallLaws.{judged-small, read-small}
 use Rattle.toe_c.specs.CodesLaws.{read-accepted, read-refused, read-short}
+use native.Mathlib.Omega.{arith}
 use borrow.Author.Needs.{needs}
 use Rattle.toe_c.proofs.toe_read.Statement.{statement}
 use Rattle.toe_c.proofs.toe_read.Tie as tie
@@ -14,7 +15,7 @@ short-facts-requires c κs = judged-small _ _ (c .judge .ensures)
 returns : tie.Need-returns
 returns c =
     let a = c .before .before .before .before .before .before .args in
-    rw (c .short-facts .ensures) (read-short (a .file .now) (a .rows .now) (a .facts .now) _ (search needs) (c .before .judge .ensures))
+    rw (c .short-facts .ensures) (read-short (a .file .now) (a .rows .now) (a .facts .now) _ (omega arith) (search needs) (c .before .judge .ensures))
 
 read-requires : tie.Need-read-requires
 read-requires c κs = search needs
@@ -27,9 +28,6 @@ put-facts-requires c κs = search needs
 
 enum-known-answer-2 : tie.Need-enum-known-answer-2
 enum-known-answer-2 c = search needs
-
-cast-refusal-code : tie.Need-cast-refusal-code
-cast-refusal-code c = search needs
 
 refusal-code-requires : tie.Need-refusal-code-requires
 refusal-code-requires c κs = read-small (rw (c .before .answer2 .given .1) at (c .before .before .before .before .before .read .ensures))
@@ -44,7 +42,7 @@ returns-2 : tie.Need-returns-2
 returns-2 c =
     let a = c .before .before .before .before .before .before .before .before .before .before .before .before .before .before .before .args in
     let f = c .before .before .before .before .before .answer .given in
-    rw (c .before .before .put-facts .ensures) (read-accepted (a .file .now) (a .rows .now) _ (a .facts .now) (search needs) (f .0 .0) (rw (f .1) at (c .before .before .before .before .before .before .before .before .before .read .ensures)))
+    rw (c .before .before .put-facts .ensures) (read-accepted (a .file .now) (a .rows .now) _ (a .facts .now) (omega arith) (search needs) (f .0 .0) (rw (f .1) at (c .before .before .before .before .before .before .before .before .before .read .ensures)))
 
 same-length-3 : tie.Need-same-length-3
 same-length-3 c = search needs
@@ -53,7 +51,7 @@ returns-3 : tie.Need-returns-3
 returns-3 c =
     let a = c .before .before .before .before .before .before .before .before .before .before .before .before .args in
     let r = c .before .before .answer2 .given in
-    rw (c .refusal-code .ensures) (read-refused (a .file .now) (a .rows .now) _ (a .facts .now) (search needs) (r .0 .0) (r .0 .1 .0) (rw (r .1) at (c .before .before .before .before .before .before .read .ensures)))
+    rw (c .refusal-code .ensures) (read-refused (a .file .now) (a .rows .now) _ (a .facts .now) (omega arith) (search needs) (r .0 .0) (r .0 .1 .0) (rw (r .1) at (c .before .before .before .before .before .before .read .ensures)))
 
 pub toe-read-spec : {M : Type 1} → statement M
 toe-read-spec =
@@ -66,7 +64,6 @@ toe-read-spec =
     enum-known-answer
     put-facts-requires
     enum-known-answer-2
-    cast-refusal-code
     refusal-code-requires
     same-length
     same-length-2

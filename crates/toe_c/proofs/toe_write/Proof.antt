@@ -2,6 +2,7 @@
 use mathlib.Core.Path.{ap, _∙_}
 use Rattle.toe_c.specs.Codes.{writeCode}
 use Rattle.toe_c.specs.SmallLaws.{write-small}
+use Rattle.toe_c.specs.ToldLaws.{write-told}
 use borrow.Author.Needs.{needs}
 use Rattle.toe_c.proofs.toe_write.Statement.{statement}
 use Rattle.toe_c.proofs.toe_write.Tie as tie
@@ -18,7 +19,7 @@ same-length c = search needs
 returns : tie.Need-returns
 returns c =
     let w = c .before .before .before .write .ensures in
-    record { answered = c .write-code .ensures ∙ ap writeCode (w .answer); file = w .file }
+    record { answered = c .write-code .ensures ∙ ap writeCode (w .answer); file = w .file; told = write-told w (c .write-code .ensures) }
 
 pub toe-write-spec : {M : Type 1} → statement M
 toe-write-spec = tie.close (tie.spec write-requires write-code-requires same-length returns)

@@ -9,9 +9,6 @@ enum-known-answer c = search needs
 enum-known-answer-2 : tie.Need-enum-known-answer-2
 enum-known-answer-2 c = search needs
 
-cast-refusal-code : tie.Need-cast-refusal-code
-cast-refusal-code c = search needs
-
 refusal-code-requires : tie.Need-refusal-code-requires
 refusal-code-requires c κs = rw (c .before .answer2 .given .1) at (c .before .before .before .pre)
 
@@ -27,7 +24,6 @@ write-code-spec =
     (tie.spec
     enum-known-answer
     enum-known-answer-2
-    cast-refusal-code
     refusal-code-requires
     returns
     returns-2)

@@ -26,9 +26,6 @@ answer-file-requires c κs = search needs
 enum-known-answer-2 : tie.Need-enum-known-answer-2
 enum-known-answer-2 c = search needs
 
-cast-refused : tie.Need-cast-refused
-cast-refused c = search needs
-
 refused-requires : tie.Need-refused-requires
 refused-requires c κs = search needs
 
@@ -61,7 +58,6 @@ read-file-spec =
     enum-known-answer
     answer-file-requires
     enum-known-answer-2
-    cast-refused
     refused-requires
     kept-numbers-requires
     same-length

@@ -29,9 +29,6 @@ answer-bytes-requires c κs = search needs
 enum-known-answer-2 : tie.Need-enum-known-answer-2
 enum-known-answer-2 c = search needs
 
-cast-refused : tie.Need-cast-refused
-cast-refused c = search needs
-
 refused-requires : tie.Need-refused-requires
 refused-requires c κs = search needs
 
@@ -65,7 +62,6 @@ write-rows-spec =
     enum-known-answer
     answer-bytes-requires
     enum-known-answer-2
-    cast-refused
     refused-requires
     kept-bytes-requires
     same-length
