@@ -4,6 +4,7 @@ use mathlib.Core.Bool.{true}
 use mathlib.Core.List.{List}
 use Prim.Native.Nat.{ℕ, _+_, _≤_, _<_}
 use lib.IntN.{ℤ, pos, _+ℤ_, _*ℤ_}
+use lib.ListN.{getD, drop}
 use Rattle.integers.specs.Sums.{sumZ}
 use Rattle.integers.specs.Z.{Over}
 use Rattle.grains.specs.Grains.{grains, share}
@@ -19,6 +20,11 @@ use Rattle.baseline.specs.Levels.{Adds}
 pub record Raises (list : List Reading) (n add r : ℕ) : Type 0 where
   pub level : (z : ℤ) → complete list ≡ true → Over (grains 4294967296) z add → Over (grains 6442450944) (sumZ watts list *ℤ pos (share n) +ℤ z) r
   pub small : r ≤ grains 12884901887
+
+-- the first n places hold what they are to, and the others are as they were
+pub record Fills (holds : ℕ → ℕ → Type 0) (n : ℕ) (before after : List ℕ) : Type 0 where
+  pub each : (k : ℕ) → k < n → holds k (getD after k 0)
+  pub rest : drop n after ≡ drop n before
 
 -- what each quarter-hour of the days needs to be read
 abbrev pub LieAll : List ℕ → List ℕ → Calendar → ℕ → ℕ → ℕ → ℕ → Type 0

@@ -3,7 +3,7 @@ use mathlib.Core.Path.{_≡_}
 use mathlib.Core.List.{List}
 use mathlib.Core.Option.{none}
 use Prim.Native.Nat.{ℕ, _≤_, _<_}
-use lib.ListN.{getD}
+use lib.ListN.{getD, drop}
 use Rattle.integers.specs.Z.{Over}
 use Rattle.grains.specs.Grains.{grains}
 use Rattle.book.specs.declared.Calendar.{Calendar}
@@ -31,7 +31,8 @@ pub record Accepts (c : Calendar) (calendar readings : List ℕ) (point : Point)
   pub within : x ≤ y
   pub most : y ≤ 20
 
--- each quarter-hour's baseline, raised by 3 times 2^31 watts
-pub record Filled (c : Calendar) (calendar readings : List ℕ) (point : Point) (e : Engagement) (x y : ℕ) (bases : List ℕ) : Type 0 where
+-- each quarter-hour's baseline, raised by 3 times 2^31 watts; the places behind them are as they were
+pub record Filled (c : Calendar) (calendar readings : List ℕ) (point : Point) (e : Engagement) (x y : ℕ) (before bases : List ℕ) : Type 0 where
   pub small : (k : ℕ) → k < e .count → getD bases k 0 ≤ grains 12884901887
   pub levels : (book : Book) → Unrefused c calendar readings point e x y book → (k : ℕ) → k < e .count → Over (grains 6442450944) (baseline book e k) (getD bases k 0)
+  pub rest : drop (e .count) bases ≡ drop (e .count) before

@@ -73,8 +73,8 @@ module _ {c : Calendar} {calendar readings : List ℕ} {point : Point} {e : Enga
   method-is = ap (λ (p : Point). p .method) (s .shows .owner)
 
   -- the ranking has its Y days, and the first X keys tell the days that are taken
-  pub took-days : (keys : List ℕ) (n : ℕ) → looksBack (point .method) ≡ true → x ≤ y → RankedTo book e y keys n → Took book e keys x
-  took-days keys n back few r = took book e keys x y n r (s .takes) (s .wants) (omega (arith, r .count, length-take y (eligibleDays book e), enough book e (point .method) back (rw method-is at (settles book e (s .good) .enough)), s .wants)) few
+  pub took-days : {keys₀ : List ℕ} (keys : List ℕ) (n : ℕ) → looksBack (point .method) ≡ true → x ≤ y → RankedTo book e y keys₀ keys n → Took book e keys x
+  took-days {keys₀} keys n back few r = took book e keys₀ keys x y n r (s .takes) (s .wants) (omega (arith, r .count, length-take y (eligibleDays book e), enough book e (point .method) back (rw method-is at (settles book e (s .good) .enough)), s .wants)) few
 
   -- a quarter-hour's mean
   pub high-level : (keys : List ℕ) (k add r : ℕ) (z : ℤ) → Took book e keys x → k < e .count → Over (grains 4294967296) z add

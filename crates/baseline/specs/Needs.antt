@@ -27,3 +27,8 @@ abbrev pub numberOf : Lack → Option ℕ
 numberOf Nothing = none
 numberOf LacksReading = some 8
 numberOf Days = some 9
+
+-- of two numbers the first counts
+abbrev pub firstOf : Option ℕ → Option ℕ → Option ℕ
+firstOf none later = later
+firstOf (some n) later = some n

@@ -1,12 +1,12 @@
 -- What the judging of an engagement finds is what the definitions say.
-use mathlib.Core.Path.{_≡_, refl, ap, ap₂, _∙_}
+use mathlib.Core.Path.{_≡_, refl, sym, ap, ap₂, _∙_}
 use mathlib.Core.Bool.{Bool, true, false, cond, _&&_}
 use mathlib.Core.List.{List, [], _∷_, map}
 use mathlib.Core.Option.{none, some}
 use Prim.Native.Nat.{ℕ, _+_, _*_}
 use native.Mathlib.Omega.{arith}
 use lib.Dec.{ltb}
-use lib.ListN.{length}
+use lib.ListN.{length, take}
 use Rattle.wire.specs.declared.Reading.{Reading}
 use Rattle.book.specs.declared.Calendar.{Calendar}
 use Rattle.book.specs.declared.Engagement.{Engagement}
@@ -23,7 +23,7 @@ use Rattle.volumes.specs.Settlement.{neededBy, needed, tooFew, refusalNumber}
 use Rattle.baseline.specs.Tally.{inRow}
 use Rattle.baseline.specs.Shown.{Shows, beforeIn}
 use Rattle.baseline.specs.ShownLaws.{own-row, before-at, start-at, own-window}
-use Rattle.baseline.specs.Needs.{neededIn, looksBack}
+use Rattle.baseline.specs.Needs.{neededIn, looksBack, firstOf}
 
 module _ {c : Calendar} {calendar readings : List ℕ} {point : Point} {e : Engagement} {book : Book} (s : Shows c calendar readings point e book) where
   needed-by : (method : Method) → neededBy method book e ≡ neededIn method readings (quartersOf c * e .point) (dayStart c (e .day) + e .first) (e .notice)
@@ -38,26 +38,33 @@ module _ {c : Calendar} {calendar readings : List ℕ} {point : Point} {e : Enga
       complete-append (map (ownReading book e) (quarterHours e)) (neededBy (pointOf book e .method) book e)
       ∙ ap₂ _&&_ (ap complete (own-row s)) (ap complete (needed-by (pointOf book e .method) ∙ ap (λ (p : Point). neededIn (p .method) readings (quartersOf c * e .point) (dayStart c (e .day) + e .first) (e .notice)) (s .owner)))
 
-  -- 8
-  pub lacks-reading : complete (needed book e) ≡ false → some 8 ≡ refusalNumber book e
+  -- 8 before 9
+  pub first-lack : (whole few : Bool) → whole ≡ complete (needed book e) → few ≡ tooFew (point .method) (yOf book e) (length (eligibleDays book e))
+      → firstOf (cond whole none (some 8)) (cond few (some 9) none) ≡ refusalNumber book e
   unfolding refusalNumber
-  lacks-reading h = rw h
+  first-lack true few w f = rw (sym w, ap (λ (p : Point). p .method) (s .owner), sym f)
+  first-lack false few w f = rw (sym w)
 
-  -- method 0 looks at no days
-  few-of : (m : Method) (t : Bool) → looksBack m ≡ t → (y n : ℕ) → tooFew m y n ≡ (t && ltb n y)
-  unfolding looksBack tooFew
-  few-of LastQuarter true h y n = let z : _≡_ {A = ℕ} 0 1 = cc in absurd (omega arith)
-  few-of LastQuarter false h y n = refl
-  few-of HighXOfY true h y n = refl
-  few-of HighXOfY false h y n = let z : _≡_ {A = ℕ} 0 1 = cc in absurd (omega arith)
-  few-of Adjusted true h y n = refl
-  few-of Adjusted false h y n = let z : _≡_ {A = ℕ} 0 1 = cc in absurd (omega arith)
+-- only methods 1 and 2 look at days
+few-of : (m : Method) (t : Bool) → looksBack m ≡ t → (y n : ℕ) → tooFew m y n ≡ (t && ltb n y)
+unfolding looksBack tooFew
+few-of LastQuarter true h y n = let z : _≡_ {A = ℕ} 0 1 = cc in absurd (omega arith)
+few-of LastQuarter false h y n = refl
+few-of HighXOfY true h y n = refl
+few-of HighXOfY false h y n = let z : _≡_ {A = ℕ} 0 1 = cc in absurd (omega arith)
+few-of Adjusted true h y n = refl
+few-of Adjusted false h y n = let z : _≡_ {A = ℕ} 0 1 = cc in absurd (omega arith)
 
-  pub no-days : complete (needed book e) ≡ true → looksBack (point .method) ≡ false → none ≡ refusalNumber book e
-  unfolding refusalNumber
-  no-days h m = rw (h, few-of (pointOf book e .method) false (ap (λ (p : Point). looksBack (p .method)) (s .owner) ∙ m) (yOf book e) (length (eligibleDays book e)))
+pub no-days : (m : Method) (y n : ℕ) → looksBack m ≡ false → false ≡ tooFew m y n
+no-days m y n h = sym (few-of m false h y n)
 
-  -- 9 where the latest eligible days are fewer than Y
-  pub days-found : complete (needed book e) ≡ true → looksBack (point .method) ≡ true → (t : Bool) → ltb (length (latest book e)) (yOf book e) ≡ t → cond t (some 9) none ≡ refusalNumber book e
-  unfolding refusalNumber
-  days-found h m t f = rw (h, few-of (pointOf book e .method) true (ap (λ (p : Point). looksBack (p .method)) (s .owner) ∙ m) (yOf book e) (length (eligibleDays book e)), few-latest book e, f)
+-- those found are the latest eligible ones, Y at most: fewer than Y of them are so where fewer are eligible
+pub days-found : (m : Method) (book : Book) (e : Engagement) (y found : ℕ) → looksBack m ≡ true → y ≡ yOf book e → length (take y (eligibleDays book e)) ≡ found
+    → ltb found y ≡ tooFew m y (length (eligibleDays book e))
+unfolding latest
+days-found m book e y found h w f =
+    ap (λ (n : ℕ). ltb n y) (sym f)
+    ∙ ap (λ (n : ℕ). ltb (length (take n (eligibleDays book e))) n) w
+    ∙ sym (few-latest book e)
+    ∙ ap (ltb (length (eligibleDays book e))) (sym w)
+    ∙ sym (few-of m true h y (length (eligibleDays book e)))

@@ -1,10 +1,10 @@
 -- What one turn of the insertion does.
-use mathlib.Core.Path.{_≡_, refl, sym, ap, _∙_}
+use mathlib.Core.Path.{_≡_, refl, sym, ap, ap₂, _∙_}
 use mathlib.Core.List.{List, [], _∷_, _++_, append-assoc}
 use Prim.Native.Nat.{ℕ, suc, _+_, _<_, max, min}
 use native.Mathlib.Omega.{arith}
 use lib.ListN.{length, take, drop, getD, set, length-take, length-set, drop-of-length-le}
-use lib.Seq.{take-suc-set, drop-cons, drop-drop, drop-set-lt, getD-take, length-take-le}
+use lib.Seq.{take-suc-set, set-split, append-snoc, drop-cons, drop-drop, drop-set-lt, getD-take, length-take-le}
 use Rattle.baseline.specs.Ranking.{inserted}
 
 -- i of the keys are in their places, x is carried, and the others are as they were
@@ -41,9 +41,10 @@ turn keys₀ keys n key i x h lt room =
     }
 
 -- the last one is put behind the others
-pub finish : (keys₀ keys : List ℕ) (n key x : ℕ) → Inserting keys₀ keys n key n x → n < length keys₀ → take (n + 1) (set keys n x) ≡ inserted key (take n keys₀)
+pub finish : (keys₀ keys : List ℕ) (n key x : ℕ) → Inserting keys₀ keys n key n x → n < length keys₀ → set keys n x ≡ inserted key (take n keys₀) ++ drop (n + 1) keys₀
 finish keys₀ keys n key x h room =
     let l = h .same in
     let s : n + 1 ≡ suc n = omega arith in
     let none : drop n (take n keys₀) ≡ [] = drop-of-length-le (take n keys₀) {i = n} (omega (arith, length-take n keys₀)) in
-    rw (s, take-suc-set keys n x (omega arith)) (ap (λ (t : List ℕ). take n keys ++ inserted x t) (sym none) ∙ h .done)
+    let placed : take n keys ++ (x ∷ []) ≡ inserted key (take n keys₀) = ap (λ (t : List ℕ). take n keys ++ inserted x t) (sym none) ∙ h .done in
+    rw s (set-split keys n x (omega arith) ∙ sym (append-snoc (take n keys) x (drop (suc n) keys)) ∙ ap₂ _++_ placed (cut-one keys₀ keys n (h .rest)))

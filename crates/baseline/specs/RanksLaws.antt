@@ -1,14 +1,16 @@
 -- One day more of the scan.
-use mathlib.Core.Path.{_≡_, refl, sym, ap, subst, _∙_}
+use mathlib.Core.Path.{_≡_, refl, sym, ap, ap₂, subst, _∙_}
 use mathlib.Core.Bool.{Bool, true, false}
-use mathlib.Core.List.{List, [], _∷_}
+use mathlib.Core.List.{List, [], _∷_, _++_, map}
 use Prim.Native.Nat.{ℕ, _+_, _*_, _≤_, _<_}
 use native.Mathlib.Omega.{arith}
-use lib.ListN.{take, length-append}
+use lib.ListN.{length, take, drop, length-append, length-map}
+use lib.Seq.{take-at, drop-at, drop-drop}
 use Rattle.integers.specs.Z.{Over}
 use Rattle.book.specs.declared.Engagement.{Engagement}
 use Rattle.book.specs.Book.{Book}
 use Rattle.volumes.specs.Ranking.{ranked}
+use Rattle.volumes.specs.RankingLaws.{length-ranked}
 use Rattle.volumes.specs.Baseline.{eligible, eligibleDays, daySum}
 use Rattle.volumes.specs.DaysLaws.{scanned, scanned-none, scanned-yes, scanned-no, scanned-full, scanned-few}
 use Rattle.baseline.specs.declared.tally.Tally.{Tally}
@@ -17,22 +19,33 @@ use Rattle.baseline.specs.Shown.{Refers}
 use Rattle.baseline.specs.Sorting.{Above, days-more, above-more, above-less, ranked-more, raised-is}
 use Rattle.baseline.specs.Ranks.{Considered, bias, keyIn, KeysOf, RankedTo}
 
+-- the first n keys, and those behind them
+module _ {book : Book} {e : Engagement} {days keys₀ keys : List ℕ} {n : ℕ} (k : KeysOf book e days keys₀ keys n) where
+  key-count : length (map (keyIn book e) (ranked (daySum book e) days)) ≡ n
+  key-count = length-map (ranked (daySum book e) days) (keyIn book e) ∙ length-ranked (daySum book e) days ∙ k .count
+
+  pub keys-first : take n keys ≡ map (keyIn book e) (ranked (daySum book e) days)
+  keys-first = ap (take n) (k .list) ∙ take-at (map (keyIn book e) (ranked (daySum book e) days)) (drop n keys₀) n key-count
+
+  keys-rest : drop n keys ≡ drop n keys₀
+  keys-rest = ap (drop n) (k .list) ∙ drop-at (map (keyIn book e) (ranked (daySum book e) days)) (drop n keys₀) n key-count
+
 -- the days from A - 1 down to f have been scanned
-pub record Scanned (book : Book) (e : Engagement) (f : ℕ) (keys : List ℕ) (n : ℕ) : Type 0 where
-  pub ranked : KeysOf book e (scanned (eligible book e) (e .day) f) keys n
+pub record Scanned (book : Book) (e : Engagement) (f : ℕ) (keys₀ keys : List ℕ) (n : ℕ) : Type 0 where
+  pub ranked : KeysOf book e (scanned (eligible book e) (e .day) f) keys₀ keys n
   pub above : Above (bias e) (daySum book e) f (scanned (eligible book e) (e .day) f)
 
-pub scan-start : (book : Book) (e : Engagement) (keys : List ℕ) → Scanned book e (e .day) keys 0
+pub scan-start : (book : Book) (e : Engagement) (keys : List ℕ) → Scanned book e (e .day) keys keys 0
 unfolding ranked
 scan-start book e keys =
     let none = scanned-none (eligible book e) (e .day) in
     record { ranked = rw none (record { count = refl; falling = tt; list = refl }); above = rw none tt }
 
-pub scan-more : (book : Book) (e : Engagement) (f d n r : ℕ) (keys₀ keys : List ℕ) (t : Tally) → Scanned book e f keys₀ n → f ≡ d + 1 → f ≤ e .day → d < 64
-    → Refers book e d t → Considered keys₀ keys n t d r → Scanned book e d keys r
-scan-more book e f d n r keys₀ keys t s g h k refers considered = go (t .whole) refl
+pub scan-more : (book : Book) (e : Engagement) (f d n r : ℕ) (keys₀ before keys : List ℕ) (t : Tally) → Scanned book e f keys₀ before n → f ≡ d + 1 → f ≤ e .day → d < 64
+    → Refers book e d t → Considered before keys n t d r → Scanned book e d keys₀ keys r
+scan-more book e f d n r keys₀ before keys t s g h k refers considered = go (t .whole) refl
   where
-    go : (b : Bool) → t .whole ≡ b → Scanned book e d keys r
+    go : (b : Bool) → t .whole ≡ b → Scanned book e d keys₀ keys r
     go true w =
         let yes = considered .yes w in
         let old = scanned (eligible book e) (e .day) f in
@@ -46,9 +59,11 @@ scan-more book e f d n r keys₀ keys t s g h k refers considered = go (t .whole
             falling = days;
             list =
                 yes .1
-                ∙ ap (λ (x : ℕ). inserted (x * 64 + d) (take n keys₀)) sum
-                ∙ ap (inserted (keyIn book e d)) (s .ranked .list)
-                ∙ ranked-more (bias e) (daySum book e) (e .day) old d (s .ranked .falling) days;
+                ∙ ap₂ _++_
+                (ap (λ (x : ℕ). inserted (x * 64 + d) (take n before)) sum
+                ∙ ap (inserted (keyIn book e d)) (keys-first (s .ranked))
+                ∙ ranked-more (bias e) (daySum book e) (e .day) old d (s .ranked .falling) days)
+                (sym (drop-drop 1 n before) ∙ ap (drop 1) (keys-rest (s .ranked)) ∙ drop-drop 1 n keys₀);
           });
           above = rw list (above-more (bias e) (daySum book e) f d old g (s .above));
         }
@@ -59,12 +74,12 @@ scan-more book e f d n r keys₀ keys t s g h k refers considered = go (t .whole
         record { ranked = rw (list, no .0, no .1) (s .ranked); above = rw list (above-less (bias e) (daySum book e) f d old g (s .above)) }
 
 -- a scan that has found y days, and one that has seen all days, have the y latest
-pub scan-full : (book : Book) (e : Engagement) (f y : ℕ) (keys : List ℕ) (n : ℕ) → Scanned book e f keys n → f ≤ e .day → n ≡ y → RankedTo book e y keys n
+pub scan-full : (book : Book) (e : Engagement) (f y : ℕ) (keys₀ keys : List ℕ) (n : ℕ) → Scanned book e f keys₀ keys n → f ≤ e .day → n ≡ y → RankedTo book e y keys₀ keys n
 unfolding eligibleDays
-scan-full book e f y keys n s h g = rw (scanned-full (eligible book e) (e .day) f y (s .ranked .count ∙ g)) (s .ranked)
+scan-full book e f y keys₀ keys n s h g = rw (scanned-full (eligible book e) (e .day) f y (s .ranked .count ∙ g)) (s .ranked)
 
-pub scan-few : (book : Book) (e : Engagement) (f y : ℕ) (keys : List ℕ) (n : ℕ) → Scanned book e f keys n → f ≡ 0 → n ≤ y → RankedTo book e y keys n
+pub scan-few : (book : Book) (e : Engagement) (f y : ℕ) (keys₀ keys : List ℕ) (n : ℕ) → Scanned book e f keys₀ keys n → f ≡ 0 → n ≤ y → RankedTo book e y keys₀ keys n
 unfolding eligibleDays
-scan-few book e f y keys n s z h =
-    let k : Scanned book e 0 keys n = subst (λ (i : ℕ). Scanned book e i keys n) z s in
+scan-few book e f y keys₀ keys n s z h =
+    let k : Scanned book e 0 keys₀ keys n = subst (λ (i : ℕ). Scanned book e i keys₀ keys n) z s in
     rw (scanned-few (eligible book e) (e .day) y (omega (arith, k .ranked .count))) (k .ranked)

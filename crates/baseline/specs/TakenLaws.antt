@@ -15,6 +15,7 @@ use Rattle.volumes.specs.RankingLaws.{length-ranked}
 use Rattle.volumes.specs.Baseline.{eligible, before, keep, eligibleDays, xOf, yOf, latest, daySum, taken}
 use Rattle.baseline.specs.Sorting.{Days, key-day}
 use Rattle.baseline.specs.Ranks.{bias, keyIn, RankedTo}
+use Rattle.baseline.specs.RanksLaws.{keys-first}
 use Rattle.baseline.specs.Taken.{All, Serves, Took}
 
 module _ (P : ℕ → Type 0) where
@@ -61,15 +62,15 @@ take-map f zero l = refl
 take-map f (suc n) [] = refl
 take-map f (suc n) (a ∷ l) = ap (λ (t : List ℕ). f a ∷ t) (take-map f n l)
 
-pub took : (book : Book) (e : Engagement) (keys : List ℕ) (x y n : ℕ) → RankedTo book e y keys n → x ≡ xOf book e → y ≡ yOf book e → y ≤ n → x ≤ y → Took book e keys x
+pub took : (book : Book) (e : Engagement) (keys₀ keys : List ℕ) (x y n : ℕ) → RankedTo book e y keys₀ keys n → x ≡ xOf book e → y ≡ yOf book e → y ≤ n → x ≤ y → Took book e keys x
 unfolding taken latest eligibleDays
-took book e keys x y n r ex ey full few =
+took book e keys₀ keys x y n r ex ey full few =
     let days = take y (eligibleDays book e) in
     let rank = ranked (daySum book e) days in
     let all = serve book e (e .day) days (omega arith) (r .falling) (all-take _ y (eligibleDays book e) (all-keep (eligible book e) (before (e .day)))) in
     let served = all-take _ x rank (all-ranked _ (daySum book e) days all) in
     let same : taken book e ≡ take x rank = ap₂ (λ (i j : ℕ). take i (ranked (daySum book e) (take j (eligibleDays book e)))) (sym ex) (sym ey) in
-    let first : take x keys ≡ map (keyIn book e) (take x rank) = sym (take-take x n keys (omega arith)) ∙ ap (take x) (r .list) ∙ take-map (keyIn book e) x rank in
+    let first : take x keys ≡ map (keyIn book e) (take x rank) = sym (take-take x n keys (omega arith)) ∙ ap (take x) (keys-first r) ∙ take-map (keyIn book e) x rank in
     record {
       days = ap (map (λ k. k % 64)) first ∙ tell book e (take x rank) served ∙ sym same;
       each = rw same served;

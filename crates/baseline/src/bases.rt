@@ -5,19 +5,20 @@ use book::Method;
 use book::Point;
 ghost use mathlib.Core.Path.{_≡_};
 ghost use mathlib.Core.Bool.{true, false};
-ghost use Prim.Native.Nat.{ℕ, _+_, _*_, _≤_, _<_};
-ghost use lib.ListN.{length, getD};
+ghost use mathlib.Core.List.{_++_};
+ghost use Prim.Native.Nat.{_+_, _*_, _≤_};
+ghost use lib.ListN.{length, drop, replicate};
 ghost use Rattle.grains.specs.Grains.{grains};
 ghost use Rattle.baseline.specs.Shown.{windowIn};
-ghost use Rattle.baseline.specs.Rows.{daysIn, dayRows, Lie};
+ghost use Rattle.baseline.specs.Rows.{daysIn, dayRows};
 ghost use Rattle.baseline.specs.Needs.{looksBack};
 ghost use Rattle.baseline.specs.Filled.{Accepts, Filled};
-ghost use Rattle.baseline.specs.Bases.{Raises, LieAll, Adding, Added};
+ghost use Rattle.baseline.specs.Bases.{Raises, Fills, LieAll, Adding, Added};
 
 // One level for all quarter-hours.
-pub fn fill_flat(bases: &mut [u64], n: usize, level: u64)
+fn fill_flat(bases: &mut [u64], n: usize, level: u64)
     requires { ⌜ n ≤ length (now bases) ⌝ }
-    ensures { λ r. ⌜ ((k : ℕ) → k < n → getD (now (bases .exit)) k 0 ≡ level) ⌝ }
+    ensures { λ r. ⌜ now (bases .exit) ≡ replicate n level ++ drop n (now (bases .entry)) ⌝ }
 {
     let mut k = 0;
     while k < n {
@@ -27,7 +28,7 @@ pub fn fill_flat(bases: &mut [u64], n: usize, level: u64)
 }
 
 // The mean of each quarter-hour over the x days that the keys tell, and an addend.
-pub fn fill_means(
+fn fill_means(
     c: Calendar,
     readings: &[u8],
     keys: &[u64],
@@ -39,7 +40,7 @@ pub fn fill_means(
     bases: &mut [u64],
 )
     requires { ⌜ LieAll (now readings) (now keys) c base first n x × (1 ≤ x) × (first + n ≤ 96) × (add ≤ grains 8589934592) × (n ≤ length (now bases)) ⌝ }
-    ensures { λ r. ⌜ ((k : ℕ) → k < n → Raises (dayRows (now (readings .entry)) c base (first + k) 0 1 (daysIn (now (keys .entry)) x)) x add (getD (now (bases .exit)) k 0)) ⌝ }
+    ensures { λ r. ⌜ Fills (λ k. Raises (dayRows (now (readings .entry)) c base (first + k) 0 1 (daysIn (now (keys .entry)) x)) x add) n (now (bases .entry)) (now (bases .exit)) ⌝ }
 {
     let mut k = 0;
     while k < n {
@@ -50,7 +51,7 @@ pub fn fill_means(
 }
 
 // What methods 1 and 2 add to a mean, raised by 2^32 watts.
-pub fn addend_of(
+fn addend_of(
     c: Calendar,
     readings: &[u8],
     keys: &[u64],
@@ -82,7 +83,7 @@ fn fill_days(
     bases: &mut [u64],
 )
     requires { ⌜ Accepts c (now calendar) (now readings) point e x y × (looksBack (point .method) ≡ true) × (e .count ≤ length (now bases)) ⌝ }
-    ensures { λ r. ⌜ Filled c (now (calendar .entry)) (now (readings .entry)) point e x y (now (bases .exit)) ⌝ }
+    ensures { λ r. ⌜ Filled c (now (calendar .entry)) (now (readings .entry)) point e x y (now (bases .entry)) (now (bases .exit)) ⌝ }
 {
     let mut keys = [0u64; 20];
     crate::ranking::rank_days(c, calendar, readings, point, e, y, &mut keys);
@@ -116,7 +117,7 @@ fn fill_last(
     bases: &mut [u64],
 )
     requires { ⌜ Accepts c (now calendar) (now readings) point e x y × (looksBack (point .method) ≡ false) × (e .count ≤ length (now bases)) ⌝ }
-    ensures { λ r. ⌜ Filled c (now (calendar .entry)) (now (readings .entry)) point e x y (now (bases .exit)) ⌝ }
+    ensures { λ r. ⌜ Filled c (now (calendar .entry)) (now (readings .entry)) point e x y (now (bases .entry)) (now (bases .exit)) ⌝ }
 {
     let base = crate::judge::base_of(c, e);
     let q = crate::judge::start_of(c, e);
@@ -124,7 +125,7 @@ fn fill_last(
     fill_flat(bases, e.count as usize, level);
 }
 
-// The raised baselines of an engagement that is not refused, in the first places.
+// The raised baselines of an engagement that is not refused, in the first places; the others stay.
 pub fn fill_bases(
     c: Calendar,
     calendar: &[u8],
@@ -136,7 +137,7 @@ pub fn fill_bases(
     bases: &mut [u64],
 )
     requires { ⌜ Accepts c (now calendar) (now readings) point e x y × (e .count ≤ length (now bases)) ⌝ }
-    ensures { λ r. ⌜ Filled c (now (calendar .entry)) (now (readings .entry)) point e x y (now (bases .exit)) ⌝ }
+    ensures { λ r. ⌜ Filled c (now (calendar .entry)) (now (readings .entry)) point e x y (now (bases .entry)) (now (bases .exit)) ⌝ }
 {
     let method = point.method;
     if crate::judge::looks_back(method) {

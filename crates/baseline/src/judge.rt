@@ -4,14 +4,16 @@ use book::Engagement;
 use book::Method;
 use book::Point;
 ghost use mathlib.Core.Path.{_≡_};
+ghost use mathlib.Core.Bool.{cond};
+ghost use mathlib.Core.Option.{none, some};
 ghost use Prim.Native.Nat.{_+_, _*_, _≤_, _<_};
 ghost use lib.ListN.{length};
 ghost use Rattle.book.specs.Book.{Book};
 ghost use Rattle.book.specs.Calendars.{dayStart, quartersOf, Ranged};
-ghost use Rattle.volumes.specs.Baseline.{known, complete, yOf};
-ghost use Rattle.volumes.specs.Settlement.{needed, refusalNumber};
+ghost use Rattle.volumes.specs.Baseline.{known, complete, eligibleDays, yOf};
+ghost use Rattle.volumes.specs.Settlement.{needed, tooFew, refusalNumber};
 ghost use Rattle.baseline.specs.Shown.{Shows, Fits, beforeIn};
-ghost use Rattle.baseline.specs.Needs.{neededIn, looksBack, numberOf};
+ghost use Rattle.baseline.specs.Needs.{neededIn, looksBack, numberOf, firstOf};
 
 // What an engagement lacks.
 pub enum Lack {
@@ -90,6 +92,56 @@ pub fn looks_back(method: Method) -> bool
     }
 }
 
+// Fewer than y days are eligible, where the method looks at them.
+fn too_few(
+    c: Calendar,
+    calendar: &[u8],
+    readings: &[u8],
+    point: Point,
+    e: Engagement,
+    y: usize,
+) -> bool
+    requires { ⌜ Fits c (now calendar) (now readings) e × (y ≤ 20) ⌝ }
+    ensures { λ r. ⌜ ((b : Book) → Shows c (now (calendar .entry)) (now (readings .entry)) point e b → y ≡ yOf b e → r ≡ tooFew (point .method) y (length (eligibleDays b e))) ⌝ }
+{
+    let method = point.method;
+    if !looks_back(method) {
+        return false;
+    }
+    let mut keys = [0u64; 20];
+    let found = crate::ranking::rank_days(c, calendar, readings, point, e, y, &mut keys);
+    found < y
+}
+
+fn reading_lack(whole: bool) -> Lack
+    ensures { λ r. ⌜ numberOf r ≡ cond whole none (some 8) ⌝ }
+{
+    if whole {
+        return Lack::Nothing;
+    }
+    Lack::Reading
+}
+
+fn days_lack(few: bool) -> Lack
+    ensures { λ r. ⌜ numberOf r ≡ cond few (some 9) none ⌝ }
+{
+    if few {
+        return Lack::Days;
+    }
+    Lack::Nothing
+}
+
+// What is named of two: the first, if it is anything.
+fn first_of(a: Lack, b: Lack) -> Lack
+    ensures { λ r. ⌜ numberOf r ≡ firstOf (numberOf a) (numberOf b) ⌝ }
+{
+    match a {
+        Lack::Nothing => b,
+        Lack::Reading => Lack::Reading,
+        Lack::Days => Lack::Days,
+    }
+}
+
 // What the engagement lacks, where y eligible days are wanted: 8 before 9.
 pub fn judge_engagement(
     c: Calendar,
@@ -102,17 +154,7 @@ pub fn judge_engagement(
     requires { ⌜ Fits c (now calendar) (now readings) e × (y ≤ 20) ⌝ }
     ensures { λ r. ⌜ ((b : Book) → Shows c (now (calendar .entry)) (now (readings .entry)) point e b → y ≡ yOf b e → numberOf r ≡ refusalNumber b e) ⌝ }
 {
-    if !readings_whole(c, calendar, readings, point, e) {
-        return Lack::Reading;
-    }
-    let method = point.method;
-    if !looks_back(method) {
-        return Lack::Nothing;
-    }
-    let mut keys = [0u64; 20];
-    let found = crate::ranking::rank_days(c, calendar, readings, point, e, y, &mut keys);
-    if found < y {
-        return Lack::Days;
-    }
-    Lack::Nothing
+    let reading = reading_lack(readings_whole(c, calendar, readings, point, e));
+    let days = days_lack(too_few(c, calendar, readings, point, e, y));
+    first_of(reading, days)
 }

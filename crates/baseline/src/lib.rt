@@ -1,8 +1,8 @@
 // Baselines: reference days, their ranking, and what each method makes of them.
 pub mod bases;
-pub mod days;
+mod days;
 pub mod judge;
-pub mod levels;
-pub mod means;
-pub mod ranking;
-pub mod tally;
+mod levels;
+mod means;
+mod ranking;
+mod tally;

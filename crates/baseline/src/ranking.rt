@@ -4,8 +4,9 @@ use book::Calendar;
 use book::Engagement;
 use book::Point;
 ghost use mathlib.Core.Path.{_≡_};
+ghost use mathlib.Core.List.{_++_};
 ghost use Prim.Native.Nat.{_+_, _≤_, _<_, max, min};
-ghost use lib.ListN.{length, take};
+ghost use lib.ListN.{length, take, drop};
 ghost use Rattle.book.specs.Book.{Book};
 ghost use Rattle.baseline.specs.Ranking.{inserted};
 ghost use Rattle.baseline.specs.Ranks.{Considered, RankedTo};
@@ -23,10 +24,10 @@ fn smaller(a: u64, b: u64) -> u64
     if a < b { a } else { b }
 }
 
-// Puts a key into the first n of the keys, which then are one more.
-pub fn insert(keys: &mut [u64], n: usize, key: u64)
+// Puts a key into the first n of the keys, which then are one more; those behind stay.
+fn insert(keys: &mut [u64], n: usize, key: u64)
     requires { ⌜ n < length (now keys) ⌝ }
-    ensures { λ r. ⌜ take (n + 1) (now (keys .exit)) ≡ inserted key (take n (now (keys .entry))) ⌝ }
+    ensures { λ r. ⌜ now (keys .exit) ≡ inserted key (take n (now (keys .entry))) ++ drop (n + 1) (now (keys .entry)) ⌝ }
 {
     let mut carried = key;
     let mut i = 0;
@@ -52,7 +53,7 @@ fn consider(keys: &mut [u64], n: usize, t: Tally, day: usize) -> usize
     n
 }
 
-// Ranks the y latest eligible days before the engagement's; answers how many there are.
+// Ranks the y latest eligible days before the engagement's; answers how many there are. The keys behind them stay.
 pub fn rank_days(
     c: Calendar,
     calendar: &[u8],
@@ -63,7 +64,7 @@ pub fn rank_days(
     keys: &mut [u64],
 ) -> usize
     requires { ⌜ Fits c (now calendar) (now readings) e × (y ≤ length (now keys)) ⌝ }
-    ensures { λ r. ⌜ ((b : Book) → Shows c (now (calendar .entry)) (now (readings .entry)) point e b → RankedTo b e y (now (keys .exit)) r) ⌝ }
+    ensures { λ r. ⌜ ((b : Book) → Shows c (now (calendar .entry)) (now (readings .entry)) point e b → RankedTo b e y (now (keys .entry)) (now (keys .exit)) r) ⌝ }
 {
     let mut day = e.day as usize;
     let mut found = 0;

@@ -20,6 +20,8 @@ pub mod Demand3Laws
 pub mod PossibleLaws
 pub mod Small
 pub mod SmallLaws
+pub mod Pool
+pub mod PoolLaws
 pub mod ScanLaws
 pub mod FileCallLaws
 pub mod SeriesSums

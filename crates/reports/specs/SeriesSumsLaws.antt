@@ -43,7 +43,7 @@ use Rattle.settlement.specs.Sections.{engagementCountIn, engagementsIn, rowCoun
 use Rattle.settlement.specs.SectionsLaws.{rows-counted, same-book, sectioned}
 use Rattle.settlement.specs.EngagedLaws.{getD-made, getD-mem, engaged}
 use Rattle.settlement.specs.SettlingLaws.{rowCountTo, count-more, count-most}
-use Rattle.sheets.specs.AddsLaws.{next-cell}
+use Rattle.baseline.specs.BasesLaws.{next-cell}
 use Rattle.reports.specs.SeriesSums.{byPosition, cellAt, grainsTo, volumeIn, added, Addable, Parts, SettledIn}
 
 -- ---- kinds and directions

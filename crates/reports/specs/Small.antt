@@ -6,7 +6,7 @@ use Prim.Native.Nat.{ℕ}
 use lib.ListN.{replicate}
 use Rattle.book.specs.Book.{bookOf}
 use Rattle.volumes.specs.Settlement.{Accepted}
-use Rattle.volumes.specs.Series.{Toe01}
+use Rattle.volumes.specs.Series.{Kind, Toe01}
 use Rattle.reports.specs.FileRows.{fileRows}
 use Rattle.reports.specs.Watts.{wattsIn}
 use Rattle.reports.specs.Demand3.{FileCall, wrote, carried}
@@ -53,8 +53,12 @@ engagements = 0 ∷ 0 ∷ 1 ∷ 0 ∷ 1 ∷ 0 ∷ 95 ∷ 0 ∷ 232 ∷ 3 ∷ 0 �
 unfoldable pub small : List ℕ
 small = header ++ (calendar ++ (pairs ++ (register ++ (readings ++ engagements))))
 
--- it is accepted, and the provider's file, as defined and as a call wrote it, carries 1,000 W for the supplier: off-take, up, at the first position
+-- a receiver's file, as defined and as any call wrote it, carries so many watts for a partner: off-take, up, at a position
+pub record Carries (bytes : List ℕ) (kind : Kind) (receiver partner p watts : ℕ) : Type 0 where
+  pub defined : wattsIn (fileRows (bookOf bytes) kind receiver) partner 0 0 p ≡ watts
+  pub written : (c : FileCall bytes) → wrote kind c ≡ true → c .receiver ≡ receiver → wattsIn (carried c) partner 0 0 p ≡ watts
+
+-- it is accepted, and the provider's file carries 1,000 W for the supplier at the first position
 pub record Shown : Type 0 where
   pub accepted : Accepted small
-  pub carries : wattsIn (fileRows (bookOf small) Toe01 7) 3 0 0 1 ≡ 1000
-  pub written : (c : FileCall small) → wrote Toe01 c ≡ true → c .receiver ≡ 7 → wattsIn (carried c) 3 0 0 1 ≡ 1000
+  pub carries : Carries small Toe01 7 3 1 1000

@@ -34,14 +34,14 @@ use Rattle.volumes.specs.Baseline.{pointOf, watts, known, complete, readingBefo
 use Rattle.volumes.specs.Settlement.{neededBy, needed, tooFew, refusalNumber, rowRefusal, refusalFrom, settlementRefusal, limited, deliveredBy, delivered, rowWidth, rowCount, orElse, bookRefusal, Accepted}
 use Rattle.volumes.specs.SettlementLaws.{settling-long}
 use Rattle.volumes.specs.Sheets.{covers, quarterAt}
-use Rattle.volumes.specs.Series.{Toe01, takes, receiverOf, partnerOf, sameSupply, sameDirection, isPoint, isEngagement, grainsOf, grainsAt, seriesWatts}
+use Rattle.volumes.specs.Series.{Kind, Toe01, takes, receiverOf, partnerOf, sameSupply, sameDirection, isPoint, isEngagement, grainsOf, grainsAt, seriesWatts}
 use Rattle.volumes.specs.SeriesLaws.{seriesOf}
 use Rattle.volumes.specs.SoundLaws.{sound}
 use Rattle.reports.specs.FileRows.{supplyNumber, deliveryNumber, fileRows}
 use Rattle.reports.specs.Watts.{wattsIn}
 use Rattle.reports.specs.CarryLaws.{carries}
 use Rattle.reports.specs.Demand3Laws.{carried-is}
-use Rattle.reports.specs.Small.{header, calendar, pairs, register, readings, engagements, small, Shown}
+use Rattle.reports.specs.Small.{header, calendar, pairs, register, readings, engagements, small, Carries, Shown}
 
 small-length : length small ≡ 11309
 unfolding small header calendar pairs register readings engagements
@@ -87,22 +87,22 @@ engagements-is = ap (take 16) (drop-at readings engagements 11136 readings-lengt
 
 -- ---- refusals 1 to 7
 
--- no clock changes in February and on the day before
-february-march : (y : ℕ) → dayNumber y 2 1 + calendarDays y 2 1 ≤ marchSunday y + 1
+-- no clock changes in February, nor before it: lead days don't move its end
+february-march : (y lead : ℕ) → dayNumber y 2 1 + calendarDays y 2 lead ≤ marchSunday y + lead
 unfolding marchSunday dayNumber upTo calendarDays
-february-march y = omega (arith, last-sunday-is y 3 (omega arith) (omega arith) .first)
+february-march y lead = omega (arith, last-sunday-is y 3 (omega arith) (omega arith) .first)
 
-february-october : (y : ℕ) → dayNumber y 2 1 + calendarDays y 2 1 ≤ octoberSunday y + 1
+february-october : (y lead : ℕ) → dayNumber y 2 1 + calendarDays y 2 lead ≤ octoberSunday y + lead
 unfolding octoberSunday dayNumber upTo calendarDays
-february-october y = omega (arith, last-sunday-is y 10 (omega arith) (omega arith) .first)
+february-october y lead = omega (arith, last-sunday-is y 10 (omega arith) (omega arith) .first)
 
-no-change : (y : ℕ) → hasClockChange y 2 1 ≡ false
-no-change y =
-    has-clock-change y 2 1
-    ∙ rw (le-ltb (marchSunday y + 1) (dayNumber y 2 1 + calendarDays y 2 1) (february-march y), le-ltb (octoberSunday y + 1) (dayNumber y 2 1 + calendarDays y 2 1) (february-october y), and-false (leb (dayNumber y 2 1) (marchSunday y + 1)), and-false (leb (dayNumber y 2 1) (octoberSunday y + 1)))
+pub no-change : (y lead : ℕ) → hasClockChange y 2 lead ≡ false
+no-change y lead =
+    has-clock-change y 2 lead
+    ∙ rw (le-ltb (marchSunday y + lead) (dayNumber y 2 1 + calendarDays y 2 lead) (february-march y lead), le-ltb (octoberSunday y + lead) (dayNumber y 2 1 + calendarDays y 2 lead) (february-october y lead), and-false (leb (dayNumber y 2 1) (marchSunday y + lead)), and-false (leb (dayNumber y 2 1) (octoberSunday y + lead)))
 
 -- a search that names nothing
-none-first : (test : ℕ → Bool) (a n : ℕ) → ((i : ℕ) → i < a + n → test i ≡ false) → first test a n ≡ none
+pub none-first : (test : ℕ → Bool) (a n : ℕ) → ((i : ℕ) → i < a + n → test i ≡ false) → first test a n ≡ none
 unfolding first
 none-first test a zero h = refl
 none-first test a (suc n) h = rw (h a (omega arith)) (none-first test (suc a) n (λ i k. h i (omega arith)))
@@ -127,7 +127,7 @@ reading-good (suc j) h =
     ap (λ n. not (readingGood (readingOf (toZ w32 n)))) z
 
 -- a book passes whose header, layout and sections do
-passes : (b calendar pairs register readings engagements : List ℕ) → headerGood b ≡ true → layoutGood b ≡ true → clockChangeIn (calendarOf b) ≡ false
+pub passes : (b calendar pairs register readings engagements : List ℕ) → headerGood b ≡ true → layoutGood b ≡ true → clockChangeIn (calendarOf b) ≡ false
     → calendarSection b ≡ calendar → pairSection b ≡ pairs → registerSection b ≡ register → readingSection b ≡ readings → engagementSection b ≡ engagements
     → calendarGood calendar ≡ true → pairsGood pairs ≡ true
     → first (badPoint (daysOf (calendarOf b)) register) 0 (pointCount b) ≡ none
@@ -139,7 +139,7 @@ passes b calendar pairs register readings engagements h l n c p r m e cg pg rg m
 
 clock-good : clockChangeIn (calendarOf small) ≡ false
 unfolding small header
-clock-good = no-change 2021
+clock-good = no-change 2021 1
 
 calendar-good : calendarGood calendar ≡ true
 unfolding calendarGood anyBelow calendar
@@ -222,18 +222,24 @@ month-long : 1 ≤ monthQuarters (bookOf small .calendar)
 unfolding bookOf monthQuarters small header dayStart calendarDays monthLength leap
 month-long = omega arith
 
-off-take-up : wattsIn (fileRows (bookOf small) Toe01 7) 3 0 0 1 ≡ seriesWatts (bookOf small) Toe01 7 (seriesOf 3 OffTake Up) 1
+-- a position's watts of a series that goes up, off-take, are what the file carries there
+pub carries-by : (bytes : List ℕ) → refusalOf bytes ≡ none → bookRefusal bytes ≡ none → (kind : Kind) (receiver partner p w : ℕ) → 1 ≤ p → p ≤ monthQuarters (bookOf bytes .calendar)
+    → seriesWatts (bookOf bytes) kind receiver (seriesOf partner OffTake Up) p ≡ w → Carries bytes kind receiver partner p w
 unfolding supplyNumber deliveryNumber
-off-take-up = carries (bookOf small) (λ e m. sound small small-passes .engagements e m .point) Toe01 7 3 OffTake Up 1 (omega arith) month-long
+carries-by bytes passed good kind receiver partner p w low high e =
+    let defined : wattsIn (fileRows (bookOf bytes) kind receiver) partner 0 0 p ≡ w = carries (bookOf bytes) (λ d m. sound bytes passed .engagements d m .point) kind receiver partner OffTake Up p low high ∙ e in
+    record {
+      defined = defined;
+      written = λ c wrote same. ap (λ l. wattsIn l partner 0 0 p) (carried-is bytes good kind c wrote ∙ ap (fileRows (bookOf bytes) kind) same) ∙ defined;
+    }
 
-file-carries : wattsIn (fileRows (bookOf small) Toe01 7) 3 0 0 1 ≡ 1000
-file-carries = off-take-up ∙ ap (λ b. seriesWatts b Toe01 7 (seriesOf 3 OffTake Up) 1) book-is ∙ small-watts
+pub accepted-by : (bytes : List ℕ) → bookRefusal bytes ≡ none → Accepted bytes
+unfolding Accepted
+accepted-by bytes good = settling-long bytes (rowWidth * rowCount (bookOf bytes)) (omega arith) ∙ good
 
 pub shown : Shown
-unfolding Accepted
 shown =
     record {
-      accepted = settling-long small (rowWidth * rowCount (bookOf small)) (omega arith) ∙ small-refusal;
-      carries = file-carries;
-      written = λ c e q. ap (λ l. wattsIn l 3 0 0 1) (carried-is small small-refusal Toe01 c e ∙ ap (fileRows (bookOf small) Toe01) q) ∙ file-carries;
+      accepted = accepted-by small small-refusal;
+      carries = carries-by small small-passes small-refusal Toe01 7 3 1 1000 (omega arith) month-long (ap (λ b. seriesWatts b Toe01 7 (seriesOf 3 OffTake Up) 1) book-is ∙ small-watts);
     }

@@ -6,7 +6,8 @@ mod series;
 pub mod sheet;
 
 ghost use Rattle.reports.specs.Demand3.{Demand3, Possible};
-ghost use Rattle.reports.specs.Small.{Shown};
+ghost use Rattle.reports.specs.Small.{Shown as SmallShown};
+ghost use Rattle.reports.specs.Pool.{Shown as PoolShown};
 
 // What a sheet call answers: the sums that it filled, or a number and an item of document 01.
 pub enum SheetAnswer {
@@ -32,5 +33,10 @@ pub fn such_calls_exist()
 
 // There is an accepted book whose file has watts.
 pub fn small_book_has_watts()
-    ensures { λ r. ⌜ Shown ⌝ }
+    ensures { λ r. ⌜ SmallShown ⌝ }
+{}
+
+// There is an accepted book whose files of all three kinds have watts that no point has alone at their position.
+pub fn pool_files_have_watts()
+    ensures { λ r. ⌜ PoolShown ⌝ }
 {}

@@ -333,6 +333,14 @@ pub fn count_written(watts: &[u64], n: usize) -> u64
     count
 }
 
+// The watts that stand in a cell.
+fn watts_at(watts: &[u64], i: usize) -> u64
+    requires { ⌜ i < length (now watts) ⌝ }
+    ensures { λ r. ⌜ r ≡ getD (now (watts .entry)) i 0 ⌝ }
+{
+    watts[i]
+}
+
 // A position's observation, if it has watts.
 fn emit_position(out: &mut [u8], m: Mark, position: u64, watts: u64, live: bool) -> Mark
     requires { ⌜ Stands (length (now out)) m ⌝ }
@@ -353,7 +361,8 @@ pub fn emit_watts(out: &mut [u8], m: Mark, watts: &[u64], n: usize, live: bool) 
     let mut i = 0;
     while i < n {
         let position = i + 1;
-        a = emit_position(out, a, position as u64, watts[i], live);
+        let here = watts_at(watts, i);
+        a = emit_position(out, a, position as u64, here, live);
         i += 1;
     }
     a

@@ -39,7 +39,7 @@ module _ {c : Calendar} {calendar readings : List ℕ} {point : Point} {e : Enga
       ap complete (map-range-cong (λ k. readingAt readings (first + k)) (ownReading book e) 0 (e .count) (λ k _ _. own-at first f k))
       ∙ both (complete own) (complete other) (sym (complete-append own other) ∙ settles book e (s .good) .known) .0
 
-  pub rows-are : (bases : List ℕ) (first : ℕ) → Filled c calendar readings point e x y bases → first ≡ quartersOf c * e .point + (dayStart c (e .day) + e .first) → rowsFrom e point bases readings first ≡ rowsOf book e
+  pub rows-are : {before : List ℕ} (bases : List ℕ) (first : ℕ) → Filled c calendar readings point e x y before bases → first ≡ quartersOf c * e .point + (dayStart c (e .day) + e .first) → rowsFrom e point bases readings first ≡ rowsOf book e
   rows-are bases first f g =
       ap (λ (p : Point). rowsFrom e p bases readings first) (sym (s .shows .owner))
       ∙ rows-from book e bases readings first (f .levels book s) (λ k h. own-at first g k)

@@ -6,8 +6,8 @@ use native.Mathlib.Nat.{add-zero, add-suc, suc-add}
 use native.Mathlib.Numerals.{add-one}
 use native.Mathlib.Omega.{arith}
 use lib.IntN.{ℤ, pos, _+ℤ_}
-use lib.ListN.{length, getD, set, drop, replicate, length-set, length-map, length-replicate, replicate-append-replicate}
-use lib.Seq.{drop-cons, append-snoc, set-at, getD-set-same, getD-set-other}
+use lib.ListN.{length, getD, length-set, length-map}
+use lib.Seq.{getD-set-same, getD-set-other}
 use Rattle.integers.specs.Ranges.{range, length-range}
 use Rattle.volumes.specs.QuartersLaws.{map-range-next}
 use Rattle.sheets.specs.Adds.{addAt, adds}
@@ -52,15 +52,3 @@ adds-next l at f k =
     let e : map f (range 0 (k + 1)) ≡ map f (range 0 k) ++ (f k ∷ []) =
     ap (λ (m : ℕ). map f (range 0 m)) (add-one k) ∙ map-range-next f 0 k ∙ ap (λ (m : ℕ). map f (range 0 k) ++ (f m ∷ [])) (omega arith) in
     ap (λ (m : ℕ). adds (adds l at (map f (range 0 k))) (at + m) (f k ∷ [])) (sym n) ∙ adds-append l at (map f (range 0 k)) (f k ∷ []) ∙ ap (adds l at) (sym e)
-
--- the cell behind those that are stored is the next one
-pub next-cell : {A : Type 0} (stored l : List A) (i : ℕ) (x : A) → length stored ≡ i → i < length l → set (stored ++ drop i l) i x ≡ stored ++ (x ∷ []) ++ drop (i + 1) l
-next-cell stored l i x e h =
-    ap (λ m. set (stored ++ m) i x) (drop-cons l i x h)
-    ∙ set-at stored (getD l i x) (drop (suc i) l) x i e
-    ∙ sym (append-snoc stored x (drop (suc i) l))
-    ∙ rw add-one
-
--- one zero more before the rest
-pub zero-next : (l : List ℤ) (i : ℕ) → i < length l → set (replicate i (pos 0) ++ drop i l) i (pos 0) ≡ replicate (i + 1) (pos 0) ++ drop (i + 1) l
-zero-next l i h = next-cell (replicate i (pos 0)) l i (pos 0) (length-replicate i (pos 0)) h ∙ rw (replicate-append-replicate i 1 (pos 0))

@@ -84,11 +84,12 @@ returns c = let s = c .before .before .before .before .before .before .before .b
     let add = c .before .before .before .before .before .before .addend-of in
     let out = c .before .before .fill-means .last .1 .1 .1 .1 .1 .1 .1 .1 .0 in
     record {
-      small = λ k h. c .before .before .fill-means .ensures k h .small;
+      small = λ k h. c .before .before .fill-means .ensures .each k h .small;
       levels = λ book settled k h.
           by-days settled keys k (add .result) (getD out k 0) (s .args .point .method) refl (s .pre .1) (took-at r book settled) h
           (subst-both (λ (b q : ℕ). Added (s .args .point .method) (windowIn (s .args .readings .now) b q) (dayRows (s .args .readings .now) (s .args .c) b (s .args .e .first) 24 12 (daysIn keys (s .args .x))) (s .args .x) (add .result)) base (c .before .before .before .before .before .before .before .before .before .start-of .ensures) (add .ensures))
-          (subst (λ (b : ℕ). Raises (dayRows (s .args .readings .now) (s .args .c) b (s .args .e .first + k) 0 1 (daysIn keys (s .args .x))) (s .args .x) (add .result) (getD out k 0)) base (c .before .before .fill-means .ensures k h));
+          (subst (λ (b : ℕ). Raises (dayRows (s .args .readings .now) (s .args .c) b (s .args .e .first + k) 0 1 (daysIn keys (s .args .x))) (s .args .x) (add .result) (getD out k 0)) base (c .before .before .fill-means .ensures .each k h));
+      rest = c .before .before .fill-means .ensures .rest;
     }
 
 pub fill-days-spec : {M : Type 1} → statement M

@@ -1,28 +1,32 @@
-use lib.ListN.{length, getD, length-set}
-use Rattle.baseline.specs.BasesLaws.{one-more}
--- The places passed hold the level.
-use mathlib.Core.Path.{_≡_, refl, _∙_}
-use Prim.Native.Nat.{ℕ, _-_, _≤_, _<_}
+-- The level stands in the places passed, the rest is as it was.
+use mathlib.Core.Path.{_≡_, refl, ap, _∙_}
+use mathlib.Core.List.{List, _++_}
+use Prim.Native.Nat.{ℕ, _-_, _≤_}
+use lib.ListN.{length, set, drop, replicate, length-append, length-replicate, length-drop}
+use Rattle.baseline.specs.BasesLaws.{same-next}
 use borrow.Author.Needs.{needs}
 use native.Mathlib.Omega.{arith}
 use Rattle.baseline.proofs.bases.fill_flat.Statement.{statement}
 use Rattle.baseline.proofs.bases.fill_flat.Tie as tie
 
 abbrev Inv-loop : tie.InvT-loop
-Inv-loop bases₀ n level k₀ bases k = (k ≤ n) × (length bases ≡ length bases₀) × ((j : ℕ) → j < k → getD bases j 0 ≡ level)
+Inv-loop bases₀ n level k₀ bases k = (k ≤ n) × (bases ≡ replicate k level ++ drop k bases₀)
 
 abbrev μ-loop : tie.MeasureT-loop
 μ-loop bases₀ n level k₀ bases k = n - k
 
 loop-holds : tie.Need-loop-holds Inv-loop μ-loop
-loop-holds c = (omega arith, refl, λ j h. absurd (omega arith))
+loop-holds c = (omega arith, refl)
+
+-- the places stay as many
+long : (c : tie.At-loop Inv-loop μ-loop) → length (c .loop .bases) ≡ length (c .before .args .bases .now)
+long c = ap length (c .loop .inv .1) ∙ simp (length-append, length-replicate, length-drop) (omega (arith, c .before .pre))
 
 mul-bases : tie.Need-mul-bases Inv-loop μ-loop
 mul-bases c = search needs
 
 slice-write-bases : tie.Need-slice-write-bases Inv-loop μ-loop
-slice-write-bases c = let l = c .before .loop .inv .1 in
-    omega arith
+slice-write-bases c = omega (arith, long (c .before))
 
 add-k : tie.Need-add-k Inv-loop μ-loop
 add-k c = search needs
@@ -31,16 +35,16 @@ loop-less : tie.Need-loop-less Inv-loop μ-loop
 loop-less c = search needs
 
 loop-again : tie.Need-loop-again Inv-loop μ-loop
-loop-again c = let l = c .before in
-    let s = l .before .args in
-    let same = l .loop .inv .1 in
-    (omega arith, length-set (l .loop .bases) (l .loop .k) (s .level) ∙ same, one-more (λ (j v : ℕ). v ≡ s .level) (l .loop .bases) (l .loop .k) (s .level) (omega arith) (l .loop .inv .2) refl)
+loop-again c =
+    let l = c .before .loop in
+    let s = c .before .before in
+    (omega arith, ap (λ (m : List ℕ). set m (l .k) (s .args .level)) (l .inv .1) ∙ same-next (s .args .bases .now) (l .k) (s .args .level) (omega (arith, s .pre)))
 
 same-length : tie.Need-same-length Inv-loop μ-loop
-same-length c = c .before .loop .inv .1
+same-length c = long (c .before)
 
 returns : tie.Need-returns Inv-loop μ-loop
-returns c = λ k h. c .before .loop .inv .2 k (omega arith)
+returns c = let all : c .before .loop .k ≡ c .before .before .args .n = omega arith in rw (← all) (c .before .loop .inv .1)
 
 pub fill-flat-spec : {M : Type 1} → statement M
 fill-flat-spec =

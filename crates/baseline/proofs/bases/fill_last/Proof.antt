@@ -4,7 +4,7 @@ use Prim.Native.Nat.{ℕ, _+_}
 use Rattle.baseline.specs.Shown.{beforeIn}
 use Rattle.baseline.specs.ShownLaws.{stands}
 use Rattle.baseline.specs.Levels.{Lasts}
-use Rattle.baseline.specs.BasesLaws.{subst-both}
+use Rattle.baseline.specs.BasesLaws.{subst-both, same-fills}
 use Rattle.baseline.specs.FilledLaws.{last-inside, method-0, by-last}
 use native.Mathlib.Omega.{arith}
 use borrow.Author.Needs.{needs}
@@ -45,11 +45,12 @@ same-length c = search needs
 returns : tie.Need-returns
 returns c = let s = c .before .before .before .before .before .before .before .before .before .before .before .before in
     let level = c .before .before .before .before .before .last-level in
-    let here = c .before .before .fill-flat .ensures in
+    let here = same-fills (s .args .e .count) (level .result) (s .args .bases .now) (c .before .before .fill-flat .last .0) (c .before .before .fill-flat .ensures) in
     let lasts = subst-both (λ (b q : ℕ). Lasts (beforeIn (s .args .readings .now) b q (s .args .e .notice + 1)) (level .result)) (c .before .before .before .before .before .before .before .before .base-of .ensures) (c .before .before .before .before .before .before .before .start-of .ensures) (level .ensures) in
     record {
-      small = λ k h. omega (arith, here k h, level .ensures .small);
-      levels = λ book settled k h. rw (here k h) (by-last settled k (level .result) (method-0 settled (s .args .point .method) refl (s .pre .1)) lasts);
+      small = λ k h. omega (arith, here .each k h, level .ensures .small);
+      levels = λ book settled k h. rw (here .each k h) (by-last settled k (level .result) (method-0 settled (s .args .point .method) refl (s .pre .1)) lasts);
+      rest = here .rest;
     }
 
 pub fill-last-spec : {M : Type 1} → statement M

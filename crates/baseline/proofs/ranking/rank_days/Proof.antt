@@ -12,7 +12,7 @@ use Rattle.baseline.proofs.ranking.rank_days.Statement.{statement}
 use Rattle.baseline.proofs.ranking.rank_days.Tie as tie
 
 abbrev Inv-loop : tie.InvT-loop
-Inv-loop c calendar readings point e y keys₀ day₀ found₀ keys day found = (day ≤ e .day) × (found ≤ y) × (length keys ≡ length keys₀) × ((b : Book) → Shows c calendar readings point e b → Scanned b e day keys found)
+Inv-loop c calendar readings point e y keys₀ day₀ found₀ keys day found = (day ≤ e .day) × (found ≤ y) × (length keys ≡ length keys₀) × ((b : Book) → Shows c calendar readings point e b → Scanned b e day keys₀ keys found)
 
 abbrev μ-loop : tie.MeasureT-loop
 μ-loop c calendar readings point e y keys₀ day₀ found₀ keys day found = day
@@ -30,7 +30,7 @@ returns : tie.Need-returns Inv-loop μ-loop
 returns c = λ b shows.
     let l = c .before .before in
     let s = l .before .before .before .before .before in
-    scan-few b (s .args .e) (l .loop .day) (s .args .y) (l .loop .keys) (l .loop .found) (l .loop .inv .3 b shows) (c .if1 .taken) (l .loop .inv .1)
+    scan-few b (s .args .e) (l .loop .day) (s .args .y) (s .args .keys .now) (l .loop .keys) (l .loop .found) (l .loop .inv .3 b shows) (c .if1 .taken) (l .loop .inv .1)
 
 sub-day : tie.Need-sub-day Inv-loop μ-loop
 sub-day c = search needs
@@ -56,7 +56,7 @@ loop-again c = let l = c .before .before .before .before .before .before .before
       omega arith,
       omega (arith, r .ensures .most),
       r .kept .0 ∙ l .loop .inv .2,
-      λ b shows. scan-more b (s .args .e) (l .loop .day) (l .loop .day - 1) (l .loop .found) (r .result) (l .loop .keys) (r .last .0) (c .before .before .before .before .reference-day .result) (l .loop .inv .3 b shows) (omega arith) (l .loop .inv .0) (omega (arith, m .early)) (c .before .before .before .before .reference-day .ensures .1 b shows) (r .ensures),
+      λ b shows. scan-more b (s .args .e) (l .loop .day) (l .loop .day - 1) (l .loop .found) (r .result) (s .args .keys .now) (l .loop .keys) (r .last .0) (c .before .before .before .before .reference-day .result) (l .loop .inv .3 b shows) (omega arith) (l .loop .inv .0) (omega (arith, m .early)) (c .before .before .before .before .reference-day .ensures .1 b shows) (r .ensures),
     )
 
 same-length-2 : tie.Need-same-length-2 Inv-loop μ-loop
@@ -66,7 +66,7 @@ returns-2 : tie.Need-returns-2 Inv-loop μ-loop
 returns-2 c = λ b shows.
     let l = c .before in
     let s = l .before .before .before .before .before in
-    scan-full b (s .args .e) (l .loop .day) (s .args .y) (l .loop .keys) (l .loop .found) (l .loop .inv .3 b shows) (l .loop .inv .0) (omega arith)
+    scan-full b (s .args .e) (l .loop .day) (s .args .y) (s .args .keys .now) (l .loop .keys) (l .loop .found) (l .loop .inv .3 b shows) (l .loop .inv .0) (omega arith)
 
 pub rank-days-spec : {M : Type 1} → statement M
 rank-days-spec =

@@ -24,11 +24,8 @@ loop-holds c = let s = c .before .before in
 add-position : tie.Need-add-position Inv-loop μ-loop
 add-position c = search needs
 
-mul-emit-position : tie.Need-mul-emit-position Inv-loop μ-loop
-mul-emit-position c = search needs
-
-shared-slice-read-emit-position : tie.Need-shared-slice-read-emit-position Inv-loop μ-loop
-shared-slice-read-emit-position c = search needs
+watts-at-requires : tie.Need-watts-at-requires Inv-loop μ-loop
+watts-at-requires c κs = omega arith
 
 emit-position-requires : tie.Need-emit-position-requires Inv-loop μ-loop
 emit-position-requires c κs = laid-stands (c .before .before .before .loop .inv .1)
@@ -41,7 +38,8 @@ loop-less c = search needs
 
 loop-again : tie.Need-loop-again Inv-loop μ-loop
 loop-again c = let l = c .before .before .before .before .before .before in
-    (omega arith, laid-is _ (bytes-more (l .before .before .before .args .watts .now) (l .loop .i)) (laid-then (l .loop .inv .1) (c .before .before .emit-position .ensures)))
+    let here = c .before .before .before .before .watts-at .ensures in
+    (omega arith, laid-is _ (bytes-more (l .before .before .before .args .watts .now) (l .loop .i)) (laid-then (l .loop .inv .1) (rw here at (c .before .before .emit-position .ensures))))
 
 same-length : tie.Need-same-length Inv-loop μ-loop
 same-length c = c .before .loop .inv .1 .keeps
@@ -59,8 +57,7 @@ emit-watts-spec =
     μ-loop
     loop-holds
     add-position
-    mul-emit-position
-    shared-slice-read-emit-position
+    watts-at-requires
     emit-position-requires
     add-i
     loop-less

@@ -6,7 +6,7 @@ use mathlib.Core.List.{List, _++_}
 use Prim.Native.Nat.{_-_, _≤_}
 use lib.IntN.{ℤ, pos}
 use lib.ListN.{length, set, drop, replicate, length-append, length-replicate, length-drop}
-use Rattle.sheets.specs.AddsLaws.{zero-next}
+use Rattle.baseline.specs.BasesLaws.{same-next}
 use Rattle.sheets.proofs.cells.clear.Statement.{statement}
 use Rattle.sheets.proofs.cells.clear.Tie as tie
 
@@ -41,7 +41,7 @@ loop-again : tie.Need-loop-again Inv-loop μ-loop
 loop-again c =
     let l = c .before .loop in
     let s = c .before .before in
-    (search needs, ap (λ (m : List ℤ). set m (l .i) (pos 0)) (l .inv .1) ∙ zero-next (s .args .sums .now) (l .i) (omega (arith, s .pre)))
+    (search needs, ap (λ (m : List ℤ). set m (l .i) (pos 0)) (l .inv .1) ∙ same-next (s .args .sums .now) (l .i) (pos 0) (omega (arith, s .pre)))
 
 same-length : tie.Need-same-length Inv-loop μ-loop
 same-length c = long (c .before)
