@@ -1,6 +1,6 @@
 -- What a party gets of two corrections, by the columns in which it stands.
 use mathlib.Core.Path.{_≡_, ap, _∙_}
-use mathlib.Core.Bool.{cond}
+use mathlib.Core.Bool.{Bool, true, false, cond}
 use mathlib.Core.List.{List, [], _∷_, zip, zipWith}
 use Prim.Native.Nat.{ℕ, _+_, _<_}
 use native.Mathlib.Omega.{arith}
@@ -9,7 +9,7 @@ use lib.IntN.{ℤ, pos, _+ℤ_, +ℤ-idl, +ℤ-idr}
 use lib.ListN.{length, getD, length-map}
 use mir.Syntax.{w64}
 use mir.Val.{SFits}
-use borrow.Author.Tests.{eq-eqb, ne-eqb}
+use borrow.Author.Needs.{needs}
 use Rattle.integers.specs.Ranges.{range, length-range}
 use Rattle.integers.specs.Sums.{sumBy}
 use Rattle.book.specs.declared.Point.{Point}
@@ -19,23 +19,17 @@ use Rattle.sheets.specs.Adds.{adds, Addable}
 use Rattle.sheets.specs.AddsLaws.{adds-next, adds-behind}
 use Rattle.sheets.specs.Shares.{gets, sourceIn, fspIn, getsOf}
 
-gets-is : (party : ℕ) (point : Point) (source fsp : ℤ) → gets party point source fsp ≡ cond (eqb (point .sourceparty) party) source (pos 0) +ℤ cond (eqb (point .fspparty) party) fsp (pos 0)
+pub gets-is : (party : ℕ) (point : Point) (source fsp : ℤ) → gets party point source fsp ≡ cond (eqb (point .sourceparty) party) source (pos 0) +ℤ cond (eqb (point .fspparty) party) fsp (pos 0)
 unfolding gets shareOf partiesOf zip zipWith sumBy
 gets-is party point source fsp =
     ap (λ (z : ℤ). cond (eqb (point .sourceparty) party) source (pos 0) +ℤ z) (+ℤ-idr (cond (eqb (point .fspparty) party) fsp (pos 0)))
 
-module _ (party : ℕ) (point : Point) (source fsp : ℤ) where
-  pub gets-both : point .sourceparty ≡ party → point .fspparty ≡ party → gets party point source fsp ≡ source +ℤ fsp
-  gets-both p q = gets-is party point source fsp ∙ rw (eq-eqb (point .sourceparty) party p, eq-eqb (point .fspparty) party q)
-
-  pub gets-source : point .sourceparty ≡ party → (point .fspparty ≡ party → ⊥) → gets party point source fsp ≡ source
-  gets-source p q = gets-is party point source fsp ∙ rw (eq-eqb (point .sourceparty) party p, ne-eqb (point .fspparty) party q) (+ℤ-idr source)
-
-  pub gets-fsp : (point .sourceparty ≡ party → ⊥) → point .fspparty ≡ party → gets party point source fsp ≡ fsp
-  gets-fsp p q = gets-is party point source fsp ∙ rw (ne-eqb (point .sourceparty) party p, eq-eqb (point .fspparty) party q) (+ℤ-idl fsp)
-
-  pub gets-none : (point .sourceparty ≡ party → ⊥) → (point .fspparty ≡ party → ⊥) → gets party point source fsp ≡ pos 0
-  gets-none p q = gets-is party point source fsp ∙ rw (ne-eqb (point .sourceparty) party p, ne-eqb (point .fspparty) party q)
+-- both fit, and either without the other
+pub gets-add : (p q : Bool) (source fsp : ℤ) → SFits w64 source → SFits w64 fsp → SFits w64 (source +ℤ fsp) → SFits w64 (cond p source (pos 0) +ℤ cond q fsp (pos 0))
+gets-add true true source fsp s f both = both
+gets-add true false source fsp s f both = rw (+ℤ-idr source) s
+gets-add false true source fsp s f both = rw (+ℤ-idl fsp) f
+gets-add false false source fsp s f both = search needs
 
 module _ (party : ℕ) (point : Point) (rows : List ℤ) where
   -- of so many rows so many shares, and the k-th of them

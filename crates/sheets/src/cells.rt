@@ -3,8 +3,10 @@ use book::Calendar;
 use book::Engagement;
 use book::Point;
 ghost use mathlib.Core.Path.{_≡_};
+ghost use mathlib.Core.Bool.{cond};
 ghost use mathlib.Core.List.{_++_};
 ghost use Prim.Native.Nat.{_+_, _*_, _≤_, _<_};
+ghost use lib.Dec.{eqb};
 ghost use lib.IntN.{pos, _+ℤ_};
 ghost use lib.ListN.{length, getD, drop, replicate};
 ghost use mir.Syntax.{w64};
@@ -51,21 +53,22 @@ pub fn add_at(sums: &mut [i64], i: usize, correction: i64)
     sums[i] += correction;
 }
 
+// A column's correction, if the party stands in the column.
+fn amount(column: u16, party: u16, correction: i64) -> i64
+    ensures { λ r. ⌜ r ≡ cond (eqb column party) correction (pos 0) ⌝ }
+{
+    if column == party {
+        return correction;
+    }
+    0
+}
+
 // What a party gets of the two corrections of a quarter-hour: "One party in both columns gets both."
 fn share(party: u16, point: Point, source: i64, fsp: i64) -> i64
     requires { ⌜ SFits w64 (source +ℤ fsp) ⌝ }
     ensures { λ r. ⌜ r ≡ gets party point source fsp ⌝ }
 {
-    if point.sourceparty == party {
-        if point.fspparty == party {
-            return source + fsp;
-        }
-        return source;
-    }
-    if point.fspparty == party {
-        return fsp;
-    }
-    0
+    amount(point.sourceparty, party, source) + amount(point.fspparty, party, fsp)
 }
 
 // Adds what a party gets of `count` rows, from cell `at` on.

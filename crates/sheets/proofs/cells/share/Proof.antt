@@ -1,41 +1,56 @@
--- A case for each pair of columns in which the party stands or doesn't.
+-- The amounts of the two columns, added.
 use borrow.Author.Needs.{needs}
-use mathlib.Core.Path.{_≡_, sym, _∙_}
-use lib.IntN.{_+ℤ_}
+use mathlib.Core.Path.{_≡_, sym, ap, ap₂, subst, _∙_}
+use mathlib.Core.Bool.{cond}
+use lib.Dec.{eqb}
+use lib.IntN.{ℤ, pos, _+ℤ_}
 use mir.Syntax.{w64}
-use mir.Val.{toZ, ofZ}
-use Rattle.sheets.specs.SharesLaws.{gets-both, gets-source, gets-fsp, gets-none}
+use mir.Val.{toZ, ofZ, SFits}
+use Rattle.sheets.specs.SharesLaws.{gets-is, gets-add}
 use Rattle.sheets.proofs.cells.share.Statement.{statement}
 use Rattle.sheets.proofs.cells.share.Tie as tie
 
+amount-requires : tie.Need-amount-requires
+amount-requires c κs = search needs
+
+amount-requires-2 : tie.Need-amount-requires-2
+amount-requires-2 c κs = search needs
+
+-- what the two columns give, and that it adds up without wrapping
+source-is : (c : tie.After-amount) → let a = c .before .args in c .amount .result ≡ cond (eqb (a .point .sourceparty) (a .party)) (a .source) (pos 0)
+source-is c =
+    let a = c .before .args in
+    let x : toZ w64 (ofZ w64 (a .source)) ≡ a .source = search needs in
+    c .amount .ensures ∙ ap (λ (z : ℤ). cond (eqb (a .point .sourceparty) (a .party)) z (pos 0)) x
+
+fsp-is : (c : tie.After-amount2) → let a = c .before .before .args in c .amount2 .result ≡ cond (eqb (a .point .fspparty) (a .party)) (a .fsp) (pos 0)
+fsp-is c =
+    let a = c .before .before .args in
+    let x : toZ w64 (ofZ w64 (a .fsp)) ≡ a .fsp = search needs in
+    c .amount2 .ensures ∙ ap (λ (z : ℤ). cond (eqb (a .point .fspparty) (a .party)) z (pos 0)) x
+
+fits : (c : tie.After-amount2) → SFits w64 (c .before .amount .result +ℤ c .amount2 .result)
+fits c =
+    let s = c .before .before in
+    let a = s .args in
+    subst (SFits w64) (sym (ap₂ _+ℤ_ (source-is (c .before)) (fsp-is c)))
+    (gets-add (eqb (a .point .sourceparty) (a .party)) (eqb (a .point .fspparty) (a .party)) (a .source) (a .fsp) (search needs) (search needs) (s .pre))
+
 add-result : tie.Need-add-result
-add-result c = search needs
+add-result c =
+    let f = fits c in
+    let x : toZ w64 (ofZ w64 (c .before .amount .result)) ≡ c .before .amount .result = search needs in
+    let y : toZ w64 (ofZ w64 (c .amount2 .result)) ≡ c .amount2 .result = search needs in
+    rw (x, y) f
 
 returns : tie.Need-returns
 returns c =
-    let s = c .before .before .before .before in
-    let a = s .args in
-    let x : toZ w64 (ofZ w64 (a .source)) ≡ a .source = search needs in
-    let y : toZ w64 (ofZ w64 (a .fsp)) ≡ a .fsp = search needs in
-    let z : toZ w64 (ofZ w64 (a .source +ℤ a .fsp)) ≡ a .source +ℤ a .fsp = search needs in
-    rw (x, y, z) (sym (gets-both (a .party) (a .point) (a .source) (a .fsp) (c .before .before .if1 .taken) (c .if2 .taken)))
-
-returns-2 : tie.Need-returns-2
-returns-2 c =
-    let a = c .before .before .before .before .args in
-    let x : toZ w64 (ofZ w64 (a .source)) ≡ a .source = search needs in
-    x ∙ sym (gets-source (a .party) (a .point) (a .source) (a .fsp) (c .before .before .if1 .taken) (c .if2 .left))
-
-returns-3 : tie.Need-returns-3
-returns-3 c =
-    let a = c .before .before .before .before .args in
-    let x : toZ w64 (ofZ w64 (a .fsp)) ≡ a .fsp = search needs in
-    x ∙ sym (gets-fsp (a .party) (a .point) (a .source) (a .fsp) (c .before .before .if1 .left) (c .if3 .taken))
-
-returns-4 : tie.Need-returns-4
-returns-4 c =
-    let a = c .before .before .before .before .args in
-    sym (gets-none (a .party) (a .point) (a .source) (a .fsp) (c .before .before .if1 .left) (c .if3 .left))
+    let f = fits c in
+    let a = c .before .before .args in
+    let x : toZ w64 (ofZ w64 (c .before .amount .result)) ≡ c .before .amount .result = search needs in
+    let y : toZ w64 (ofZ w64 (c .amount2 .result)) ≡ c .amount2 .result = search needs in
+    let z : toZ w64 (ofZ w64 (c .before .amount .result +ℤ c .amount2 .result)) ≡ c .before .amount .result +ℤ c .amount2 .result = search needs in
+    rw (x, y, z) (ap₂ _+ℤ_ (source-is (c .before)) (fsp-is c) ∙ sym (gets-is (a .party) (a .point) (a .source) (a .fsp)))
 
 pub share-spec : {M : Type 1} → statement M
-share-spec = tie.close (tie.spec add-result returns returns-2 returns-3 returns-4)
+share-spec = tie.close (tie.spec amount-requires amount-requires-2 add-result returns)
