@@ -1,6 +1,7 @@
 pub mod Walk
 pub mod Lit
 pub mod Lent
+pub mod Again
 pub mod Call_past_tag
 pub mod Call_past_number
 pub mod Call_past_fixed

@@ -73,12 +73,6 @@ module _ (year month : ℕ) where
     unfolding observationsFrom
     observations-fill-none h = fills-none (observationItem year month) (observationOnto year month) (rowsOfObservation partner directions) n i (low, tt) s p k d h
 
-    pub observations-fill-bad : i < n → observing (lastPosition year month) low (drop p s) ≡ bad → Fills (observationsFrom (n - i) low) (flatMap (rowsOfObservation partner directions)) s (At p) k d d
-    unfolding observationsFrom observation
-    observations-fill-bad h e =
-        fills-bad (itemsParse (observationItem year month) (observationOnto year month) (n - i) (low, tt)) (flatMap (rowsOfObservation partner directions)) s p k d d refl
-        (items-bad (observationItem year month) (observationOnto year month) n i (low, tt) (drop p s) h e)
-
     pub observations-fill-step : {q k′ : ℕ} {mid o : List ℕ} (x : Observation) → i < n → observing (lastPosition year month) low (drop p s) ≡ got x (drop q s)
         → Stored (partner, (directions, x)) k d mid k′ → Fills (observationsFrom (n - (i + 1)) (x .position + 1)) (flatMap (rowsOfObservation partner directions)) s (At q) k′ mid o
         → Fills (observationsFrom (n - i) low) (flatMap (rowsOfObservation partner directions)) s (At p) k d o

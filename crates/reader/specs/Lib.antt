@@ -12,3 +12,5 @@ pub mod ReaderPlaces
 pub mod ReaderFile
 pub mod JudgedLaws
 pub mod ReaderFacts
+pub mod Turns
+pub mod TurnsLaws

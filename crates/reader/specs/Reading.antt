@@ -142,11 +142,6 @@ module _ (year month : ℕ) where
     unfolding observationsEnd observation
     end-step o r h e = ends-step observationItem observationOnto n i (low, tt) s o r h e ∙ ap (λ (k : ℕ). ends (itemsParse observationItem observationOnto (n - (i + 1)) (k, tt) r)) (sym (add-one (o .position)))
 
-  -- what is read lies in the month
-  pub position-most : (low : ℕ) (s : List ℕ) (o : Observation) (r : List ℕ) → observing (lastPosition year month) low s ≡ got o r → o .position ≤ lastPosition year month
-  unfolding observation
-  position-most low s o r e = sound-of (observationItem (low, tt)) s o r e .1 .0 .within
-
 -- ---- what stands behind a period's month
 
 behind-join : (t c o e d r : List ℕ) → t ++ (c ++ o) ++ e ++ (d ++ r) ≡ t ++ c ++ (o ++ e ++ d) ++ r

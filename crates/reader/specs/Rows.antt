@@ -15,14 +15,21 @@ use Rattle.reader.specs.declared.rows.MessageRow.{MessageRow}
 use Rattle.reader.specs.declared.rows.ReceiverRow.{ReceiverRow}
 
 module _ (s : List ℕ) (c : Cursor) where
+  -- the cursor at an observation's position, at its kilowatts and at their decimals
+  abbrev atPosition : Cursor
+  atPosition = pastTag s (bytes "<Observation><Position>") c
+
+  abbrev atWhole : Cursor
+  atWhole = pastTag s (bytes "/Position><Quantity>") (pastNumber s 60 18446744073709551615 atPosition .to)
+
+  abbrev atPart : Cursor
+  atPart = pastNumber s 46 999999999 atWhole .to
+
   abbrev pub observationRow : ObservationRow
-  observationRow =
-      let a = pastTag s (bytes "<Observation><Position>") c in
-      let p = pastNumber s 60 18446744073709551615 a in
-      let b = pastTag s (bytes "/Position><Quantity>") (p .to) in
-      let k = pastNumber s 46 999999999 b in
-      let f = pastFixed s 3 (k .to) in
-      record { position = p .value; whole = k .value; part = f .value; to = pastTag s (bytes "</Quantity></Observation>") (f .to) }
+  observationRow = record { position = pastNumber s 60 18446744073709551615 atPosition .value; whole = pastNumber s 46 999999999 atWhole .value; part = pastFixed s 3 atPart .value }
+
+  abbrev pub observationTo : Cursor
+  observationTo = pastTag s (bytes "</Quantity></Observation>") (pastFixed s 3 atPart .to)
 
   abbrev pub periodRow : PeriodRow
   periodRow =

@@ -22,7 +22,6 @@ use Rattle.moments.specs.Moments.{momentBytes, periodStart, periodEnd}
 use Rattle.message.specs.Bytes.{opening, ending, closing, element, counter, group, partner, supplies, deliveries}
 use Rattle.kinds.specs.declared.Kind.{Kind}
 use Rattle.message.specs.ObservationForm.{plainNumber, observationBody, behindMonth}
-use Rattle.reader.specs.declared.rows.ObservationRow.{ObservationRow}
 use Rattle.reader.specs.declared.rows.WordRow.{WordRow}
 use Rattle.reader.specs.declared.rows.PeriodRow.{PeriodRow}
 use Rattle.reader.specs.declared.rows.VolumeRow.{VolumeRow}
@@ -31,7 +30,7 @@ use Rattle.reader.specs.declared.rows.CompanyRow.{CompanyRow}
 use Rattle.reader.specs.declared.rows.AccessRow.{AccessRow}
 use Rattle.reader.specs.declared.rows.MessageRow.{MessageRow}
 use Rattle.reader.specs.declared.rows.ReceiverRow.{ReceiverRow}
-use Rattle.reader.specs.Rows.{wordRow, observationRow, behindRow, periodRow, volumeRow, supplyRow, companyRow, accessRow, messageRow, receiverRow}
+use Rattle.reader.specs.Rows.{wordRow, observationRow, observationTo, behindRow, periodRow, volumeRow, supplyRow, companyRow, accessRow, messageRow, receiverRow}
 use Rattle.reader.specs.Reading.{keep, quantity-parsed, body-parsed, behind-parsed}
 use Rattle.reader.specs.ReaderPartner.{companyForm, accessForm, counter-parsed, company-parsed, access-parsed}
 
@@ -100,19 +99,6 @@ module _ (s : List ℕ) (m : Mark) (h : Within s m) (c : Cursor) (e : c ≡ curs
 
   pub word-read : (v w : List ℕ) (r : WordRow) → r ≡ wordRow s c v w → (u : Mark) → u ≡ standing s (r .to) → Parsed (wordsParse (v ∷ w ∷ [])) s m u (r .value)
   word-read v w r er u eu = rw (eu, er) (starts (word-parsed s c v w))
-
-  pub observation-read : (r : ObservationRow) → r ≡ observationRow s c → (u : Mark) → u ≡ standing s (r .to) → Parsed (observationBody .parse) s m u (r .position, r .whole * 1000 + r .part)
-  unfolding opening ending closing bytes
-  observation-read r er u eu =
-      let a = pastTag s (bytes "<Observation><Position>") c in
-      let p = pastNumber s 60 18446744073709551615 a in
-      let b = pastTag s (bytes "/Position><Quantity>") (p .to) in
-      let k = pastNumber s 46 999999999 b in
-      let f = pastFixed s 3 (k .to) in
-      rw (eu, er)
-      (body-parsed s (starts (tag-parsed s c (bytes "<Observation><Position>"))) (plain-parsed s a) (tag-parsed s (p .to) (bytes "/Position><Quantity>"))
-      (quantity-parsed s (standing s b) (standing s (k .to)) (standing s (f .to)) (k .value) (f .value) (number-parsed s b 46 999999999 (omega arith) refl) (fixed-parsed s (k .to) 3 (omega arith)))
-      (tag-parsed s (f .to) (bytes "</Quantity></Observation>")))
 
   pub behind-read : (year month : ℕ) (t u : List ℕ) → t ≡ drop 7 (momentBytes (periodStart year month)) → u ≡ momentBytes (periodEnd year month)
       → (r : Cursor) → r ≡ behindRow s c t u → (d : Mark) → d ≡ standing s r → Parsed (strip (behindMonth (year, month))) s m d tt
@@ -236,6 +222,19 @@ module _ (s : List ℕ) (m : Mark) (h : Within s m) (c : Cursor) (e : c ≡ curs
         behind-count = tag-parsed s (n .to) (ending (counter k));
       })
 
+-- an observation, from where the cursor stood to where it then stands
+pub observation-read : (s : List ℕ) (c : Cursor) → Parsed (observationBody .parse) s (standing s c) (standing s (observationTo s c)) (observationRow s c .position, observationRow s c .whole * 1000 + observationRow s c .part)
+unfolding opening ending closing bytes
+observation-read s c =
+    let a = pastTag s (bytes "<Observation><Position>") c in
+    let p = pastNumber s 60 18446744073709551615 a in
+    let b = pastTag s (bytes "/Position><Quantity>") (p .to) in
+    let k = pastNumber s 46 999999999 b in
+    let f = pastFixed s 3 (k .to) in
+    body-parsed s (tag-parsed s c (bytes "<Observation><Position>")) (plain-parsed s a) (tag-parsed s (p .to) (bytes "/Position><Quantity>"))
+    (quantity-parsed s (standing s b) (standing s (k .to)) (standing s (f .to)) (k .value) (f .value) (number-parsed s b 46 999999999 (omega arith) refl) (fixed-parsed s (k .to) 3 (omega arith)))
+    (tag-parsed s (f .to) (bytes "</Quantity></Observation>"))
+
 -- an observation's watts fit
-pub observation-fits : (s : List ℕ) (c : Cursor) (r : ObservationRow) → r ≡ observationRow s c → (r .whole ≤ 999999999) × (r .part < 1000)
-observation-fits s c r er = rw er (number-fits s _ 46 999999999 (omega arith) refl, fixed-fits s _ 3 (omega arith) (omega arith))
+pub observation-fits : (s : List ℕ) (c : Cursor) → (observationRow s c .whole ≤ 999999999) × (observationRow s c .part < 1000)
+observation-fits s c = (number-fits s _ 46 999999999 (omega arith) refl, fixed-fits s _ 3 (omega arith) (omega arith))

@@ -1,16 +1,21 @@
 // The elements of a file from its observations up to its series, as the reader finds them.
+use crate::rows::ObservationRow;
+use cursor::Cursor;
 use formats::Mark;
 use formats::Val;
 ghost use mathlib.Core.Path.{_≡_};
-ghost use mathlib.Core.List.{[], _∷_, flatMap};
+ghost use Prim.Native.Nat.{_+_, _-_, _*_, _≤_, _<_};
+ghost use Rattle.cursor.specs.Moves.{standing};
+ghost use Rattle.reader.specs.Turns.{atFirst, After, Whole};
+ghost use mathlib.Core.List.{[], _∷_};
 ghost use Rattle.formats.specs.Place.{Within, Parsed};
 ghost use Rattle.formats.specs.Combine.{strip, mapParse};
 ghost use Rattle.formats.specs.Words.{wordsParse};
 ghost use Rattle.message.specs.ObservationForm.{observed, behindMonth, period};
 ghost use Rattle.message.specs.SeriesForm.{volumeBody, ofVolume};
 ghost use Rattle.message.specs.Valid.{IsPeriod};
-ghost use Rattle.reader.specs.Reading.{observing, inOrder, keep, Passed, observationsOf, VolumeRead, outline, ownParse, sharedParse};
-ghost use Rattle.reader.specs.Filling.{Fills, Stored, rowsOfObservation, rowsOfSeries};
+ghost use Rattle.reader.specs.Reading.{inOrder, keep, VolumeRead, outline, ownParse, sharedParse};
+ghost use Rattle.reader.specs.Filling.{Fills, Stored, rowsOfSeries};
 
 // A tag, from a place to the place behind it.
 pub fn tag(s: &[u8], m: Mark, t: &[u8]) -> Mark
@@ -44,9 +49,22 @@ pub fn kept(m: Mark, good: bool) -> Mark
     if good { m } else { Mark::No }
 }
 
-// Whether an observation may stand behind those before it.
-fn in_order(position: u64, watts: u64, low: u64, last: u64) -> bool
-    ensures { λ r. ⌜ r ≡ inOrder low last (position, watts) ⌝ }
+// An observation's watts, from its kilowatts.
+fn watts_of(whole: u64, part: u64) -> u64
+    ensures { λ r. ⌜ ((whole ≤ 999999999) × (part < 1000) → r ≡ whole * 1000 + part) ⌝ }
+{
+    if 999999999 < whole {
+        return 0;
+    }
+    if 999 < part {
+        return 0;
+    }
+    whole * 1000 + part
+}
+
+// Whether an observation may stand behind one at the position `behind`.
+fn in_order(position: u64, watts: u64, behind: u64, last: u64) -> bool
+    ensures { λ r. ⌜ r ≡ inOrder (behind + 1) last (position, watts) ⌝ }
 {
     if last < position {
         return false;
@@ -54,40 +72,14 @@ fn in_order(position: u64, watts: u64, low: u64, last: u64) -> bool
     if watts == 0 {
         return false;
     }
-    low <= position
-}
-
-// An observation that was read, and the place behind it.
-struct Seen {
-    position: u64,
-    watts: u64,
-    next: Mark,
-}
-
-// An observation from position `low` to `last`.
-fn observation(s: &[u8], m: Mark, low: u64, last: u64) -> Seen
-    requires { ⌜ Within (now s) m ⌝ }
-    ensures { λ r. ⌜ Parsed (observing last low) (now (s .entry)) m (r .next) (observed (r .position, r .watts)) ⌝ }
-{
-    let start = cursor::at_mark(m);
-    let r = crate::rows::observation(s, start);
-    let to = r.to;
-    let e = cursor::place(to, s);
-    let watts = r.whole * 1000 + r.part;
-    let good = in_order(r.position, watts, low, last);
-    let next = kept(e, good);
-    Seen {
-        position: r.position,
-        watts,
-        next,
-    }
+    behind < position
 }
 
 // The partner, supply and delivery direction of a series.
-struct Key {
-    partner: u64,
-    supply: u64,
-    delivery: u64,
+pub struct Key {
+    pub partner: u64,
+    pub supply: u64,
+    pub delivery: u64,
 }
 
 // An observation's six numbers behind `count` rows, where they have room; the number of rows with it.
@@ -108,40 +100,112 @@ fn store(out: &mut [u64], count: u64, key: Key, position: u64, watts: u64) -> u6
     count + 1
 }
 
-// n observations of a month; their rows go behind `rows` rows.
-fn observations(
-    s: &[u8],
-    m: Mark,
-    n: u64,
-    year: u64,
-    month: u64,
-    key: Key,
-    rows: u64,
-    out: &mut [u64],
-) -> Mark
-    requires { ⌜ Within (now s) m ⌝ }
-    ensures { λ r. ⌜ Passed (observationsOf year month n) (now (s .entry)) m r × Fills (observationsOf year month n) (flatMap (rowsOfObservation (key .partner) (key .supply, key .delivery))) (now (s .entry)) m rows (now (out .entry)) (now (out .exit)) ⌝ }
+// So many observations of a month, whose rows go behind `rows` rows.
+pub struct Wanted {
+    pub count: u64,
+    pub year: u64,
+    pub month: u64,
+    pub key: Key,
+    pub rows: u64,
+}
+
+// What is left of them: so many, behind a position up to a last one, and behind so many rows.
+pub struct Todo {
+    pub left: u64,
+    pub behind: u64,
+    pub last: u64,
+    pub key: Key,
+    pub rows: u64,
+}
+
+// The cursor behind an observation, and what is then left.
+pub struct Turned {
+    pub to: Cursor,
+    pub todo: Todo,
+}
+
+// Where none has been read.
+fn at_first(w: Wanted) -> Todo
+    ensures { λ r. ⌜ r ≡ atFirst w ⌝ }
 {
-    let Mark::At(start) = m else {
-        return Mark::No;
-    };
-    let last = message::last_position(year, month);
-    let mut at = start;
-    let mut low: u64 = 1;
-    let mut count = rows;
-    let mut i: u64 = 0;
-    while i < n {
-        let o = observation(s, Mark::At(at), low, last);
-        let next = o.next;
-        let Mark::At(q) = next else {
-            return Mark::No;
-        };
-        count = store(out, count, key, o.position, o.watts);
-        at = q;
-        low = o.position + 1;
-        i += 1;
+    let last = message::last_position(w.year, w.month);
+    let key = w.key;
+    Todo {
+        left: w.count,
+        behind: 0,
+        last,
+        key,
+        rows: w.rows,
     }
-    Mark::At(at)
+}
+
+// An observation that the cursor has moved past is tested and its row stored; where it isn't good the cursor is lost, and nothing is left.
+fn turn(c: Cursor, s: &[u8], o: ObservationRow, t: Todo, out: &mut [u64]) -> Turned
+    ensures { λ r. ⌜ ((0 < t .left) × (o .whole ≤ 999999999) × (o .part < 1000) → After (keep (inOrder (t .behind + 1) (t .last) (o .position, o .whole * 1000 + o .part)) (standing (now (s .entry)) c)) t (o .position) (o .whole * 1000 + o .part) (now (out .entry)) (now (out .exit)) (r .to) (r .todo)) ⌝ }
+{
+    let key = t.key;
+    let watts = watts_of(o.whole, o.part);
+    let good = in_order(o.position, watts, t.behind, t.last);
+    let m = cursor::place(c, s);
+    let e = kept(m, good);
+    let Mark::At(q) = e else {
+        let none = Todo {
+            left: 0,
+            behind: 0,
+            last: t.last,
+            key,
+            rows: t.rows,
+        };
+        return Turned {
+            to: Cursor { at: 0, good: false },
+            todo: none,
+        };
+    };
+    let rows = store(out, t.rows, key, o.position, watts);
+    let left = less_one(t.left);
+    let rest = Todo {
+        left,
+        behind: o.position,
+        last: t.last,
+        key,
+        rows,
+    };
+    Turned {
+        to: Cursor { at: q, good: true },
+        todo: rest,
+    }
+}
+
+// One less, down to none.
+fn less_one(n: u64) -> u64
+    ensures { λ r. ⌜ r ≡ n - 1 ⌝ }
+{
+    if n == 0 {
+        return 0;
+    }
+    n - 1
+}
+
+// The observations: one cursor, which was lent, is lent on for each of them.
+pub fn observations(c: &mut Cursor, s: &[u8], w: Wanted, out: &mut [u64])
+    ensures { λ _. ⌜ Whole (now (s .entry)) w (now (c .entry)) (now (out .entry)) (standing (now (s .entry)) (now (c .exit))) (now (out .exit)) ⌝ }
+{
+    let mut t = at_first(w);
+    while 0 < t.left {
+        let o = crate::rows::observation(c, s);
+        let x = turn(*c, s, o, t, out);
+        *c = x.to;
+        t = x.todo;
+    }
+}
+
+// The observations from a cursor on.
+pub fn observations_from(s: &[u8], start: Cursor, w: Wanted, out: &mut [u64]) -> Cursor
+    ensures { λ r. ⌜ Whole (now (s .entry)) w start (now (out .entry)) (standing (now (s .entry)) r) (now (out .exit)) ⌝ }
+{
+    let mut c = start;
+    observations(&mut c, s, w, out);
+    c
 }
 
 // What stands behind the year and month of a period.
@@ -212,7 +276,16 @@ fn volume(s: &[u8], m: Mark, partner: u64, supply: u64, rows: u64, out: &mut [u6
         supply,
         delivery: x.delivery,
     };
-    let g = observations(s, f, x.count, q.year, q.month, key, rows, out);
+    let w = Wanted {
+        count: x.count,
+        year: q.year,
+        month: q.month,
+        key,
+        rows,
+    };
+    let from = cursor::at_mark(f);
+    let end = observations_from(s, from, w, out);
+    let g = cursor::place(end, s);
     let h = tag(s, g, b"</TimeSeriesPeriod>");
     TimeSeries {
         delivery: x.delivery,

@@ -2,7 +2,7 @@
 use cursor::Cursor;
 ghost use mathlib.Core.Path.{_≡_};
 ghost use Rattle.cursor.specs.Moves.{pastTag};
-ghost use Rattle.reader.specs.Rows.{wordRow, observationRow, behindRow, periodRow, volumeRow, supplyRow, companyRow, accessRow, messageRow, receiverRow};
+ghost use Rattle.reader.specs.Rows.{wordRow, observationRow, observationTo, behindRow, periodRow, volumeRow, supplyRow, companyRow, accessRow, messageRow, receiverRow};
 
 // A tag by itself.
 pub fn tag(s: &[u8], start: Cursor, t: &[u8]) -> Cursor
@@ -32,24 +32,22 @@ pub struct ObservationRow {
     pub position: u64,
     pub whole: u64,
     pub part: u64,
-    pub to: Cursor,
 }
 
-pub fn observation(s: &[u8], start: Cursor) -> ObservationRow
-    ensures { λ r. ⌜ r ≡ observationRow (now (s .entry)) start ⌝ }
+// Past an observation: the cursor that was lent is lent on, to one call after another.
+pub fn observation(c: &mut Cursor, s: &[u8]) -> ObservationRow
+    ensures { λ r. ⌜ (now (c .exit) ≡ observationTo (now (s .entry)) (now (c .entry))) × (r ≡ observationRow (now (s .entry)) (now (c .entry))) ⌝ }
 {
-    let mut c = start;
-    cursor::past_tag(&mut c, s, b"<Observation><Position>");
-    let position = cursor::past_number(&mut c, s, 60, 18446744073709551615);
-    cursor::past_tag(&mut c, s, b"/Position><Quantity>");
-    let whole = cursor::past_number(&mut c, s, 46, 999999999);
-    let part = cursor::past_fixed(&mut c, s, 3);
-    cursor::past_tag(&mut c, s, b"</Quantity></Observation>");
+    cursor::past_tag(c, s, b"<Observation><Position>");
+    let position = cursor::past_number(c, s, 60, 18446744073709551615);
+    cursor::past_tag(c, s, b"/Position><Quantity>");
+    let whole = cursor::past_number(c, s, 46, 999999999);
+    let part = cursor::past_fixed(c, s, 3);
+    cursor::past_tag(c, s, b"</Quantity></Observation>");
     ObservationRow {
         position,
         whole,
         part,
-        to: c,
     }
 }
 
