@@ -23,7 +23,7 @@ use Rattle.message.specs.Valid.{lastPosition, monthOf}
 use Rattle.message.specs.Rows.{Row, rowNumbers, numbers, rowsOf, seriesRows}
 use Rattle.message.specs.Group.{spread}
 use Rattle.message.specs.ObservationForm.{observation, observations, plainNumber, period}
-use Rattle.message.specs.SeriesForm.{Volume, volumeBody, ofVolume}
+use Rattle.message.specs.SeriesForm.{counted, Volume, volumeBody, ofVolume}
 use Rattle.message.specs.SeriesListForm.{follows, seriesList}
 use Rattle.message.specs.PartnerForm.{partnerForm}
 use Rattle.message.specs.FileForm.{partnersForm}
@@ -86,8 +86,8 @@ module _ (year month : ℕ) where
 
 module _ (s : List ℕ) {m a b c d e f g h : Mark} {x n year month : ℕ} (partner supply : ℕ) {k : ℕ} {before after : List ℕ} where
   pub volume-filled : Parsed (strip (opening "DeliveryDirection")) s m a tt → Parsed (wordsParse deliveries) s a b x
-      → Parsed (strip (closing "DeliveryDirection" ++ element "UnitType" (bytes "KWT") ++ opening "ObservationCounter")) s b c tt → Parsed (plainNumber .parse) s c d n
-      → Parsed (strip (ending "ObservationCounter" ++ opening "TimeSeriesPeriod")) s (keep (ltb 0 n) d) e tt → Parsed (period .parse) s e f (year, month)
+      → Parsed (strip (closing "DeliveryDirection" ++ element "UnitType" (bytes "KWT") ++ opening "ObservationCounter")) s b c tt → Parsed (counted .parse) s c d n
+      → Parsed (strip (ending "ObservationCounter" ++ opening "TimeSeriesPeriod")) s d e tt → Parsed (period .parse) s e f (year, month)
       → Passed (observationsOf year month n) s f g × Fills (observationsOf year month n) (flatMap (rowsOfObservation partner (supply, x))) s f k before after
       → Parsed (strip (closing "TimeSeriesPeriod")) s g h tt
       → VolumeRead s m h x year month n × Fills (volumeBody .parse) (λ v. rowsOfSeries partner (ofVolume supply v)) s m k before after

@@ -11,6 +11,14 @@ pub mod FillingParts
 pub mod ReaderPlaces
 pub mod ReaderFile
 pub mod JudgedLaws
-pub mod ReaderFacts
 pub mod Turns
 pub mod TurnsLaws
+pub mod Volumes
+pub mod VolumesLaws
+pub mod SeriesTurns
+pub mod SeriesTurnsLaws
+pub mod PartnerTurns
+pub mod PartnerTurnsLaws
+pub mod FileTurns
+pub mod FileTurnsLaws
+pub mod ReaderFacts

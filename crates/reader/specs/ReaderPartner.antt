@@ -23,7 +23,7 @@ use Rattle.message.specs.SeriesForm.{counted, apart-supplies}
 use Rattle.message.specs.SeriesListForm.{seriesList}
 use Rattle.message.specs.ObservationForm.{plainNumber}
 use Rattle.message.specs.PartnerForm.{ownPartner, ownPartnerBody, sharedPartner, sharedPartnerBody, partnerForm}
-use Rattle.reader.specs.Reading.{keep, parsed-ok, parsed-no, counted-parsed}
+use Rattle.reader.specs.Reading.{keep, parsed-ok, parsed-no}
 use Rattle.reader.specs.ReaderItems.{run-same, viewed, folded, read-long}
 use Rattle.reader.specs.ReaderSeries.{seriesForm, counting, listForm, Room}
 
@@ -44,10 +44,9 @@ room-on F s (At n) (At q) v rows w h p = omega (arith, h, read-long F s n q v w 
 unfoldable pub directionCounter : Format ℕ
 directionCounter = post counted (ending "DirectionCounter")
 
-pub counter-parsed : (s : List ℕ) (m a b : Mark) (n : ℕ) → Parsed (plainNumber .parse) s m a n → Parsed (strip (ending "DirectionCounter")) s (keep (ltb 0 n) a) b tt
-    → Parsed (directionCounter .parse) s m b n
+pub counter-parsed : (s : List ℕ) (m a b : Mark) (n : ℕ) → Parsed (counted .parse) s m a n → Parsed (strip (ending "DirectionCounter")) s a b tt → Parsed (directionCounter .parse) s m b n
 unfolding directionCounter
-counter-parsed s m a b n h i = let one = counted-parsed s m a n h in record { run = run-post _ (one .run) (i .run); within = i .within }
+counter-parsed s m a b n h i = record { run = run-post _ (h .run) (i .run); within = i .within }
 
 -- ---- a partner's head: number, supply direction (0 where each series has its own), how many series follow
 

@@ -78,7 +78,7 @@ module _ (k : Kind) where
   unfoldable pub partnersKept : ℕ → ℕ → (ℕ × ℕ) × ℕ → List ℕ → Res ((ℕ × ℕ) × ℕ)
   partnersKept n low t s = foldParse (partnerItem k) (partnerOnto k) adding n (low, t .0) t s
 
-  partners-start : (n : ℕ) (s : List ℕ) → mapParse (folded adding ((0, 0), 0)) (partnersForm k n .parse) s ≡ partnersKept n 0 ((0, 0), 0) s
+  pub partners-start : (n : ℕ) (s : List ℕ) → mapParse (folded adding ((0, 0), 0)) (partnersForm k n .parse) s ≡ partnersKept n 0 ((0, 0), 0) s
   unfolding partnersKept partnersForm foldParse mapParse
   partners-start n s = go (itemsParse (partnerItem k) (partnerOnto k) n (0, (0, 0)) s)
     where

@@ -198,24 +198,16 @@ pub record VolumeRead (s : List ℕ) (m r : Mark) (delivery year month rows : �
   pub observations : List Observation
   pub parsed : Parsed (volumeBody .parse) s m r (delivery, (rows, ((year, month), observations)))
 
-pub counted-parsed : (s : List ℕ) (m r : Mark) (n : ℕ) → Parsed (plainNumber .parse) s m r n → Parsed (counted .parse) s m (keep (ltb 0 n) r) n
-counted-parsed s m r n h = go (ltb 0 n) refl
-  where
-    go : (t : Bool) → ltb 0 n ≡ t → Parsed (counted .parse) s m (keep t r) n
-    go true e = record { run = run-only (λ k. ltb 0 k) (h .run) e; within = h .within }
-    go false e = record { run = run-fail (λ k. ltb 0 k) (h .run) e; within = tt }
-
 module _ (s : List ℕ) {m a b c d e f g h : Mark} {x n year month : ℕ} where
   pub volume-parsed : Parsed (strip (opening "DeliveryDirection")) s m a tt → Parsed (wordsParse deliveries) s a b x
-      → Parsed (strip (closing "DeliveryDirection" ++ element "UnitType" (bytes "KWT") ++ opening "ObservationCounter")) s b c tt → Parsed (plainNumber .parse) s c d n
-      → Parsed (strip (ending "ObservationCounter" ++ opening "TimeSeriesPeriod")) s (keep (ltb 0 n) d) e tt → Parsed (period .parse) s e f (year, month)
+      → Parsed (strip (closing "DeliveryDirection" ++ element "UnitType" (bytes "KWT") ++ opening "ObservationCounter")) s b c tt → Parsed (counted .parse) s c d n
+      → Parsed (strip (ending "ObservationCounter" ++ opening "TimeSeriesPeriod")) s d e tt → Parsed (period .parse) s e f (year, month)
       → (q : Passed (observationsOf year month n) s f g) → Parsed (strip (closing "TimeSeriesPeriod")) s g h tt → Parsed (volumeBody .parse) s m h (x, (n, ((year, month), q .ran .value)))
   unfolding volumeBody
   volume-parsed i j k l o p q r =
-      let one = counted-parsed s c d n l in
       record {
         run = run-pre (opening "DeliveryDirection") (i .run)
-            (run-seq _ (run-post _ (j .run) (k .run)) (run-seq _ (run-post _ (one .run) (o .run)) (run-seq _ (p .run) (run-post _ (q .ran .ran) (r .run)))));
+            (run-seq _ (run-post _ (j .run) (k .run)) (run-seq _ (run-post _ (l .run) (o .run)) (run-seq _ (p .run) (run-post _ (q .ran .ran) (r .run)))));
         within = r .within;
       }
 

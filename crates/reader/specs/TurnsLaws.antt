@@ -25,13 +25,9 @@ use Rattle.reader.specs.Reading.{keep, inOrder, observing, observing-par
 use Rattle.reader.specs.Rows.{observationRow, observationTo}
 use Rattle.reader.specs.RowsLaws.{observation-read, observation-fits}
 use Rattle.reader.specs.Filling.{Fills, Stored, rowsOfObservation}
-use Rattle.reader.specs.FillingLaws.{no-at, fills-bad}
+use Rattle.reader.specs.FillingLaws.{fills-no, fills-bad}
 use Rattle.reader.specs.FillingParts.{observationsFrom, observations-filled, observations-fill-none, observations-fill-step}
 use Rattle.reader.specs.Turns.{atFirst, After, Whole}
-
--- nothing is read where nothing stands
-fills-no : {A : Type 0} {f : List ℕ → Res A} {R : A → List Row} {s : List ℕ} {k : ℕ} {d o : List ℕ} → length o ≡ length d → Fills f R s No k d o
-fills-no e = record { keeps = e; wrote = λ p v r i. absurd (no-at p i) }
 
 module _ (s : List ℕ) (year month : ℕ) (key : Key) where
   abbrev pub rowsAll : List Observation → List Row
@@ -124,11 +120,3 @@ module _ (s : List ℕ) (w : Wanted) (c₀ : Cursor) (ys : List ℕ) where
     leads-on f =
         let p = observing-parsed (t .last) (t .behind + 1) s (standing s h) (standing s (observationTo s h)) (position, watts) (observation-read s h) in
         turns (keep (inOrder (t .behind + 1) (t .last) (position, watts)) (standing s (observationTo s h))) (p .within) (rw (← l .last) p) (f (some, observation-fits s h .0, observation-fits s h .1))
-
--- the whole, between places
-pub whole-at : (s : List ℕ) (w : Wanted) (c : Cursor) (before after : List ℕ) (f g : Mark) (r : Cursor) → Within s f → c ≡ cursorAt f → g ≡ standing s r → Whole s w c before (standing s r) after
-    → Passed (observationsOf (w .year) (w .month) (w .count)) s f g × Fills (observationsOf (w .year) (w .month) (w .count)) (rowsAll s (w .year) (w .month) (w .key)) s f (w .rows) before after
-whole-at s w c before after f g r h e i z =
-    subst (λ (k : Mark). Passed (observationsOf (w .year) (w .month) (w .count)) s f k × Fills (observationsOf (w .year) (w .month) (w .count)) (rowsAll s (w .year) (w .month) (w .key)) s f (w .rows) before after) (sym i)
-    (subst (λ (k : Mark). Passed (observationsOf (w .year) (w .month) (w .count)) s k (standing s r) × Fills (observationsOf (w .year) (w .month) (w .count)) (rowsAll s (w .year) (w .month) (w .key)) s k (w .rows) before after)
-    (ap (standing s) e ∙ stands-at s f h) z)

@@ -1,46 +1,16 @@
-// The elements of a file from its observations up to its series, as the reader finds them.
+// A time series, from its observations up: the cursor that was lent is lent on, to rows, to the loop over observations and to the tags behind them.
+use crate::rows::MonthRow;
 use crate::rows::ObservationRow;
 use cursor::Cursor;
 use formats::Mark;
-use formats::Val;
 ghost use mathlib.Core.Path.{_≡_};
 ghost use Prim.Native.Nat.{_+_, _-_, _*_, _≤_, _<_};
 ghost use Rattle.cursor.specs.Moves.{standing};
+ghost use Rattle.message.specs.ObservationForm.{observed};
+ghost use Rattle.reader.specs.Reading.{inOrder, keep};
+ghost use Rattle.reader.specs.Filling.{Stored};
 ghost use Rattle.reader.specs.Turns.{atFirst, After, Whole};
-ghost use mathlib.Core.List.{[], _∷_};
-ghost use Rattle.formats.specs.Place.{Within, Parsed};
-ghost use Rattle.formats.specs.Combine.{strip, mapParse};
-ghost use Rattle.formats.specs.Words.{wordsParse};
-ghost use Rattle.message.specs.ObservationForm.{observed, behindMonth, period};
-ghost use Rattle.message.specs.SeriesForm.{volumeBody, ofVolume};
-ghost use Rattle.message.specs.Valid.{IsPeriod};
-ghost use Rattle.reader.specs.Reading.{inOrder, keep, VolumeRead, outline, ownParse, sharedParse};
-ghost use Rattle.reader.specs.Filling.{Fills, Stored, rowsOfSeries};
-
-// A tag, from a place to the place behind it.
-pub fn tag(s: &[u8], m: Mark, t: &[u8]) -> Mark
-    requires { ⌜ Within (now s) m ⌝ }
-    ensures { λ r. ⌜ Parsed (strip (now (t .entry))) (now (s .entry)) m r tt ⌝ }
-{
-    let start = cursor::at_mark(m);
-    let to = crate::rows::tag(s, start, t);
-    cursor::place(to, s)
-}
-
-// One of two words, as 0 or 1.
-pub fn word(s: &[u8], m: Mark, v: &[u8], w: &[u8]) -> Val
-    requires { ⌜ Within (now s) m ⌝ }
-    ensures { λ r. ⌜ Parsed (wordsParse (now (v .entry) ∷ now (w .entry) ∷ [])) (now (s .entry)) m (r .next) (r .value) ⌝ }
-{
-    let start = cursor::at_mark(m);
-    let r = crate::rows::word(s, start, v, w);
-    let to = r.to;
-    let next = cursor::place(to, s);
-    Val {
-        value: r.value,
-        next,
-    }
-}
+ghost use Rattle.reader.specs.Volumes.{MonthPassed, VolumeDone};
 
 // A mark where a test holds.
 pub fn kept(m: Mark, good: bool) -> Mark
@@ -177,7 +147,7 @@ fn turn(c: Cursor, s: &[u8], o: ObservationRow, t: Todo, out: &mut [u64]) -> Tur
 }
 
 // One less, down to none.
-fn less_one(n: u64) -> u64
+pub fn less_one(n: u64) -> u64
     ensures { λ r. ⌜ r ≡ n - 1 ⌝ }
 {
     if n == 0 {
@@ -199,157 +169,67 @@ pub fn observations(c: &mut Cursor, s: &[u8], w: Wanted, out: &mut [u64])
     }
 }
 
-// The observations from a cursor on.
-pub fn observations_from(s: &[u8], start: Cursor, w: Wanted, out: &mut [u64]) -> Cursor
-    ensures { λ r. ⌜ Whole (now (s .entry)) w start (now (out .entry)) (standing (now (s .entry)) r) (now (out .exit)) ⌝ }
+// What stands behind the year and month of a period, where there is such a month.
+fn month_by(c: Cursor, s: &[u8], p: MonthRow) -> Cursor
+    ensures { λ r. ⌜ MonthPassed (now (s .entry)) p c r ⌝ }
 {
-    let mut c = start;
-    observations(&mut c, s, w, out);
-    c
-}
-
-// What stands behind the year and month of a period.
-fn behind_month(s: &[u8], m: Mark, year: u64, month: u64) -> Mark
-    requires { ⌜ Within (now s) m × IsPeriod year month ⌝ }
-    ensures { λ r. ⌜ Parsed (strip (behindMonth (year, month))) (now (s .entry)) m r tt ⌝ }
-{
+    let year = p.year;
+    let month = p.month;
+    if !message::is_period(year, month) {
+        return Cursor { at: 0, good: false };
+    }
     let start = message::moment_text(moments::period_start(year, month));
     let end = message::moment_text(moments::period_end(year, month));
-    let from = cursor::at_mark(m);
-    let to = crate::rows::behind_month(s, from, &start[7..29], &end);
-    cursor::place(to, s)
+    crate::rows::behind_month_by(c, s, &start[7..29], &end)
 }
 
-// The month of a period, and the place behind it.
-struct Month {
-    year: u64,
-    month: u64,
-    next: Mark,
-}
-
-// A period of a whole month.
-fn period(s: &[u8], m: Mark) -> Month
-    requires { ⌜ Within (now s) m ⌝ }
-    ensures { λ r. ⌜ Parsed (period .parse) (now (s .entry)) m (r .next) (r .year, r .month) ⌝ }
+// Past what stands behind the year and month of a period.
+pub fn past_month(c: &mut Cursor, s: &[u8], p: MonthRow)
+    ensures { λ _. ⌜ MonthPassed (now (s .entry)) p (now (c .entry)) (now (c .exit)) ⌝ }
 {
-    let start = cursor::at_mark(m);
-    let r = crate::rows::period(s, start);
-    let to = r.to;
-    let d = cursor::place(to, s);
-    let year = r.year;
-    let month = r.month;
-    if !message::is_period(year, month) {
-        return Month {
-            year,
-            month,
-            next: Mark::No,
-        };
-    }
-    let next = behind_month(s, d, year, month);
-    Month { year, month, next }
+    *c = month_by(*c, s, p);
 }
 
-// A time series that was read, and the place behind it.
-struct TimeSeries {
-    delivery: u64,
-    year: u64,
-    month: u64,
-    rows: u64,
-    next: Mark,
-}
-
-// A time series from its delivery direction on; its rows go behind `rows` rows.
-fn volume(s: &[u8], m: Mark, partner: u64, supply: u64, rows: u64, out: &mut [u64]) -> TimeSeries
-    requires { ⌜ Within (now s) m ⌝ }
-    ensures { λ r. ⌜ VolumeRead (now (s .entry)) m (r .next) (r .delivery) (r .year) (r .month) (r .rows) × Fills (volumeBody .parse) (λ v. rowsOfSeries partner (ofVolume supply v)) (now (s .entry)) m rows (now (out .entry)) (now (out .exit)) ⌝ }
-{
-    let start = cursor::at_mark(m);
-    let x = crate::rows::volume(s, start);
-    let to = x.to;
-    let d = cursor::place(to, s);
-    let some = 0 < x.count;
-    let e = kept(d, some);
-    let q = period(s, e);
-    let f = q.next;
-    let key = Key {
-        partner,
-        supply,
-        delivery: x.delivery,
-    };
-    let w = Wanted {
-        count: x.count,
-        year: q.year,
-        month: q.month,
-        key,
-        rows,
-    };
-    let from = cursor::at_mark(f);
-    let end = observations_from(s, from, w, out);
-    let g = cursor::place(end, s);
-    let h = tag(s, g, b"</TimeSeriesPeriod>");
-    TimeSeries {
-        delivery: x.delivery,
-        year: q.year,
-        month: q.month,
-        rows: x.count,
-        next: h,
-    }
-}
-
-// A series that was read, and the place behind it.
-pub struct Series {
+// The time series that is wanted: its partner and supply direction, and the rows before its own.
+pub struct VolumeTodo {
+    pub partner: u64,
     pub supply: u64,
+    pub rows: u64,
+}
+
+// A time series that was read.
+pub struct TimeSeries {
     pub delivery: u64,
     pub year: u64,
     pub month: u64,
     pub rows: u64,
-    pub next: Mark,
 }
 
-// A time series with its supply direction.
-pub fn own_series(s: &[u8], m: Mark, partner: u64, rows: u64, out: &mut [u64]) -> Series
-    requires { ⌜ Within (now s) m ⌝ }
-    ensures { λ r. ⌜ Parsed (mapParse outline ownParse) (now (s .entry)) m (r .next) ((r .supply, r .delivery), ((r .year, r .month), r .rows)) × Fills ownParse (rowsOfSeries partner) (now (s .entry)) m rows (now (out .entry)) (now (out .exit)) ⌝ }
+// Past a time series from its delivery direction on; its rows are stored.
+pub fn volume(c: &mut Cursor, s: &[u8], x: VolumeTodo, out: &mut [u64]) -> TimeSeries
+    ensures { λ r. ⌜ VolumeDone (now (s .entry)) x (now (c .entry)) (now (out .entry)) (now (c .exit)) r (now (out .exit)) ⌝ }
 {
-    let start = cursor::at_mark(m);
-    let x = crate::rows::supply(s, start);
-    let to = x.to;
-    let c = cursor::place(to, s);
-    let v = volume(s, c, partner, x.supply, rows, out);
-    let d = v.next;
-    let e = tag(s, d, b"</ToETimeSeries>");
-    Series {
+    let v = crate::rows::volume(c, s);
+    let p = crate::rows::month(c, s);
+    past_month(c, s, p);
+    let key = Key {
+        partner: x.partner,
         supply: x.supply,
         delivery: v.delivery,
-        year: v.year,
-        month: v.month,
-        rows: v.rows,
-        next: e,
-    }
-}
-
-// A time series with the supply direction of its access point.
-pub fn shared_series(
-    s: &[u8],
-    m: Mark,
-    partner: u64,
-    supply: u64,
-    rows: u64,
-    out: &mut [u64],
-) -> Series
-    requires { ⌜ Within (now s) m ⌝ }
-    ensures { λ r. ⌜ Parsed (mapParse outline (sharedParse supply)) (now (s .entry)) m (r .next) ((r .supply, r .delivery), ((r .year, r .month), r .rows)) × Fills (sharedParse supply) (rowsOfSeries partner) (now (s .entry)) m rows (now (out .entry)) (now (out .exit)) ⌝ }
-{
-    let a = tag(s, m, b"<ToETimeSeries>");
-    let v = volume(s, a, partner, supply, rows, out);
-    let b = v.next;
-    let c = tag(s, b, b"</ToETimeSeries>");
-    Series {
-        supply,
+    };
+    let w = Wanted {
+        count: v.count,
+        year: p.year,
+        month: p.month,
+        key,
+        rows: x.rows,
+    };
+    observations(c, s, w, out);
+    cursor::past_tag(c, s, b"</TimeSeriesPeriod>");
+    TimeSeries {
         delivery: v.delivery,
-        year: v.year,
-        month: v.month,
-        rows: v.rows,
-        next: c,
+        year: p.year,
+        month: p.month,
+        rows: v.count,
     }
 }

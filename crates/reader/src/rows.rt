@@ -1,31 +1,9 @@
-// The parts of a file that are read in a row: a cursor in a local is lent to one call after another.
+// The parts of a file that are read in a row: the cursor that was lent is lent on, to one call after another. What a file's kind decides is read
+// by value (`.._by`), so that covered code can choose.
 use cursor::Cursor;
+use cursor::Read;
 ghost use mathlib.Core.Path.{_≡_};
-ghost use Rattle.cursor.specs.Moves.{pastTag};
-ghost use Rattle.reader.specs.Rows.{wordRow, observationRow, observationTo, behindRow, periodRow, volumeRow, supplyRow, companyRow, accessRow, messageRow, receiverRow};
-
-// A tag by itself.
-pub fn tag(s: &[u8], start: Cursor, t: &[u8]) -> Cursor
-    ensures { λ r. ⌜ r ≡ pastTag (now (s .entry)) (now (t .entry)) start ⌝ }
-{
-    let mut c = start;
-    cursor::past_tag(&mut c, s, t);
-    c
-}
-
-// One of two words, as 0 or 1.
-pub struct WordRow {
-    pub value: u64,
-    pub to: Cursor,
-}
-
-pub fn word(s: &[u8], start: Cursor, v: &[u8], w: &[u8]) -> WordRow
-    ensures { λ r. ⌜ r ≡ wordRow (now (s .entry)) start (now (v .entry)) (now (w .entry)) ⌝ }
-{
-    let mut c = start;
-    let value = cursor::past_word(&mut c, s, v, w);
-    WordRow { value, to: c }
-}
+ghost use Rattle.reader.specs.Rows.{observationRow, observationTo, monthRow, monthTo, volumeRow, volumeTo, messageRow, messageTo, behindMonthBy, ownStart, sharedStart, companyRow, accessRow, receiverRow};
 
 // An observation's position and its kilowatts, whole and three decimals.
 pub struct ObservationRow {
@@ -34,7 +12,7 @@ pub struct ObservationRow {
     pub part: u64,
 }
 
-// Past an observation: the cursor that was lent is lent on, to one call after another.
+// Past an observation.
 pub fn observation(c: &mut Cursor, s: &[u8]) -> ObservationRow
     ensures { λ r. ⌜ (now (c .exit) ≡ observationTo (now (s .entry)) (now (c .entry))) × (r ≡ observationRow (now (s .entry)) (now (c .entry))) ⌝ }
 {
@@ -51,81 +29,96 @@ pub fn observation(c: &mut Cursor, s: &[u8]) -> ObservationRow
     }
 }
 
-// What stands behind the year and month of a period: the rest of its first moment, and its end.
-pub fn behind_month(s: &[u8], start: Cursor, rest: &[u8], end: &[u8]) -> Cursor
-    ensures { λ r. ⌜ r ≡ behindRow (now (s .entry)) start (now (rest .entry)) (now (end .entry)) ⌝ }
-{
-    let mut c = start;
-    cursor::past_tag(&mut c, s, rest);
-    cursor::past_tag(&mut c, s, b"</PeriodStart><PeriodEnd>");
-    cursor::past_tag(&mut c, s, end);
-    cursor::past_tag(
-        &mut c,
-        s,
-        b"</PeriodEnd><PeriodResolution>PT15M</PeriodResolution>",
-    );
-    c
-}
-
 // The month in which a period starts.
-pub struct PeriodRow {
+pub struct MonthRow {
     pub year: u64,
     pub month: u64,
-    pub to: Cursor,
 }
 
-pub fn period(s: &[u8], start: Cursor) -> PeriodRow
-    ensures { λ r. ⌜ r ≡ periodRow (now (s .entry)) start ⌝ }
+// Past the year and the month of a period's first moment.
+pub fn month(c: &mut Cursor, s: &[u8]) -> MonthRow
+    ensures { λ r. ⌜ (now (c .exit) ≡ monthTo (now (s .entry)) (now (c .entry))) × (r ≡ monthRow (now (s .entry)) (now (c .entry))) ⌝ }
 {
-    let mut c = start;
-    cursor::past_tag(&mut c, s, b"<PeriodStart>");
-    let year = cursor::past_fixed(&mut c, s, 4);
-    cursor::past_tag(&mut c, s, b"-");
-    let month = cursor::past_fixed(&mut c, s, 2);
-    PeriodRow { year, month, to: c }
+    cursor::past_tag(c, s, b"<PeriodStart>");
+    let year = cursor::past_fixed(c, s, 4);
+    cursor::past_tag(c, s, b"-");
+    let month = cursor::past_fixed(c, s, 2);
+    MonthRow { year, month }
 }
 
 // A time series' delivery direction and its counter of observations.
 pub struct VolumeRow {
     pub delivery: u64,
     pub count: u64,
-    pub to: Cursor,
 }
 
-pub fn volume(s: &[u8], start: Cursor) -> VolumeRow
-    ensures { λ r. ⌜ r ≡ volumeRow (now (s .entry)) start ⌝ }
+// Past the start of a time series' volume.
+pub fn volume(c: &mut Cursor, s: &[u8]) -> VolumeRow
+    ensures { λ r. ⌜ (now (c .exit) ≡ volumeTo (now (s .entry)) (now (c .entry))) × (r ≡ volumeRow (now (s .entry)) (now (c .entry))) ⌝ }
 {
-    let mut c = start;
-    cursor::past_tag(&mut c, s, b"<DeliveryDirection>");
-    let delivery = cursor::past_word(&mut c, s, b"DeliveryUp", b"DeliveryDown");
+    cursor::past_tag(c, s, b"<DeliveryDirection>");
+    let delivery = cursor::past_word(c, s, b"DeliveryUp", b"DeliveryDown");
     cursor::past_tag(
-        &mut c,
+        c,
         s,
         b"</DeliveryDirection><UnitType>KWT</UnitType><ObservationCounter>",
     );
-    let count = cursor::past_number(&mut c, s, 60, 18446744073709551615);
-    cursor::past_tag(&mut c, s, b"/ObservationCounter><TimeSeriesPeriod>");
-    VolumeRow {
-        delivery,
-        count,
-        to: c,
-    }
+    let count = cursor::past_counter(c, s);
+    cursor::past_tag(c, s, b"/ObservationCounter><TimeSeriesPeriod>");
+    VolumeRow { delivery, count }
 }
 
-// A time series' supply direction.
-pub struct SupplyRow {
-    pub supply: u64,
-    pub to: Cursor,
+// Where a file's ID starts and ends, and where its moment starts.
+pub struct MessageRow {
+    pub id: Cursor,
+    pub end: Cursor,
+    pub moment: Cursor,
 }
 
-pub fn supply(s: &[u8], start: Cursor) -> SupplyRow
-    ensures { λ r. ⌜ r ≡ supplyRow (now (s .entry)) start ⌝ }
+// Past a file's ID, up to its moment.
+pub fn message(c: &mut Cursor, s: &[u8]) -> MessageRow
+    ensures { λ r. ⌜ (now (c .exit) ≡ messageTo (now (s .entry)) (now (c .entry))) × (r ≡ messageRow (now (s .entry)) (now (c .entry))) ⌝ }
 {
-    let mut c = start;
-    cursor::past_tag(&mut c, s, b"<ToETimeSeries><SupplyDirection>");
-    let supply = cursor::past_word(&mut c, s, b"Off-take", b"Injection");
-    cursor::past_tag(&mut c, s, b"</SupplyDirection>");
-    SupplyRow { supply, to: c }
+    cursor::past_tag(c, s, b"<TransactionID>");
+    let id = *c;
+    cursor::past_name(c, s, 1, 36, 60);
+    let end = *c;
+    cursor::past_tag(c, s, b"/TransactionID><MessageCreateDateTime>");
+    let moment = *c;
+    MessageRow { id, end, moment }
+}
+
+// What stands behind the year and month of a period: the rest of its first moment, and its end.
+pub fn behind_month_by(c: Cursor, s: &[u8], rest: &[u8], end: &[u8]) -> Cursor
+    ensures { λ r. ⌜ r ≡ behindMonthBy (now (s .entry)) c (now (rest .entry)) (now (end .entry)) ⌝ }
+{
+    let a = cursor::tag_by(c, s, rest);
+    let b = cursor::tag_by(a, s, b"</PeriodStart><PeriodEnd>");
+    let d = cursor::tag_by(b, s, end);
+    cursor::tag_by(
+        d,
+        s,
+        b"</PeriodEnd><PeriodResolution>PT15M</PeriodResolution>",
+    )
+}
+
+// The start of a time series that has its own supply direction.
+pub fn own_start_by(c: Cursor, s: &[u8]) -> Read
+    ensures { λ r. ⌜ r ≡ ownStart (now (s .entry)) c ⌝ }
+{
+    let a = cursor::tag_by(c, s, b"<ToETimeSeries><SupplyDirection>");
+    let x = cursor::word_by(a, s, b"Off-take", b"Injection");
+    let b = x.to;
+    let to = cursor::tag_by(b, s, b"</SupplyDirection>");
+    Read { to, value: x.value }
+}
+
+// The start of a time series that has the supply direction of its access point.
+pub fn shared_start_by(c: Cursor, s: &[u8], supply: u64) -> Read
+    ensures { λ r. ⌜ r ≡ sharedStart (now (s .entry)) c supply ⌝ }
+{
+    let to = cursor::tag_by(c, s, b"<ToETimeSeries>");
+    Read { to, value: supply }
 }
 
 // The number of a supplier or an FSP and its counter of series.
@@ -135,19 +128,20 @@ pub struct CompanyRow {
     pub to: Cursor,
 }
 
-pub fn company(s: &[u8], start: Cursor, before: &[u8], behind: &[u8]) -> CompanyRow
-    ensures { λ r. ⌜ r ≡ companyRow (now (s .entry)) start (now (before .entry)) (now (behind .entry)) ⌝ }
+pub fn company_by(c: Cursor, s: &[u8], before: &[u8], behind: &[u8]) -> CompanyRow
+    ensures { λ r. ⌜ r ≡ companyRow (now (s .entry)) c (now (before .entry)) (now (behind .entry)) ⌝ }
 {
-    let mut c = start;
-    cursor::past_tag(&mut c, s, before);
-    let number = cursor::past_fixed(&mut c, s, 10);
-    cursor::past_tag(&mut c, s, behind);
-    let count = cursor::past_number(&mut c, s, 60, 18446744073709551615);
-    cursor::past_tag(&mut c, s, b"/DirectionCounter>");
+    let a = cursor::tag_by(c, s, before);
+    let k = cursor::fixed_by(a, s, 10);
+    let b = k.to;
+    let d = cursor::tag_by(b, s, behind);
+    let n = cursor::counter_by(d, s);
+    let e = n.to;
+    let to = cursor::tag_by(e, s, b"/DirectionCounter>");
     CompanyRow {
-        number,
-        count,
-        to: c,
+        number: k.value,
+        count: n.value,
+        to,
     }
 }
 
@@ -159,42 +153,25 @@ pub struct AccessRow {
     pub to: Cursor,
 }
 
-pub fn access_point(s: &[u8], start: Cursor) -> AccessRow
-    ensures { λ r. ⌜ r ≡ accessRow (now (s .entry)) start ⌝ }
+pub fn access_by(c: Cursor, s: &[u8]) -> AccessRow
+    ensures { λ r. ⌜ r ≡ accessRow (now (s .entry)) c ⌝ }
 {
-    let mut c = start;
-    cursor::past_tag(&mut c, s, b"<SDPSupplySeries><SDPSupply>");
-    let number = cursor::past_fixed(&mut c, s, 18);
-    cursor::past_tag(&mut c, s, b"</SDPSupply><SupplyDirection>");
-    let supply = cursor::past_word(&mut c, s, b"Off-take", b"Injection");
-    cursor::past_tag(&mut c, s, b"</SupplyDirection><DirectionCounter>");
-    let count = cursor::past_number(&mut c, s, 60, 18446744073709551615);
-    cursor::past_tag(&mut c, s, b"/DirectionCounter>");
+    let a = cursor::tag_by(c, s, b"<SDPSupplySeries><SDPSupply>");
+    let k = cursor::fixed_by(a, s, 18);
+    let b = k.to;
+    let d = cursor::tag_by(b, s, b"</SDPSupply><SupplyDirection>");
+    let x = cursor::word_by(d, s, b"Off-take", b"Injection");
+    let e = x.to;
+    let f = cursor::tag_by(e, s, b"</SupplyDirection><DirectionCounter>");
+    let n = cursor::counter_by(f, s);
+    let g = n.to;
+    let to = cursor::tag_by(g, s, b"/DirectionCounter>");
     AccessRow {
-        number,
-        supply,
-        count,
-        to: c,
+        number: k.value,
+        supply: x.value,
+        count: n.value,
+        to,
     }
-}
-
-// Where a file's ID starts and ends; its moment starts at `to`.
-pub struct MessageRow {
-    pub id: Cursor,
-    pub end: Cursor,
-    pub to: Cursor,
-}
-
-pub fn message(s: &[u8], start: Cursor) -> MessageRow
-    ensures { λ r. ⌜ r ≡ messageRow (now (s .entry)) start ⌝ }
-{
-    let mut c = start;
-    cursor::past_tag(&mut c, s, b"<TransactionID>");
-    let id = c;
-    cursor::past_name(&mut c, s, 1, 36, 60);
-    let end = c;
-    cursor::past_tag(&mut c, s, b"/TransactionID><MessageCreateDateTime>");
-    MessageRow { id, end, to: c }
 }
 
 // A file's receiver and its counter of partners, by the tags around the counter.
@@ -204,18 +181,19 @@ pub struct ReceiverRow {
     pub to: Cursor,
 }
 
-pub fn receiver(s: &[u8], start: Cursor, before: &[u8], behind: &[u8]) -> ReceiverRow
-    ensures { λ r. ⌜ r ≡ receiverRow (now (s .entry)) start (now (before .entry)) (now (behind .entry)) ⌝ }
+pub fn receiver_by(c: Cursor, s: &[u8], before: &[u8], behind: &[u8]) -> ReceiverRow
+    ensures { λ r. ⌜ r ≡ receiverRow (now (s .entry)) c (now (before .entry)) (now (behind .entry)) ⌝ }
 {
-    let mut c = start;
-    cursor::past_tag(&mut c, s, b"</MessageCreateDateTime><ReceiverID>");
-    let receiver = cursor::past_fixed(&mut c, s, 10);
-    cursor::past_tag(&mut c, s, before);
-    let count = cursor::past_number(&mut c, s, 60, 18446744073709551615);
-    cursor::past_tag(&mut c, s, behind);
+    let a = cursor::tag_by(c, s, b"</MessageCreateDateTime><ReceiverID>");
+    let k = cursor::fixed_by(a, s, 10);
+    let b = k.to;
+    let d = cursor::tag_by(b, s, before);
+    let n = cursor::number_by(d, s, 60, 18446744073709551615);
+    let e = n.to;
+    let to = cursor::tag_by(e, s, behind);
     ReceiverRow {
-        receiver,
-        count,
-        to: c,
+        receiver: k.value,
+        count: n.value,
+        to,
     }
 }

@@ -1,13 +1,13 @@
--- A walk by hand: the cursor stands in a local and is lent to one call after another, the tags as literals (`Lent`, `Lit` and `Call_..` of `cursor`).
-use Rattle.cursor.proofs.Walk.{learn, ℕ, Lft, Share, ftrue, flft, SProp, ent, emp, via, fst∗, Fun, givenOf, tables, tablesOf, u8, yes, Is, mem, owns, RefT, now, plain, ShrSlice, slice-vals, shr-slice-tells, owned, nothing, onEntry, Meets, tripleOf, Triple, entered, cited, says, Stays, walkOf, ends-at, walked, walk-meets, stay-dropped, goes-dropped, Atoms, fullShare, URA, lit<, [], _∷_, List, refl, named, Val, Memory, Routine, Heap, Calls, Loops, WpFn, Tables, FmC, fmOf, WpFn-mono, Given, ‵, _⊛_, ⋆, _$_, _∵_, !, qed, by, move, keep, use1, split, join, fsplit, fjoin, suffices, frame, done, agg, look, init, forget, stop, from, load, of-opd, and-then, no-more, assigns, land, returns, enter, alloc1, alloc0, params1, pass1, pass0, free1, free0, store, lit, addr, lft-new, lft-end}
+-- A walk by hand: the cursor that was lent is lent on to one call after another, the tags as literals; it is copied where the ID starts and ends, and where the moment starts.
+use Rattle.cursor.proofs.Walk.{ℕ, _<_, _^_, GName, Lft, Share, ftrue, flft, SProp, ent, emp, via, fst∗, Fun, givenOf, tables, tablesOf, u8, yes, Is, shows, mem, owns, RefT, MutRef, ptr-vals, mut-tells, now, plain, ShrSlice, slice-vals, shr-slice-tells, opens, closes, owned, peeks, nothing, spelt, onEntry, Meets, tripleOf, Triple, entered, cited, says, Stays, stay-ref, walkOf, goes-ref, ends-at, walked, walk-meets, stay-dropped, goes-dropped, Atoms, fullShare, URA, lit<, length, [], _∷_, List, refl, named, Val, vptr, Memory, Routine, Heap, Calls, Loops, WpFn, Tables, FmC, fmOf, WpFn-mono, Given, ‵, _⊛_, ⋆, _$_, _∵_, !, qed, by, move, keep, drop, split, join, fsplit, fsplit3, fjoin, fjoin3, feqI, suffices, frame, done, agg, look, look-raw, init, forget, stop, hop, from, load, of-opd, and-then, no-more, assigns, land, returns, enter, alloc1, alloc0, params1, pass1, pass0, free1, free0, store, lit, addr, lft-new, lft-end}
 use denote.Struct.Laws as LL
 use denote.Builtin.{SliceRefOf}
 use Rattle.text.specs.Ascii.{bytes}
 use Rattle.cursor.specs.declared.Cursor.{Cursor}
 use Rattle.cursor.specs.Moves.{pastTag, pastName}
+use Rattle.cursor.proofs.Lent.{R, Good, sv, By, by-ref}
 use Rattle.cursor.proofs.Cursor as T
 use Rattle.cursor.proofs.Cursor.Laws as T′
-use Rattle.cursor.proofs.Lent.{R, Good, sv, In, holds, in-local}
 use Rattle.cursor.proofs.Lit.{lit-typed, lits, lit-at, lends-lit, lit-back}
 use Rattle.cursor.proofs.Call_past_tag as call-tag
 use Rattle.cursor.proofs.past_tag.Symbol as tag-def
@@ -18,26 +18,29 @@ use Rattle.cursor.proofs.past_name.Symbol as name-def
 use Rattle.cursor.proofs.past_name.Symbol.{name as #name}
 use Rattle.cursor.proofs.past_name.Met as name-thm
 use Rattle.reader.specs.declared.rows.MessageRow.{MessageRow}
-use Rattle.reader.proofs.rows.MessageRow as N
-use Rattle.reader.proofs.rows.MessageRow.Laws as N′
+use Rattle.reader.proofs.rows.MessageRow as T-MessageRow
+use Rattle.reader.proofs.rows.MessageRow.Laws as L-MessageRow
 use Rattle.reader.proofs.rows.message.Key.{name as #me}
 use Rattle.reader.proofs.rows.message as me
 use Rattle.reader.proofs.rows.message.Statement as stated
 use Rattle.reader.proofs.rows.message.Code as code
 
 abbrev stayed : Stays (me.ended .signature .params) (me.ended .kept)
-stayed = (stay-dropped (SliceRefOf (0 ∷ []) tt (plain (λ _. u8)) (λ _. tt)) yes, (stay-dropped (plain (λ _. R)) yes, tt))
+stayed = (stay-ref (0 ∷ []) tt (plain (λ _. R)), (stay-dropped (SliceRefOf (1 ∷ []) tt (plain (λ _. u8)) (λ _. tt)) yes, tt))
 
-module _ {M : Type 1} (𝓤 : URA M) (H : Heap 𝓤) (A : Atoms 𝓤) (W : Given 𝓤 H A) (at-mem : Memory → SProp 𝓤) (run : Routine → Fun 𝓤) (κ : Lft) (q : Share) (s : RefT (List ℕ)) (start : Cursor) where
-  abbrev a : RefT (List ℕ) × (Cursor × (Unit {0}))
-  a = (s, (start, tt))
+-- the contracts that the walk cites
+module _ {M : Type 1} (𝓤 : URA M) (H : Heap 𝓤) (A : Atoms 𝓤) (W : Given 𝓤 H A) (at-mem : Memory → SProp 𝓤) (run : Routine → Fun 𝓤) (κ κ₁ : Lft) (q q₁ : Share) (b o : ℕ) (γ : GName) (h : Cursor) (s : RefT (List ℕ)) where
+  abbrev a : RefT Cursor × (RefT (List ℕ) × (Unit {0}))
+  a = (record { ptr = (b, o); name = γ; now = h }, (s, tt))
 
   abbrev vals : List Val × (List Val × (Unit {0}))
-  vals = (sv s ∷ [], (T′.lowered start ∷ [], tt))
+  vals = (vptr b o ∷ [], (sv s ∷ [], tt))
 
-  -- the cursor after each call, and what the calls found
+  abbrev Post : Val → SProp 𝓤
+  Post = walkOf 𝓤 H A me.ended stayed (me.clauses 𝓤 H A at-mem run) .post (((κ, (κ₁, tt)), (q, (q₁, tt)), tt, a, vals), tt)
+
   abbrev h₁ : Cursor
-  h₁ = pastTag (now s) (bytes "<TransactionID>") start
+  h₁ = pastTag (now s) (bytes "<TransactionID>") h
 
   abbrev h₂ : Cursor
   h₂ = pastName (now s) 1 36 60 h₁
@@ -45,69 +48,66 @@ module _ {M : Type 1} (𝓤 : URA M) (H : Heap 𝓤) (A : Atoms 𝓤) (W : Given
   abbrev h₃ : Cursor
   h₃ = pastTag (now s) (bytes "/TransactionID><MessageCreateDateTime>") h₂
 
-  abbrev found : MessageRow
-  found = record { id = h₁; end = h₂; to = h₃ }
+  abbrev made₀ : MessageRow
+  made₀ = record { id = h₁; end = h₂; moment = h₃ }
 
-  abbrev Post : Val → SProp 𝓤
-  Post = walkOf 𝓤 H A me.ended stayed (me.clauses 𝓤 H A at-mem run) .post (((κ, tt), (q, tt), tt, a, vals), tt)
+  made₀-is : (good₃ : Good h₁) → (good₄ : Good h₂) → (good₅ : Good h₃) → Is T-MessageRow.the-row made₀ (L-MessageRow.lowered made₀ ∷ [])
+  made₀-is good₃ good₄ good₅ = LL.owes T-MessageRow.the-type L-MessageRow.the-laws made₀ (good₃, (good₄, (good₅, tt)))
 
-  found-is : Good h₁ → Good h₂ → Good h₃ → Is N.the-row found (N′.lowered found ∷ [])
-  found-is good-id good-end good-to = LL.owes N.the-type N′.the-laws found (good-id, (good-end, (good-to, tt)))
-
-  exits : Is N.the-row found (N′.lowered found ∷ []) → ent 𝓤 (⋆ 𝓤 H A (‵ (flft κ q) ∷ [])) (Post (N′.lowered found))
-  exits is =
-      qed W (‵ (flft κ q) ∷ []) ∵
-      suffices ! _ (ends-at 𝓤 H A me.ended stayed (me.clauses 𝓤 H A at-mem run) W (((κ, tt), (q, tt), tt, a, vals), tt) (N′.lowered found) found (tt, (tt, tt)) (tt, (tt, tt))) $ says ! refl $
-      nothing ! $ move ! (1 ∷ 0 ∷ []) $ join ! $ frame ! $ nothing ! $ nothing ! $ fjoin ! $ nothing ! $ fjoin ! $ frame ! $ owned ! N.the-row (Is N.the-row) (LL.makes N.the-type N′.the-plain 𝓤 H A) found _ is $ done !
+  exits : (good₃ : Good h₁) → (good₄ : Good h₂) → (good₅ : Good h₃) → length (now s) < 2 ^ 64 → ent 𝓤 (⋆ 𝓤 H A (By W κ q (b, o) γ h₃ ∷ ‵ (flft κ₁ q₁) ∷ [])) (Post (L-MessageRow.lowered made₀))
+  exits good₃ good₄ good₅ long =
+      qed W (By W κ q (b, o) γ h₃ ∷ ‵ (flft κ₁ q₁) ∷ []) ∵
+      suffices ! _ (ends-at 𝓤 H A me.ended stayed (me.clauses 𝓤 H A at-mem run) W (((κ, (κ₁, tt)), (q, (q₁, tt)), tt, a, vals), tt) (L-MessageRow.lowered made₀) made₀ (h₃, (tt, tt)) (tt, (tt, tt))) $ says ! (refl, refl) $
+      split ! $ nothing ! $ move ! (3 ∷ 0 ∷ []) $ join ! $ move ! (2 ∷ 0 ∷ []) $ join ! $ frame ! $ nothing ! $ nothing ! $ fjoin ! $ move ! (1 ∷ 0 ∷ []) $ fjoin ! $ frame ! $ owned ! T-MessageRow.the-row (Is T-MessageRow.the-row) (LL.makes T-MessageRow.the-type L-MessageRow.the-plain 𝓤 H A) made₀ _ (made₀-is good₃ good₄ good₅) $ done !
 
   module _ (C : Calls 𝓤 H) (Λ : Loops 𝓤 H) (fm : FmC 𝓤 H (W .laws) C) (known-tag : Triple 𝓤 (C #tag) (call-tag.Contract-of 𝓤 H A at-mem run)) (known-name : Triple 𝓤 (C #name) (call-name.Contract-of 𝓤 H A at-mem run)) where
-    walk : Is (ShrSlice (named 0) κ u8) s (sv s ∷ []) → Good start → ent 𝓤 (onEntry 𝓤 H A me.signature (κ, tt) (q, tt) a vals) (WpFn 𝓤 H C Λ code.function (sv s ∷ T′.lowered start ∷ []) Post)
+    walk : Is (ShrSlice (named 1) κ₁ u8) s (sv s ∷ []) → ent 𝓤 (onEntry 𝓤 H A me.signature (κ, (κ₁, tt)) (q, (q₁, tt)) a vals) (WpFn 𝓤 H C Λ code.function (vptr b o ∷ sv s ∷ []) Post)
     unfolding bytes
-    walk is-s good-start =
-        qed W ((‵ (flft κ q) ⊛ ‵ ftrue) ∷ ‵ (owns (ShrSlice (named 0) κ u8 ∷ R ∷ []) a vals) ∷ []) ∵ enter ! C Λ code.function (sv s ∷ T′.lowered start ∷ []) _ $
-        alloc1 ! (λ l₀. alloc1 ! (λ l₁. alloc1 ! (λ l₂. alloc1 ! (λ l₃. alloc1 ! (λ l₄. alloc1 ! (λ l₅. alloc1 ! (λ l₆. alloc1 ! (λ l₇. alloc1 ! (λ l₈. alloc1 ! (λ l₉. alloc1 ! (λ l₁₀. alloc1 ! (λ l₁₁. alloc1 ! (λ l₁₂. alloc1 ! (λ l₁₃. alloc1 ! (λ l₁₄. alloc1 ! (λ l₁₅. alloc1 ! (λ l₁₆. alloc0 ! $ params1 ! $
-        pass1 ! (init ! 30 refl (tt, (tt, (record { fits = is-s .0 .1 .0 }, tt)))) $ pass1 ! (init ! 28 refl (LL.lawful T.the-type T′.the-laws 𝓤 H A W .typed start _ good-start .0)) $ pass0 ! $
-        -- the literals and the cursor are made
-        assigns ! (agg ! (lits W (bytes "<TransactionID>") tt)) (from ! (stop !)) (init ! 20 refl (lit-typed W (bytes "<TransactionID>") tt)) $
-        assigns ! (agg ! (lits W (bytes "/TransactionID><MessageCreateDateTime>") tt)) (from ! (stop !)) (init ! 18 refl (lit-typed W (bytes "/TransactionID><MessageCreateDateTime>") tt)) $
-        assigns ! (of-opd ! (load ! (from ! (stop !)) (look ! 28 refl))) (from ! (stop !)) (init ! 26 refl (LL.lawful T.the-type T′.the-laws 𝓤 H A W .typed start _ good-start .0)) $
-        move ! (35 ∷ []) $ fsplit ! $ move ! (1 ∷ []) $ fsplit ! $ move ! (37 ∷ []) $ split ! $ move ! (31 ∷ []) $ use1 W (In W l₃ start) (holds W l₃ start good-start) $
-        -- the literals are lent for one lifetime ν
-        lft-new ! tt (λ ν. move ! (27 ∷ []) $ lends-lit W tt ν l₆ (bytes "<TransactionID>") tt (lit< tt, lit< tt) (λ δ₀.
-        move ! (27 ∷ []) $ lends-lit W tt ν l₇ (bytes "/TransactionID><MessageCreateDateTime>") tt (lit< tt, lit< tt) (λ δ₁.
-        -- call 1
-        assigns ! (addr ! (from ! (stop !))) (from ! (stop !)) (init ! 25 refl (tt, tt)) $ assigns ! (addr ! (from ! (stop !))) (from ! (stop !)) (init ! 23 refl (tt, tt)) $ assigns ! (agg ! (and-then ! (load ! (from ! (stop !)) (look ! 23 refl)) (and-then ! (lit ! tt) (no-more !)))) (from ! (stop !)) (init ! 21 refl (tt, (tt, (record { fits = lit< tt }, tt)))) $
-        move ! (5 ∷ 6 ∷ 4 ∷ 10 ∷ 2 ∷ []) $
-        call-tag.calls W fm at-mem run known-tag (in-local W l₃) start κ (ν ∷ []) q fullShare s (lit-at l₆ (bytes "<TransactionID>") δ₀) tt (λ _ _ _ _ _. and-then ! (load ! (from ! (stop !)) (look ! 25 refl)) (and-then ! (load ! (from ! (stop !)) (look ! 38 refl)) (and-then ! (load ! (from ! (stop !)) (look ! 21 refl)) (no-more !)))) (land ! (from ! (stop !)) (init ! 27 refl (tt, tt)) $
-        -- the cursor is copied
-        move ! (0 ∷ []) $ learn ! (λ good-id. assigns ! (of-opd ! (load ! (from ! (stop !)) (look ! 0 refl))) (from ! (stop !)) (init ! 33 refl (LL.lawful T.the-type T′.the-laws 𝓤 H A W .typed h₁ _ good-id .0)) $ move ! (0 ∷ []) $ use1 W (In W l₃ h₁) (holds W l₃ h₁ good-id) $
-        -- call 3
-        assigns ! (addr ! (from ! (stop !))) (from ! (stop !)) (init ! 19 refl (tt, tt)) $
+    walk is-s =
+        qed W ((‵ (flft κ q) ⊛ ‵ (flft κ₁ q₁) ⊛ ‵ ftrue) ∷ ‵ (owns (MutRef (named 0) κ R ∷ ShrSlice (named 1) κ₁ u8 ∷ []) a vals) ∷ []) ∵ enter ! C Λ code.function (vptr b o ∷ sv s ∷ []) _ $
+        alloc1 ! (λ l₀. alloc1 ! (λ l₁. alloc1 ! (λ l₂. alloc1 ! (λ l₃. alloc1 ! (λ l₄. alloc1 ! (λ l₅. alloc1 ! (λ l₆. alloc1 ! (λ l₇. alloc1 ! (λ l₈. alloc1 ! (λ l₉. alloc1 ! (λ l₁₀. alloc1 ! (λ l₁₁. alloc1 ! (λ l₁₂. alloc1 ! (λ l₁₃. alloc1 ! (λ l₁₄. alloc1 ! (λ l₁₅. alloc0 ! $ params1 ! $
+        pass1 ! (init ! 28 refl (tt, tt)) $ pass1 ! (init ! 26 refl (tt, (tt, (record { fits = is-s .0 .1 .0 }, tt)))) $ pass0 ! $
+        assigns ! (agg ! (lits W (bytes "<TransactionID>") tt)) (from ! (stop !)) (init ! 18 refl (lit-typed W (bytes "<TransactionID>") tt)) $
+        assigns ! (agg ! (lits W (bytes "/TransactionID><MessageCreateDateTime>") tt)) (from ! (stop !)) (init ! 16 refl (lit-typed W (bytes "/TransactionID><MessageCreateDateTime>") tt)) $
+        move ! (33 ∷ []) $ fsplit ! $ move ! (1 ∷ []) $ fsplit ! $ move ! (35 ∷ []) $ split ! $ move ! (1 ∷ []) $ split ! $ move ! (5 ∷ 2 ∷ []) $ join ! $
+        lft-new ! tt (λ ν. move ! (24 ∷ []) $ lends-lit W tt ν l₆ (bytes "<TransactionID>") tt (lit< tt, lit< tt) (λ δ₆.
+        move ! (24 ∷ []) $ lends-lit W tt ν l₇ (bytes "/TransactionID><MessageCreateDateTime>") tt (lit< tt, lit< tt) (λ δ₇.
+        assigns ! (addr ! (from ! (hop ! (look ! 36 refl) (stop !)))) (from ! (stop !)) (init ! 22 refl (tt, tt)) $
+        assigns ! (addr ! (from ! (stop !))) (from ! (stop !)) (init ! 20 refl (tt, tt)) $
+        assigns ! (agg ! (and-then ! (load ! (from ! (stop !)) (look ! 20 refl)) (and-then ! (lit ! tt) (no-more !)))) (from ! (stop !)) (init ! 18 refl (tt, (tt, (record { fits = lit< tt }, tt)))) $
+        move ! (5 ∷ 6 ∷ 4 ∷ 8 ∷ 2 ∷ []) $
+        call-tag.calls W fm at-mem run known-tag (by-ref W κ q (b, o) γ) h κ₁ (ν ∷ []) q₁ fullShare s (lit-at l₆ (bytes "<TransactionID>") δ₆) tt (λ _ _ _ _ _. and-then ! (load ! (from ! (stop !)) (look ! 22 refl)) (and-then ! (load ! (from ! (stop !)) (look ! 34 refl)) (and-then ! (load ! (from ! (stop !)) (look ! 18 refl)) (no-more !)))) (land ! (from ! (stop !)) (init ! 24 refl (tt, tt)) $
+        split ! $ fsplit3 ! $ drop ! $ opens ! tt R {h = h₁} b o (λ us. spelt ! R (Is R) (shows 𝓤 H A R) (LL.vals T.the-type T′.the-laws) (LL.tells T.the-type T′.the-laws) fullShare h₁ us b o $ move ! (1 ∷ []) $ peeks ! R (Is R) (shows 𝓤 H A R) h₁ (T′.lowered h₁ ∷ []) (λ good₃.
+        assigns ! (of-opd ! (load ! (from ! (hop ! (look ! 40 refl) (stop !))) (look-raw ! 1 refl))) (from ! (stop !)) (init ! 36 refl (LL.lawful T.the-type T′.the-laws 𝓤 H A W .typed h₁ _ good₃ .0)) $
+        move ! (1 ∷ 0 ∷ 2 ∷ 3 ∷ 4 ∷ []) $ closes ! tt R h₁ (T′.lowered h₁ ∷ []) b o $ feqI ! (List Val) (vptr b o ∷ []) (vptr b o ∷ []) refl $ fjoin3 ! $ join ! $
+        assigns ! (addr ! (from ! (hop ! (look ! 36 refl) (stop !)))) (from ! (stop !)) (init ! 16 refl (tt, tt)) $
         move ! (0 ∷ 1 ∷ 3 ∷ []) $
-        call-name.calls W fm at-mem run known-name (in-local W l₃) h₁ κ q s 1 36 60 (lit< tt) (lit< tt) (lit< tt) (λ _ _ _. and-then ! (load ! (from ! (stop !)) (look ! 19 refl)) (and-then ! (load ! (from ! (stop !)) (look ! 38 refl)) (and-then ! (lit ! tt) (and-then ! (lit ! tt) (and-then ! (lit ! tt) (no-more !)))))) (land ! (from ! (stop !)) (store ! 27 refl (tt, tt)) $
-        -- the cursor is copied
-        move ! (0 ∷ []) $ learn ! (λ good-end. assigns ! (of-opd ! (load ! (from ! (stop !)) (look ! 0 refl))) (from ! (stop !)) (init ! 31 refl (LL.lawful T.the-type T′.the-laws 𝓤 H A W .typed h₂ _ good-end .0)) $ move ! (0 ∷ []) $ use1 W (In W l₃ h₂) (holds W l₃ h₂ good-end) $
-        -- call 5
-        assigns ! (addr ! (from ! (stop !))) (from ! (stop !)) (init ! 17 refl (tt, tt)) $ assigns ! (addr ! (from ! (stop !))) (from ! (stop !)) (init ! 15 refl (tt, tt)) $ assigns ! (agg ! (and-then ! (load ! (from ! (stop !)) (look ! 15 refl)) (and-then ! (lit ! tt) (no-more !)))) (from ! (stop !)) (init ! 13 refl (tt, (tt, (record { fits = lit< tt }, tt)))) $
+        call-name.calls W fm at-mem run known-name (by-ref W κ q (b, o) γ) h₁ κ₁ q₁ s 1 36 60 (lit< tt) (lit< tt) (lit< tt) (λ _ _ _. and-then ! (load ! (from ! (stop !)) (look ! 16 refl)) (and-then ! (load ! (from ! (stop !)) (look ! 34 refl)) (and-then ! (lit ! tt) (and-then ! (lit ! tt) (and-then ! (lit ! tt) (no-more !)))))) (land ! (from ! (stop !)) (store ! 24 refl (tt, tt)) $
+        split ! $ fsplit3 ! $ drop ! $ opens ! tt R {h = h₂} b o (λ us. spelt ! R (Is R) (shows 𝓤 H A R) (LL.vals T.the-type T′.the-laws) (LL.tells T.the-type T′.the-laws) fullShare h₂ us b o $ move ! (1 ∷ []) $ peeks ! R (Is R) (shows 𝓤 H A R) h₂ (T′.lowered h₂ ∷ []) (λ good₄.
+        assigns ! (of-opd ! (load ! (from ! (hop ! (look ! 40 refl) (stop !))) (look-raw ! 1 refl))) (from ! (stop !)) (init ! 34 refl (LL.lawful T.the-type T′.the-laws 𝓤 H A W .typed h₂ _ good₄ .0)) $
+        move ! (1 ∷ 0 ∷ 2 ∷ 3 ∷ 4 ∷ []) $ closes ! tt R h₂ (T′.lowered h₂ ∷ []) b o $ feqI ! (List Val) (vptr b o ∷ []) (vptr b o ∷ []) refl $ fjoin3 ! $ join ! $
+        assigns ! (addr ! (from ! (hop ! (look ! 36 refl) (stop !)))) (from ! (stop !)) (init ! 14 refl (tt, tt)) $
+        assigns ! (addr ! (from ! (stop !))) (from ! (stop !)) (init ! 12 refl (tt, tt)) $
+        assigns ! (agg ! (and-then ! (load ! (from ! (stop !)) (look ! 12 refl)) (and-then ! (lit ! tt) (no-more !)))) (from ! (stop !)) (init ! 10 refl (tt, (tt, (record { fits = lit< tt }, tt)))) $
         move ! (0 ∷ 1 ∷ 3 ∷ 2 ∷ 5 ∷ []) $
-        call-tag.calls W fm at-mem run known-tag (in-local W l₃) h₂ κ (ν ∷ []) q fullShare s (lit-at l₇ (bytes "/TransactionID><MessageCreateDateTime>") δ₁) tt (λ _ _ _ _ _. and-then ! (load ! (from ! (stop !)) (look ! 17 refl)) (and-then ! (load ! (from ! (stop !)) (look ! 38 refl)) (and-then ! (load ! (from ! (stop !)) (look ! 13 refl)) (no-more !)))) (land ! (from ! (stop !)) (store ! 27 refl (tt, tt)) $
-        -- what was found is put together
-        move ! (0 ∷ []) $ learn ! (λ good-to. assigns ! (of-opd ! (load ! (from ! (stop !)) (look ! 0 refl))) (from ! (stop !)) (init ! 11 refl (LL.lawful T.the-type T′.the-laws 𝓤 H A W .typed h₃ _ good-to .0)) $
-        assigns ! (agg ! (and-then ! (load ! (from ! (stop !)) (look ! 33 refl)) (and-then ! (load ! (from ! (stop !)) (look ! 31 refl)) (and-then ! (load ! (from ! (stop !)) (look ! 11 refl)) (no-more !))))) (from ! (stop !)) (init ! 40 refl (LL.lawful N.the-type N′.the-laws 𝓤 H A W .typed found _ (found-is good-id good-end good-to) .0)) $
-        -- ν is ended, and the literals' locals come back
+        call-tag.calls W fm at-mem run known-tag (by-ref W κ q (b, o) γ) h₂ κ₁ (ν ∷ []) q₁ fullShare s (lit-at l₇ (bytes "/TransactionID><MessageCreateDateTime>") δ₇) tt (λ _ _ _ _ _. and-then ! (load ! (from ! (stop !)) (look ! 14 refl)) (and-then ! (load ! (from ! (stop !)) (look ! 34 refl)) (and-then ! (load ! (from ! (stop !)) (look ! 10 refl)) (no-more !)))) (land ! (from ! (stop !)) (store ! 24 refl (tt, tt)) $
+        split ! $ fsplit3 ! $ drop ! $ opens ! tt R {h = h₃} b o (λ us. spelt ! R (Is R) (shows 𝓤 H A R) (LL.vals T.the-type T′.the-laws) (LL.tells T.the-type T′.the-laws) fullShare h₃ us b o $ move ! (1 ∷ []) $ peeks ! R (Is R) (shows 𝓤 H A R) h₃ (T′.lowered h₃ ∷ []) (λ good₅.
+        assigns ! (of-opd ! (load ! (from ! (hop ! (look ! 40 refl) (stop !))) (look-raw ! 1 refl))) (from ! (stop !)) (init ! 32 refl (LL.lawful T.the-type T′.the-laws 𝓤 H A W .typed h₃ _ good₅ .0)) $
+        move ! (1 ∷ 0 ∷ 2 ∷ 3 ∷ 4 ∷ []) $ closes ! tt R h₃ (T′.lowered h₃ ∷ []) b o $ feqI ! (List Val) (vptr b o ∷ []) (vptr b o ∷ []) refl $ fjoin3 ! $ join ! $
+        assigns ! (agg ! (and-then ! (load ! (from ! (stop !)) (look ! 32 refl)) (and-then ! (load ! (from ! (stop !)) (look ! 30 refl)) (and-then ! (load ! (from ! (stop !)) (look ! 28 refl)) (no-more !))))) (from ! (stop !)) (init ! 38 refl (LL.lawful T-MessageRow.the-type L-MessageRow.the-laws 𝓤 H A W .typed made₀ _ (made₀-is good₃ good₄ good₅) .0)) $
         move ! (2 ∷ []) $ lft-end ! tt $ move ! (0 ∷ 7 ∷ []) $ lit-back W tt ν l₆ (bytes "<TransactionID>") (
         move ! (1 ∷ 7 ∷ []) $ lit-back W tt ν l₇ (bytes "/TransactionID><MessageCreateDateTime>") (
-        returns ! (look ! 40 refl) $
-        forget ! 40 refl $ forget ! 38 refl $ forget ! 36 refl $ forget ! 3 refl $ forget ! 33 refl $ forget ! 31 refl $ forget ! 2 refl $ forget ! 0 refl $ forget ! 27 refl $ forget ! 25 refl $ forget ! 23 refl $ forget ! 21 refl $ forget ! 19 refl $ forget ! 17 refl $ forget ! 15 refl $ forget ! 13 refl $ forget ! 11 refl $
-        move ! (40 ∷ 41 ∷ []) $ free1 ! $ move ! (38 ∷ 39 ∷ []) $ free1 ! $ move ! (36 ∷ 37 ∷ []) $ free1 ! $ move ! (3 ∷ 35 ∷ []) $ free1 ! $ move ! (32 ∷ 33 ∷ []) $ free1 ! $ move ! (30 ∷ 31 ∷ []) $ free1 ! $ move ! (2 ∷ 29 ∷ []) $ free1 ! $ move ! (0 ∷ 27 ∷ []) $ free1 ! $ move ! (24 ∷ 25 ∷ []) $ free1 ! $ move ! (22 ∷ 23 ∷ []) $ free1 ! $ move ! (20 ∷ 21 ∷ []) $ free1 ! $ move ! (18 ∷ 19 ∷ []) $ free1 ! $ move ! (16 ∷ 17 ∷ []) $ free1 ! $ move ! (14 ∷ 15 ∷ []) $ free1 ! $ move ! (12 ∷ 13 ∷ []) $ free1 ! $ move ! (10 ∷ 11 ∷ []) $ free1 ! $ move ! (8 ∷ 9 ∷ []) $ free1 ! $ free0 ! $
-        keep ! (1 ∷ []) $ by ! (exits (found-is good-id good-end good-to))))))))))))))))))))))))))))))
+        returns ! (look ! 38 refl) $
+        forget ! 38 refl $ forget ! 36 refl $ forget ! 34 refl $ forget ! 32 refl $ forget ! 30 refl $ forget ! 28 refl $ forget ! 2 refl $ forget ! 0 refl $ forget ! 24 refl $ forget ! 22 refl $ forget ! 20 refl $ forget ! 18 refl $ forget ! 16 refl $ forget ! 14 refl $ forget ! 12 refl $ forget ! 10 refl $
+        move ! (38 ∷ 39 ∷ []) $ free1 ! $ move ! (36 ∷ 37 ∷ []) $ free1 ! $ move ! (34 ∷ 35 ∷ []) $ free1 ! $ move ! (32 ∷ 33 ∷ []) $ free1 ! $ move ! (30 ∷ 31 ∷ []) $ free1 ! $ move ! (28 ∷ 29 ∷ []) $ free1 ! $ move ! (2 ∷ 27 ∷ []) $ free1 ! $ move ! (0 ∷ 25 ∷ []) $ free1 ! $ move ! (22 ∷ 23 ∷ []) $ free1 ! $ move ! (20 ∷ 21 ∷ []) $ free1 ! $ move ! (18 ∷ 19 ∷ []) $ free1 ! $ move ! (16 ∷ 17 ∷ []) $ free1 ! $ move ! (14 ∷ 15 ∷ []) $ free1 ! $ move ! (12 ∷ 13 ∷ []) $ free1 ! $ move ! (10 ∷ 11 ∷ []) $ free1 ! $ move ! (8 ∷ 9 ∷ []) $ free1 ! $ free0 ! $
+        keep ! (1 ∷ 2 ∷ []) $ by ! (exits good₃ good₄ good₅ (is-s .0 .1 .0))))))))))))))))))))))))))))))))
 
 meets : {M : Type 1} (𝓤 : URA M) (H : Heap 𝓤) (A : Atoms 𝓤) (W : Given 𝓤 H A) (mem : Memory → SProp 𝓤) (run : Routine → Fun 𝓤) (𝓣 : Tables 𝓤 H) → Triple 𝓤 (𝓣 .C #tag) (call-tag.Contract-of 𝓤 H A mem run) → Triple 𝓤 (𝓣 .C #name) (call-name.Contract-of 𝓤 H A mem run) → Meets 𝓤 H A me.signature (WpFn 𝓤 H (𝓣 .C) (𝓣 .Λ) code.function) (me.spec 𝓤 H A mem run)
 meets 𝓤 H A W mem run 𝓣 known-tag known-name =
-    walk-meets 𝓤 H A me.ended stayed W (goes-dropped 𝓤 H A W 1 (SliceRefOf (0 ∷ []) tt (plain (λ _. u8)) (λ _. tt)) yes (λ κs x f. refl), (goes-dropped 𝓤 H A W 1 (plain (λ _. R)) yes (λ κs x f. refl), tt)) (me.clauses 𝓤 H A mem run)
+    walk-meets 𝓤 H A me.ended stayed W (goes-ref 𝓤 H A W 2 0 tt (plain (λ _. R)), (goes-dropped 𝓤 H A W 2 (SliceRefOf (1 ∷ []) tt (plain (λ _. u8)) (λ _. tt)) yes (λ κs x f. refl), tt)) (me.clauses 𝓤 H A mem run)
     (WpFn 𝓤 H (𝓣 .C) (𝓣 .Λ) code.function) (WpFn-mono 𝓤 H (W .laws) 𝓣 code.function)
-    (walked 𝓤 H A me.ended stayed (me.clauses 𝓤 H A mem run) (WpFn 𝓤 H (𝓣 .C) (𝓣 .Λ) code.function) (λ κs. (slice-vals, (LL.vals T.the-type T′.the-laws, tt))) (λ κs. (shr-slice-tells (named 0) (κs .0) u8, (LL.tells T.the-type T′.the-laws, tt)))
-    (λ κs qs bounds a _ are. via 𝓤 _ (fst∗ 𝓤 _ (emp 𝓤)) (walk 𝓤 H A W mem run (κs .0) (qs .0) (a .0) (a .1 .0) (𝓣 .C) (𝓣 .Λ) (fmOf 𝓤 H (W .laws) 𝓣) known-tag known-name (are .0) (are .1 .0))))
+    (walked 𝓤 H A me.ended stayed (me.clauses 𝓤 H A mem run) (WpFn 𝓤 H (𝓣 .C) (𝓣 .Λ) code.function) (λ κs. (ptr-vals, (slice-vals, tt))) (λ κs. (mut-tells (named 0) (κs .0) R, (shr-slice-tells (named 1) (κs .1 .0) u8, tt)))
+    (λ κs qs bounds a _ are. via 𝓤 _ (fst∗ 𝓤 _ (emp 𝓤)) (walk 𝓤 H A W mem run (κs .0) (κs .1 .0) (qs .0) (qs .1 .0) (a .0 .ptr .0) (a .0 .ptr .1) (a .0 .name) (a .0 .now) (a .1 .0) (𝓣 .C) (𝓣 .Λ) (fmOf 𝓤 H (W .laws) 𝓣) known-tag known-name (are .1 .0))))
 
 pub message-spec : {M : Type 1} → stated.statement M
 unfolding code.routine tablesOf
