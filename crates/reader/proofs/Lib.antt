@@ -1,3 +1,2 @@
 mod Cited
-pub mod Call_observation
 pub mod Turn

@@ -12,7 +12,7 @@ use Rattle.cursor.specs.Moves.{standing}
 use Rattle.reader.specs.declared.elements.Wanted.{Wanted}
 use Rattle.reader.specs.declared.elements.Todo.{Todo}
 use Rattle.reader.specs.Reading.{keep, inOrder}
-use Rattle.reader.specs.Rows.{observationRow, observationTo}
+use Rattle.rows.specs.Rows.{observationRow, observationTo}
 use Rattle.reader.specs.Turns.{atFirst, After, Whole}
 use Rattle.reader.specs.TurnsLaws.{Leads, leads-first, leads-last, leads-on}
 use Rattle.reader.proofs.elements.Todo as S

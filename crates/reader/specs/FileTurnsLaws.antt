@@ -21,12 +21,12 @@ use Rattle.kinds.specs.declared.Kind.the-variants.{Toe01, Toe02, Toe03}
 use Rattle.message.specs.Bytes.{opening, closing, ending, root, counter}
 use Rattle.message.specs.Valid.{isMoment}
 use Rattle.message.specs.FileForm.{kindOf, kindForm, partnersForm}
-use Rattle.reader.specs.declared.rows.MessageRow.{MessageRow}
-use Rattle.reader.specs.declared.rows.ReceiverRow.{ReceiverRow}
+use Rattle.rows.specs.declared.MessageRow.{MessageRow}
+use Rattle.rows.specs.declared.ReceiverRow.{ReceiverRow}
 use Rattle.reader.specs.declared.partners.PartnersTodo.{PartnersTodo}
 use Rattle.reader.specs.declared.file.Root.{Root}
 use Rattle.reader.specs.declared.file.Receiver.{Receiver}
-use Rattle.reader.specs.Rows.{messageRow, messageTo, receiverRow}
+use Rattle.rows.specs.Rows.{messageRow, messageTo, receiverRow}
 use Rattle.reader.specs.RowsLaws.{MessageSteps, message-steps, ReceiverSteps, receiver-steps}
 use Rattle.reader.specs.ReaderItems.{folded}
 use Rattle.reader.specs.ReaderPartners.{adding}

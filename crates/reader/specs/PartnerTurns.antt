@@ -17,7 +17,7 @@ use Rattle.reader.specs.declared.series.SeriesTodo.{SeriesTodo}
 use Rattle.reader.specs.declared.partners.Head.{Head}
 use Rattle.reader.specs.declared.partners.PartnersTodo.{PartnersTodo}
 use Rattle.reader.specs.declared.partners.PartnerSeen.{PartnerSeen}
-use Rattle.reader.specs.Rows.{companyRow, accessRow}
+use Rattle.rows.specs.Rows.{companyRow, accessRow}
 use Rattle.reader.specs.Reading.{keep}
 use Rattle.reader.specs.ReaderItems.{folded}
 use Rattle.reader.specs.ReaderSeries.{Room}

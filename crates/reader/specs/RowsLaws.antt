@@ -20,7 +20,7 @@ use Rattle.message.specs.Bytes.{opening, ending, closing, element, counter, gro
 use Rattle.kinds.specs.declared.Kind.{Kind}
 use Rattle.message.specs.ObservationForm.{plainNumber, observationBody, behindMonth}
 use Rattle.message.specs.SeriesForm.{counted}
-use Rattle.reader.specs.Rows.{observationRow, observationTo, monthRow, monthTo, volumeRow, volumeTo, messageRow, messageTo, behindMonthBy, ownStart, sharedStart, companyRow, accessRow, receiverRow}
+use Rattle.rows.specs.Rows.{observationRow, observationTo, monthRow, monthTo, volumeRow, volumeTo, messageRow, messageTo, behindMonthBy, ownStart, sharedStart, companyRow, accessRow, receiverRow}
 use Rattle.reader.specs.Reading.{quantity-parsed, body-parsed, behind-parsed}
 use Rattle.reader.specs.ReaderPartner.{companyForm, accessForm, counter-parsed, company-parsed, access-parsed}
 

@@ -14,7 +14,7 @@ use Rattle.kinds.specs.declared.Kind.{Kind}
 use Rattle.kinds.specs.declared.Kind.the-variants.{Toe01, Toe02, Toe03}
 use Rattle.reader.specs.declared.series.SeriesTodo.{SeriesTodo}
 use Rattle.reader.specs.declared.series.SeriesSeen.{SeriesSeen}
-use Rattle.reader.specs.Rows.{ownStart, sharedStart}
+use Rattle.rows.specs.Rows.{ownStart, sharedStart}
 use Rattle.reader.specs.Reading.{keep, Outline, outline}
 use Rattle.reader.specs.ReaderItems.{folded}
 use Rattle.reader.specs.ReaderSeries.{joins, item, placeIn, counting, listForm, Room}

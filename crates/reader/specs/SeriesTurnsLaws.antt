@@ -23,7 +23,7 @@ use Rattle.message.specs.Bytes.{opening, closing}
 use Rattle.message.specs.SeriesForm.{volumeBody, ofVolume}
 use Rattle.reader.specs.declared.series.SeriesTodo.{SeriesTodo}
 use Rattle.reader.specs.declared.elements.TimeSeries.{TimeSeries}
-use Rattle.reader.specs.Rows.{ownStart}
+use Rattle.rows.specs.Rows.{ownStart}
 use Rattle.reader.specs.RowsLaws.{SupplySteps, own-steps, own-fits, shared-steps, series-end}
 use Rattle.reader.specs.Reading.{keep, Outline, outline, parsed-no, VolumeRead, sharedParse}
 use Rattle.reader.specs.ReaderItems.{run-same, folded}

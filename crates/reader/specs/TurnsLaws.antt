@@ -22,7 +22,7 @@ use Rattle.reader.specs.declared.elements.Key.{Key}
 use Rattle.reader.specs.declared.elements.Wanted.{Wanted}
 use Rattle.reader.specs.declared.elements.Todo.{Todo}
 use Rattle.reader.specs.Reading.{keep, inOrder, observing, observing-parsed, Passed, passed-end, passed-no, observationsOf, observationItem, observationOnto, observationsEnd, end-start, end-last, end-bad, end-step}
-use Rattle.reader.specs.Rows.{observationRow, observationTo}
+use Rattle.rows.specs.Rows.{observationRow, observationTo}
 use Rattle.reader.specs.RowsLaws.{observation-read, observation-fits}
 use Rattle.reader.specs.Filling.{Fills, Stored, rowsOfObservation}
 use Rattle.reader.specs.FillingLaws.{fills-no, fills-bad}

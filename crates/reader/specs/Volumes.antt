@@ -10,7 +10,7 @@ use Rattle.cursor.specs.declared.Cursor.{Cursor}
 use Rattle.cursor.specs.Moves.{standing}
 use Rattle.message.specs.ObservationForm.{isPeriod, behindMonth}
 use Rattle.message.specs.SeriesForm.{volumeBody, ofVolume}
-use Rattle.reader.specs.declared.rows.MonthRow.{MonthRow}
+use Rattle.rows.specs.declared.MonthRow.{MonthRow}
 use Rattle.reader.specs.declared.elements.VolumeTodo.{VolumeTodo}
 use Rattle.reader.specs.declared.elements.TimeSeries.{TimeSeries}
 use Rattle.reader.specs.Reading.{VolumeRead}

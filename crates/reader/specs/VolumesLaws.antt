@@ -13,10 +13,10 @@ use Rattle.moments.specs.Moments.{momentBytes, periodStart, periodEnd}
 use Rattle.calendar.specs.Dates.{IsMonth}
 use Rattle.message.specs.Valid.{IsPeriod}
 use Rattle.message.specs.ObservationForm.{isPeriod, period}
-use Rattle.reader.specs.declared.rows.MonthRow.{MonthRow}
-use Rattle.reader.specs.declared.rows.VolumeRow.{VolumeRow}
+use Rattle.rows.specs.declared.MonthRow.{MonthRow}
+use Rattle.rows.specs.declared.VolumeRow.{VolumeRow}
 use Rattle.reader.specs.declared.elements.VolumeTodo.{VolumeTodo}
-use Rattle.reader.specs.Rows.{volumeRow, volumeTo, monthRow, monthTo, behindMonthBy}
+use Rattle.rows.specs.Rows.{volumeRow, volumeTo, monthRow, monthTo, behindMonthBy}
 use Rattle.reader.specs.RowsLaws.{VolumeSteps, MonthSteps, behind-read, volume-steps, month-steps, volume-end, delivery-fits}
 use Rattle.reader.specs.Reading.{period-none, period-parsed}
 use Rattle.reader.specs.FillingParts.{volume-filled}

@@ -1,8 +1,8 @@
 // A time series, from its observations up: the cursor that was lent is lent on, to rows, to the loop over observations and to the tags behind them.
-use crate::rows::MonthRow;
-use crate::rows::ObservationRow;
 use cursor::Cursor;
 use formats::Mark;
+use rows::MonthRow;
+use rows::ObservationRow;
 ghost use mathlib.Core.Path.{_≡_};
 ghost use Prim.Native.Nat.{_+_, _-_, _*_, _≤_, _<_};
 ghost use Rattle.cursor.specs.Moves.{standing};
@@ -162,7 +162,7 @@ pub fn observations(c: &mut Cursor, s: &[u8], w: Wanted, out: &mut [u64])
 {
     let mut t = at_first(w);
     while 0 < t.left {
-        let o = crate::rows::observation(c, s);
+        let o = rows::observation(c, s);
         let x = turn(*c, s, o, t, out);
         *c = x.to;
         t = x.todo;
@@ -180,7 +180,7 @@ fn month_by(c: Cursor, s: &[u8], p: MonthRow) -> Cursor
     }
     let start = message::moment_text(moments::period_start(year, month));
     let end = message::moment_text(moments::period_end(year, month));
-    crate::rows::behind_month_by(c, s, &start[7..29], &end)
+    rows::behind_month_by(c, s, &start[7..29], &end)
 }
 
 // Past what stands behind the year and month of a period.
@@ -209,8 +209,8 @@ pub struct TimeSeries {
 pub fn volume(c: &mut Cursor, s: &[u8], x: VolumeTodo, out: &mut [u64]) -> TimeSeries
     ensures { λ r. ⌜ VolumeDone (now (s .entry)) x (now (c .entry)) (now (out .entry)) (now (c .exit)) r (now (out .exit)) ⌝ }
 {
-    let v = crate::rows::volume(c, s);
-    let p = crate::rows::month(c, s);
+    let v = rows::volume(c, s);
+    let p = rows::month(c, s);
     past_month(c, s, p);
     let key = Key {
         partner: x.partner,

@@ -1,15 +1,15 @@
 // A file is judged, its rows are counted, and they fill the lent numbers as far as these go: one cursor goes through it, from its first byte on.
 use crate::partners::PartnersTodo;
-use crate::rows::MessageRow;
-use crate::rows::ReceiverRow;
 use cursor::Cursor;
 use kinds::Kind;
+use rows::MessageRow;
+use rows::ReceiverRow;
 ghost use mathlib.Core.Path.{_≡_};
 ghost use mathlib.Core.List.{_++_};
 ghost use Prim.Native.Nat.{suc};
 ghost use Rattle.message.specs.Bytes.{opening, ending, closing, counter};
 ghost use Rattle.message.specs.FileForm.{kindOf};
-ghost use Rattle.reader.specs.Rows.{receiverRow};
+ghost use Rattle.rows.specs.Rows.{receiverRow};
 ghost use Rattle.reader.specs.FileTurns.{Rooted, Received, rootEnd, FileDone};
 
 // A file's kind.
@@ -65,19 +65,14 @@ fn receiver_row(c: Cursor, s: &[u8], kind: Kind) -> ReceiverRow
     ensures { λ r. ⌜ r ≡ receiverRow (now (s .entry)) c (closing "ReceiverID" ++ opening (counter kind)) (ending (counter kind)) ⌝ }
 {
     match kind {
-        Kind::Toe01 => crate::rows::receiver_by(
+        Kind::Toe01 => rows::receiver_by(
             c,
             s,
             b"</ReceiverID><SupplierCounter>",
             b"/SupplierCounter>",
         ),
-        Kind::Toe02 => crate::rows::receiver_by(
-            c,
-            s,
-            b"</ReceiverID><FSPCounter>",
-            b"/FSPCounter>",
-        ),
-        Kind::Toe03 => crate::rows::receiver_by(
+        Kind::Toe02 => rows::receiver_by(c, s, b"</ReceiverID><FSPCounter>", b"/FSPCounter>"),
+        Kind::Toe03 => rows::receiver_by(
             c,
             s,
             b"</ReceiverID><SDPSupplyCounter>",
@@ -166,7 +161,7 @@ pub fn file_read(s: &[u8], out: &mut [u64]) -> FileRead
 {
     let mut c = Cursor { at: 0, good: true };
     let root = past_root(&mut c, s);
-    let message = crate::rows::message(&mut c, s);
+    let message = rows::message(&mut c, s);
     let v = past_receiver(&mut c, s, root);
     let todo = v.todo;
     let told = crate::partners::partners(&mut c, s, todo, out);

@@ -2,7 +2,6 @@
 mod elements;
 mod file;
 mod partners;
-mod rows;
 mod series;
 
 use crate::file::FileRead;

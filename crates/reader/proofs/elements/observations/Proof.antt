@@ -24,24 +24,24 @@ use Rattle.cursor.specs.declared.Cursor.{Cursor}
 use Rattle.cursor.proofs.Cursor as T
 use Rattle.cursor.proofs.Cursor.Laws as T′
 use Rattle.cursor.proofs.Lent.{R, Good, sv, Slice, By, by-ref}
-use Rattle.reader.specs.declared.rows.ObservationRow.{ObservationRow}
+use Rattle.rows.specs.declared.ObservationRow.{ObservationRow}
 use Rattle.reader.specs.declared.elements.Wanted.{Wanted}
 use Rattle.reader.specs.declared.elements.Todo.{Todo}
 use Rattle.reader.specs.declared.elements.Turned.{Turned}
-use Rattle.reader.specs.Rows.{observationRow, observationTo}
+use Rattle.rows.specs.Rows.{observationRow, observationTo}
 use Rattle.reader.specs.Turns.{atFirst}
-use Rattle.reader.proofs.rows.ObservationRow as N
-use Rattle.reader.proofs.rows.ObservationRow.Laws as N′
+use Rattle.rows.proofs.ObservationRow as N
+use Rattle.rows.proofs.ObservationRow.Laws as N′
 use Rattle.reader.proofs.elements.Wanted as B
 use Rattle.reader.proofs.elements.Wanted.Laws as B′
 use Rattle.reader.proofs.elements.Todo as S
 use Rattle.reader.proofs.elements.Todo.Laws as S′
 use Rattle.reader.proofs.elements.Turned as D
 use Rattle.reader.proofs.elements.Turned.Laws as D′
-use Rattle.reader.proofs.Call_observation as call-one
-use Rattle.reader.proofs.rows.observation.Symbol as one-def
-use Rattle.reader.proofs.rows.observation.Symbol.{name as #one}
-use Rattle.reader.proofs.rows.observation.Met as one-thm
+use Rattle.rows.proofs.Call_observation as call-one
+use Rattle.rows.proofs.observation.Symbol as one-def
+use Rattle.rows.proofs.observation.Symbol.{name as #one}
+use Rattle.rows.proofs.observation.Met as one-thm
 use Rattle.reader.proofs.elements.at_first as first
 use Rattle.reader.proofs.elements.at_first.Symbol as first-def
 use Rattle.reader.proofs.elements.at_first.Symbol.{name as #first}
@@ -251,5 +251,5 @@ observations-spec 𝓤 H 𝓜 𝓖 𝓡 =
     (tables 𝓤 H 𝓜 𝓡 code.env .C) (tables 𝓤 H 𝓜 𝓡 code.env .Λ) #me code.function (code.unfolded 𝓤 H 𝓜 𝓡)
     (meets 𝓤 H (𝓖 .A) (givenOf 𝓤 H 𝓜 𝓖) (𝓜 .mem) (𝓡 .run) (tablesOf 𝓤 H 𝓜 (tables 𝓤 H 𝓜 𝓡 code.env))
     (cited 𝓤 H (First-of 𝓤 H (𝓖 .A) (𝓜 .mem) (𝓡 .run)) 𝓜 𝓡 code.env #first first-def.routine code.calls-reader·elements·at-first (first-thm.met 𝓤 H 𝓜 𝓖 𝓡))
-    (cited 𝓤 H (call-one.Contract-of 𝓤 H (𝓖 .A) (𝓜 .mem) (𝓡 .run)) 𝓜 𝓡 code.env #one one-def.routine code.calls-reader·rows·observation (one-thm.met 𝓤 H 𝓜 𝓖 𝓡))
+    (cited 𝓤 H (call-one.Contract-of 𝓤 H (𝓖 .A) (𝓜 .mem) (𝓡 .run)) 𝓜 𝓡 code.env #one one-def.routine code.calls-rows·observation (one-thm.met 𝓤 H 𝓜 𝓖 𝓡))
     (cited 𝓤 H (Turn-of 𝓤 H (𝓖 .A) (𝓜 .mem) (𝓡 .run)) 𝓜 𝓡 code.env #turn turn-def.routine code.calls-reader·elements·turn (turn-thm.met 𝓤 H 𝓜 𝓖 𝓡)))

@@ -6,9 +6,9 @@ use Rattle.cursor.specs.declared.Cursor.{Cursor}
 use Rattle.cursor.proofs.Cursor as T
 use Rattle.cursor.proofs.Cursor.Laws as T′
 use Rattle.cursor.proofs.Lent.{R, Good, sv, Slice}
-use Rattle.reader.specs.declared.rows.MonthRow.{MonthRow}
-use Rattle.reader.proofs.rows.MonthRow as T-MonthRow
-use Rattle.reader.proofs.rows.MonthRow.Laws as L-MonthRow
+use Rattle.rows.specs.declared.MonthRow.{MonthRow}
+use Rattle.rows.proofs.MonthRow as T-MonthRow
+use Rattle.rows.proofs.MonthRow.Laws as L-MonthRow
 use Rattle.reader.specs.Volumes.{MonthPassed}
 use Rattle.reader.proofs.elements.month_by as callee
 use Rattle.reader.proofs.elements.month_by.Symbol as callee-def

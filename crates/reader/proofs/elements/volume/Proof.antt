@@ -14,14 +14,14 @@ use Rattle.cursor.proofs.Call_past_tag as call-tag
 use Rattle.cursor.proofs.past_tag.Symbol as tag-def
 use Rattle.cursor.proofs.past_tag.Symbol.{name as #tag}
 use Rattle.cursor.proofs.past_tag.Met as tag-thm
-use Rattle.reader.proofs.rows.volume as volume-row
-use Rattle.reader.proofs.rows.volume.Symbol as volume-row-def
-use Rattle.reader.proofs.rows.volume.Symbol.{name as #volume-row}
-use Rattle.reader.proofs.rows.volume.Met as volume-row-thm
-use Rattle.reader.proofs.rows.month as month-row
-use Rattle.reader.proofs.rows.month.Symbol as month-row-def
-use Rattle.reader.proofs.rows.month.Symbol.{name as #month-row}
-use Rattle.reader.proofs.rows.month.Met as month-row-thm
+use Rattle.rows.proofs.volume as volume-row
+use Rattle.rows.proofs.volume.Symbol as volume-row-def
+use Rattle.rows.proofs.volume.Symbol.{name as #volume-row}
+use Rattle.rows.proofs.volume.Met as volume-row-thm
+use Rattle.rows.proofs.month as month-row
+use Rattle.rows.proofs.month.Symbol as month-row-def
+use Rattle.rows.proofs.month.Symbol.{name as #month-row}
+use Rattle.rows.proofs.month.Met as month-row-thm
 use Rattle.reader.proofs.elements.past_month as behind-month
 use Rattle.reader.proofs.elements.past_month.Symbol as behind-month-def
 use Rattle.reader.proofs.elements.past_month.Symbol.{name as #behind-month}
@@ -31,24 +31,24 @@ use Rattle.reader.proofs.elements.observations.Symbol as all-def
 use Rattle.reader.proofs.elements.observations.Symbol.{name as #all}
 use Rattle.reader.proofs.elements.observations.Met as all-thm
 use Rattle.reader.specs.declared.elements.VolumeTodo.{VolumeTodo}
-use Rattle.reader.specs.declared.rows.VolumeRow.{VolumeRow}
-use Rattle.reader.specs.declared.rows.MonthRow.{MonthRow}
+use Rattle.rows.specs.declared.VolumeRow.{VolumeRow}
+use Rattle.rows.specs.declared.MonthRow.{MonthRow}
 use Rattle.reader.specs.declared.elements.Key.{Key}
 use Rattle.reader.specs.declared.elements.Wanted.{Wanted}
 use Rattle.reader.specs.declared.elements.TimeSeries.{TimeSeries}
 use Rattle.reader.proofs.elements.VolumeTodo as T-VolumeTodo
 use Rattle.reader.proofs.elements.VolumeTodo.Laws as L-VolumeTodo
-use Rattle.reader.proofs.rows.VolumeRow as T-VolumeRow
-use Rattle.reader.proofs.rows.VolumeRow.Laws as L-VolumeRow
-use Rattle.reader.proofs.rows.MonthRow as T-MonthRow
-use Rattle.reader.proofs.rows.MonthRow.Laws as L-MonthRow
+use Rattle.rows.proofs.VolumeRow as T-VolumeRow
+use Rattle.rows.proofs.VolumeRow.Laws as L-VolumeRow
+use Rattle.rows.proofs.MonthRow as T-MonthRow
+use Rattle.rows.proofs.MonthRow.Laws as L-MonthRow
 use Rattle.reader.proofs.elements.Key as T-Key
 use Rattle.reader.proofs.elements.Key.Laws as L-Key
 use Rattle.reader.proofs.elements.Wanted as T-Wanted
 use Rattle.reader.proofs.elements.Wanted.Laws as L-Wanted
 use Rattle.reader.proofs.elements.TimeSeries as T-TimeSeries
 use Rattle.reader.proofs.elements.TimeSeries.Laws as L-TimeSeries
-use Rattle.reader.specs.Rows.{volumeRow, volumeTo, monthRow, monthTo}
+use Rattle.rows.specs.Rows.{volumeRow, volumeTo, monthRow, monthTo}
 use Rattle.reader.specs.Turns.{Whole}
 use Rattle.reader.specs.Volumes.{MonthPassed}
 use Rattle.reader.specs.VolumesLaws.{volume-done}
@@ -169,8 +169,8 @@ volume-spec 𝓤 H 𝓜 𝓖 𝓡 =
     entered 𝓤 H (tripleOf 𝓤 H (𝓖 .A) me.signature (me.spec 𝓤 H (𝓖 .A) (𝓜 .mem) (𝓡 .run)))
     (tables 𝓤 H 𝓜 𝓡 code.env .C) (tables 𝓤 H 𝓜 𝓡 code.env .Λ) #me code.function (code.unfolded 𝓤 H 𝓜 𝓡)
     (meets 𝓤 H (𝓖 .A) (givenOf 𝓤 H 𝓜 𝓖) (𝓜 .mem) (𝓡 .run) (tablesOf 𝓤 H 𝓜 (tables 𝓤 H 𝓜 𝓡 code.env))
-    (cited 𝓤 H (Of-volume-row 𝓤 H (𝓖 .A) (𝓜 .mem) (𝓡 .run)) 𝓜 𝓡 code.env #volume-row volume-row-def.routine code.calls-reader·rows·volume (volume-row-thm.met 𝓤 H 𝓜 𝓖 𝓡))
-    (cited 𝓤 H (Of-month-row 𝓤 H (𝓖 .A) (𝓜 .mem) (𝓡 .run)) 𝓜 𝓡 code.env #month-row month-row-def.routine code.calls-reader·rows·month (month-row-thm.met 𝓤 H 𝓜 𝓖 𝓡))
+    (cited 𝓤 H (Of-volume-row 𝓤 H (𝓖 .A) (𝓜 .mem) (𝓡 .run)) 𝓜 𝓡 code.env #volume-row volume-row-def.routine code.calls-rows·volume (volume-row-thm.met 𝓤 H 𝓜 𝓖 𝓡))
+    (cited 𝓤 H (Of-month-row 𝓤 H (𝓖 .A) (𝓜 .mem) (𝓡 .run)) 𝓜 𝓡 code.env #month-row month-row-def.routine code.calls-rows·month (month-row-thm.met 𝓤 H 𝓜 𝓖 𝓡))
     (cited 𝓤 H (Of-behind-month 𝓤 H (𝓖 .A) (𝓜 .mem) (𝓡 .run)) 𝓜 𝓡 code.env #behind-month behind-month-def.routine code.calls-reader·elements·past-month (behind-month-thm.met 𝓤 H 𝓜 𝓖 𝓡))
     (cited 𝓤 H (Of-all 𝓤 H (𝓖 .A) (𝓜 .mem) (𝓡 .run)) 𝓜 𝓡 code.env #all all-def.routine code.calls-reader·elements·observations (all-thm.met 𝓤 H 𝓜 𝓖 𝓡))
     (cited 𝓤 H (call-tag.Contract-of 𝓤 H (𝓖 .A) (𝓜 .mem) (𝓡 .run)) 𝓜 𝓡 code.env #tag tag-def.routine code.calls-cursor·past-tag (tag-thm.met 𝓤 H 𝓜 𝓖 𝓡)))

@@ -15,10 +15,10 @@ use Rattle.reader.proofs.file.past_root as root-of
 use Rattle.reader.proofs.file.past_root.Symbol as root-of-def
 use Rattle.reader.proofs.file.past_root.Symbol.{name as #root-of}
 use Rattle.reader.proofs.file.past_root.Met as root-of-thm
-use Rattle.reader.proofs.rows.message as message-row
-use Rattle.reader.proofs.rows.message.Symbol as message-row-def
-use Rattle.reader.proofs.rows.message.Symbol.{name as #message-row}
-use Rattle.reader.proofs.rows.message.Met as message-row-thm
+use Rattle.rows.proofs.message as message-row
+use Rattle.rows.proofs.message.Symbol as message-row-def
+use Rattle.rows.proofs.message.Symbol.{name as #message-row}
+use Rattle.rows.proofs.message.Met as message-row-thm
 use Rattle.reader.proofs.file.past_receiver as receiver-of
 use Rattle.reader.proofs.file.past_receiver.Symbol as receiver-of-def
 use Rattle.reader.proofs.file.past_receiver.Symbol.{name as #receiver-of}
@@ -32,21 +32,21 @@ use Rattle.reader.proofs.file.past_end.Symbol as end-of-def
 use Rattle.reader.proofs.file.past_end.Symbol.{name as #end-of}
 use Rattle.reader.proofs.file.past_end.Met as end-of-thm
 use Rattle.reader.specs.declared.file.Root.{Root}
-use Rattle.reader.specs.declared.rows.MessageRow.{MessageRow}
+use Rattle.rows.specs.declared.MessageRow.{MessageRow}
 use Rattle.reader.specs.declared.file.Receiver.{Receiver}
 use Rattle.reader.specs.declared.partners.PartnersTodo.{PartnersTodo}
 use Rattle.reader.specs.declared.file.FileRead.{FileRead}
 use Rattle.reader.proofs.file.Root as T-Root
 use Rattle.reader.proofs.file.Root.Laws as L-Root
-use Rattle.reader.proofs.rows.MessageRow as T-MessageRow
-use Rattle.reader.proofs.rows.MessageRow.Laws as L-MessageRow
+use Rattle.rows.proofs.MessageRow as T-MessageRow
+use Rattle.rows.proofs.MessageRow.Laws as L-MessageRow
 use Rattle.reader.proofs.file.Receiver as T-Receiver
 use Rattle.reader.proofs.file.Receiver.Laws as L-Receiver
 use Rattle.reader.proofs.partners.PartnersTodo as T-PartnersTodo
 use Rattle.reader.proofs.partners.PartnersTodo.Laws as L-PartnersTodo
 use Rattle.reader.proofs.file.FileRead as T-FileRead
 use Rattle.reader.proofs.file.FileRead.Laws as L-FileRead
-use Rattle.reader.specs.Rows.{messageRow, messageTo}
+use Rattle.rows.specs.Rows.{messageRow, messageTo}
 use Rattle.reader.specs.PartnerTurns.{PartnersWhole}
 use Rattle.reader.specs.FileTurns.{Rooted, Received, rootEnd}
 use Rattle.reader.specs.FileTurnsLaws.{file-done}
@@ -159,7 +159,7 @@ file-read-spec 𝓤 H 𝓜 𝓖 𝓡 =
     (tables 𝓤 H 𝓜 𝓡 code.env .C) (tables 𝓤 H 𝓜 𝓡 code.env .Λ) #me code.function (code.unfolded 𝓤 H 𝓜 𝓡)
     (meets 𝓤 H (𝓖 .A) (givenOf 𝓤 H 𝓜 𝓖) (𝓜 .mem) (𝓡 .run) (tablesOf 𝓤 H 𝓜 (tables 𝓤 H 𝓜 𝓡 code.env))
     (cited 𝓤 H (Of-root-of 𝓤 H (𝓖 .A) (𝓜 .mem) (𝓡 .run)) 𝓜 𝓡 code.env #root-of root-of-def.routine code.calls-reader·file·past-root (root-of-thm.met 𝓤 H 𝓜 𝓖 𝓡))
-    (cited 𝓤 H (Of-message-row 𝓤 H (𝓖 .A) (𝓜 .mem) (𝓡 .run)) 𝓜 𝓡 code.env #message-row message-row-def.routine code.calls-reader·rows·message (message-row-thm.met 𝓤 H 𝓜 𝓖 𝓡))
+    (cited 𝓤 H (Of-message-row 𝓤 H (𝓖 .A) (𝓜 .mem) (𝓡 .run)) 𝓜 𝓡 code.env #message-row message-row-def.routine code.calls-rows·message (message-row-thm.met 𝓤 H 𝓜 𝓖 𝓡))
     (cited 𝓤 H (Of-receiver-of 𝓤 H (𝓖 .A) (𝓜 .mem) (𝓡 .run)) 𝓜 𝓡 code.env #receiver-of receiver-of-def.routine code.calls-reader·file·past-receiver (receiver-of-thm.met 𝓤 H 𝓜 𝓖 𝓡))
     (cited 𝓤 H (Of-partners-of 𝓤 H (𝓖 .A) (𝓜 .mem) (𝓡 .run)) 𝓜 𝓡 code.env #partners-of partners-of-def.routine code.calls-reader·partners·partners (partners-of-thm.met 𝓤 H 𝓜 𝓖 𝓡))
     (cited 𝓤 H (Of-end-of 𝓤 H (𝓖 .A) (𝓜 .mem) (𝓡 .run)) 𝓜 𝓡 code.env #end-of end-of-def.routine code.calls-reader·file·past-end (end-of-thm.met 𝓤 H 𝓜 𝓖 𝓡)))

@@ -1,8 +1,8 @@
 -- Each call's equation, one after the other.
 use Rattle.text.specs.Ascii.{bytes}
 use borrow.Author.Needs.{needs}
-use Rattle.reader.proofs.rows.access_by.Statement.{statement}
-use Rattle.reader.proofs.rows.access_by.Tie as tie
+use Rattle.rows.proofs.access_by.Statement.{statement}
+use Rattle.rows.proofs.access_by.Tie as tie
 
 slice-aggregate-tag-by : tie.Need-slice-aggregate-tag-by
 slice-aggregate-tag-by c = search needs

@@ -17,13 +17,13 @@ use Rattle.cursor.proofs.Call_past_name as call-name
 use Rattle.cursor.proofs.past_name.Symbol as name-def
 use Rattle.cursor.proofs.past_name.Symbol.{name as #name}
 use Rattle.cursor.proofs.past_name.Met as name-thm
-use Rattle.reader.specs.declared.rows.MessageRow.{MessageRow}
-use Rattle.reader.proofs.rows.MessageRow as T-MessageRow
-use Rattle.reader.proofs.rows.MessageRow.Laws as L-MessageRow
-use Rattle.reader.proofs.rows.message.Key.{name as #me}
-use Rattle.reader.proofs.rows.message as me
-use Rattle.reader.proofs.rows.message.Statement as stated
-use Rattle.reader.proofs.rows.message.Code as code
+use Rattle.rows.specs.declared.MessageRow.{MessageRow}
+use Rattle.rows.proofs.MessageRow as T-MessageRow
+use Rattle.rows.proofs.MessageRow.Laws as L-MessageRow
+use Rattle.rows.proofs.message.Key.{name as #me}
+use Rattle.rows.proofs.message as me
+use Rattle.rows.proofs.message.Statement as stated
+use Rattle.rows.proofs.message.Code as code
 
 abbrev stayed : Stays (me.ended .signature .params) (me.ended .kept)
 stayed = (stay-ref (0 ∷ []) tt (plain (λ _. R)), (stay-dropped (SliceRefOf (1 ∷ []) tt (plain (λ _. u8)) (λ _. tt)) yes, tt))

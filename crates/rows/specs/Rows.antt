@@ -5,13 +5,13 @@ use Rattle.text.specs.Ascii.{bytes}
 use Rattle.cursor.specs.declared.Cursor.{Cursor}
 use Rattle.cursor.specs.declared.Read.{Read}
 use Rattle.cursor.specs.Moves.{pastTag, pastNumber, pastCounter, pastFixed, pastWord, pastName}
-use Rattle.reader.specs.declared.rows.ObservationRow.{ObservationRow}
-use Rattle.reader.specs.declared.rows.MonthRow.{MonthRow}
-use Rattle.reader.specs.declared.rows.VolumeRow.{VolumeRow}
-use Rattle.reader.specs.declared.rows.CompanyRow.{CompanyRow}
-use Rattle.reader.specs.declared.rows.AccessRow.{AccessRow}
-use Rattle.reader.specs.declared.rows.MessageRow.{MessageRow}
-use Rattle.reader.specs.declared.rows.ReceiverRow.{ReceiverRow}
+use Rattle.rows.specs.declared.ObservationRow.{ObservationRow}
+use Rattle.rows.specs.declared.MonthRow.{MonthRow}
+use Rattle.rows.specs.declared.VolumeRow.{VolumeRow}
+use Rattle.rows.specs.declared.CompanyRow.{CompanyRow}
+use Rattle.rows.specs.declared.AccessRow.{AccessRow}
+use Rattle.rows.specs.declared.MessageRow.{MessageRow}
+use Rattle.rows.specs.declared.ReceiverRow.{ReceiverRow}
 
 module _ (s : List ℕ) (c : Cursor) where
   -- the position, the whole kilowatts and the three decimals of an observation, each with the cursor behind it

@@ -3,7 +3,7 @@
 use cursor::Cursor;
 use cursor::Read;
 ghost use mathlib.Core.Path.{_≡_};
-ghost use Rattle.reader.specs.Rows.{observationRow, observationTo, monthRow, monthTo, volumeRow, volumeTo, messageRow, messageTo, behindMonthBy, ownStart, sharedStart, companyRow, accessRow, receiverRow};
+ghost use Rattle.rows.specs.Rows.{observationRow, observationTo, monthRow, monthTo, volumeRow, volumeTo, messageRow, messageTo, behindMonthBy, ownStart, sharedStart, companyRow, accessRow, receiverRow};
 
 // An observation's position and its kilowatts, whole and three decimals.
 pub struct ObservationRow {

@@ -19,13 +19,13 @@ use Rattle.cursor.proofs.Call_past_fixed as call-fixed
 use Rattle.cursor.proofs.past_fixed.Symbol as fixed-def
 use Rattle.cursor.proofs.past_fixed.Symbol.{name as #fixed}
 use Rattle.cursor.proofs.past_fixed.Met as fixed-thm
-use Rattle.reader.specs.declared.rows.ObservationRow.{ObservationRow}
-use Rattle.reader.proofs.rows.ObservationRow as N
-use Rattle.reader.proofs.rows.ObservationRow.Laws as N′
-use Rattle.reader.proofs.rows.observation.Key.{name as #me}
-use Rattle.reader.proofs.rows.observation as me
-use Rattle.reader.proofs.rows.observation.Statement as stated
-use Rattle.reader.proofs.rows.observation.Code as code
+use Rattle.rows.specs.declared.ObservationRow.{ObservationRow}
+use Rattle.rows.proofs.ObservationRow as N
+use Rattle.rows.proofs.ObservationRow.Laws as N′
+use Rattle.rows.proofs.observation.Key.{name as #me}
+use Rattle.rows.proofs.observation as me
+use Rattle.rows.proofs.observation.Statement as stated
+use Rattle.rows.proofs.observation.Code as code
 
 abbrev stayed : Stays (me.ended .signature .params) (me.ended .kept)
 stayed = (stay-ref (0 ∷ []) tt (plain (λ _. R)), (stay-dropped (SliceRefOf (1 ∷ []) tt (plain (λ _. u8)) (λ _. tt)) yes, tt))

@@ -1,8 +1,8 @@
 -- Each call's equation, one after the other.
 use Rattle.text.specs.Ascii.{bytes}
 use borrow.Author.Needs.{needs}
-use Rattle.reader.proofs.rows.company_by.Statement.{statement}
-use Rattle.reader.proofs.rows.company_by.Tie as tie
+use Rattle.rows.proofs.company_by.Statement.{statement}
+use Rattle.rows.proofs.company_by.Tie as tie
 
 tag-by-requires : tie.Need-tag-by-requires
 tag-by-requires c κs = search needs

@@ -15,13 +15,13 @@ use Rattle.cursor.proofs.Call_past_fixed as call-fixed
 use Rattle.cursor.proofs.past_fixed.Symbol as fixed-def
 use Rattle.cursor.proofs.past_fixed.Symbol.{name as #fixed}
 use Rattle.cursor.proofs.past_fixed.Met as fixed-thm
-use Rattle.reader.specs.declared.rows.MonthRow.{MonthRow}
-use Rattle.reader.proofs.rows.MonthRow as T-MonthRow
-use Rattle.reader.proofs.rows.MonthRow.Laws as L-MonthRow
-use Rattle.reader.proofs.rows.month.Key.{name as #me}
-use Rattle.reader.proofs.rows.month as me
-use Rattle.reader.proofs.rows.month.Statement as stated
-use Rattle.reader.proofs.rows.month.Code as code
+use Rattle.rows.specs.declared.MonthRow.{MonthRow}
+use Rattle.rows.proofs.MonthRow as T-MonthRow
+use Rattle.rows.proofs.MonthRow.Laws as L-MonthRow
+use Rattle.rows.proofs.month.Key.{name as #me}
+use Rattle.rows.proofs.month as me
+use Rattle.rows.proofs.month.Statement as stated
+use Rattle.rows.proofs.month.Code as code
 
 abbrev stayed : Stays (me.ended .signature .params) (me.ended .kept)
 stayed = (stay-ref (0 ∷ []) tt (plain (λ _. R)), (stay-dropped (SliceRefOf (1 ∷ []) tt (plain (λ _. u8)) (λ _. tt)) yes, tt))

@@ -20,13 +20,13 @@ use Rattle.cursor.proofs.past_counter as counter
 use Rattle.cursor.proofs.past_counter.Symbol as counter-def
 use Rattle.cursor.proofs.past_counter.Symbol.{name as #counter}
 use Rattle.cursor.proofs.past_counter.Met as counter-thm
-use Rattle.reader.specs.declared.rows.VolumeRow.{VolumeRow}
-use Rattle.reader.proofs.rows.VolumeRow as T-VolumeRow
-use Rattle.reader.proofs.rows.VolumeRow.Laws as L-VolumeRow
-use Rattle.reader.proofs.rows.volume.Key.{name as #me}
-use Rattle.reader.proofs.rows.volume as me
-use Rattle.reader.proofs.rows.volume.Statement as stated
-use Rattle.reader.proofs.rows.volume.Code as code
+use Rattle.rows.specs.declared.VolumeRow.{VolumeRow}
+use Rattle.rows.proofs.VolumeRow as T-VolumeRow
+use Rattle.rows.proofs.VolumeRow.Laws as L-VolumeRow
+use Rattle.rows.proofs.volume.Key.{name as #me}
+use Rattle.rows.proofs.volume as me
+use Rattle.rows.proofs.volume.Statement as stated
+use Rattle.rows.proofs.volume.Code as code
 
 abbrev stayed : Stays (me.ended .signature .params) (me.ended .kept)
 stayed = (stay-ref (0 ∷ []) tt (plain (λ _. R)), (stay-dropped (SliceRefOf (1 ∷ []) tt (plain (λ _. u8)) (λ _. tt)) yes, tt))
