@@ -37,6 +37,11 @@ markIf false n = No
 abbrev pub standing : List ℕ → Cursor → Mark
 standing s c = markIf (c .good && leb (c .at) (length s)) (c .at)
 
+-- a mark where a test holds
+abbrev pub keep : Bool → Mark → Mark
+keep true m = m
+keep false m = No
+
 -- ---- from a reading to the cursor behind it
 
 abbrev pub behind : {A : Type 0} → List ℕ → Res A → Cursor

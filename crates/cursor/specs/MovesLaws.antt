@@ -36,6 +36,15 @@ pub stands-at : (s : List ℕ) (m : Mark) → Within s m → standing s (cursorA
 stands-at s (At n) h = rw (le-leb n (length s) h)
 stands-at s No h = refl
 
+-- the mark of a cursor that is lost, and of one that isn't
+pub mark-lost : (m : Mark) (c : Cursor) → c ≡ cursorAt m → c .good ≡ false → m ≡ No
+mark-lost No c e g = refl
+mark-lost (At n) c e g = let i = rw e at g in let z : _≡_ {A = ℕ} 0 1 = cc in absurd (omega arith)
+
+pub mark-found : (m : Mark) (c : Cursor) → c ≡ cursorAt m → c .good ≡ true → m ≡ At (c .at)
+mark-found (At n) c e g = rw e
+mark-found No c e g = let i = rw e at g in let z : _≡_ {A = ℕ} 0 1 = cc in absurd (omega arith)
+
 -- the place where it stands is its own
 pub stands : (s : List ℕ) (c : Cursor) (n : ℕ) → standing s c ≡ At n → c .at ≡ n
 stands s c n = go (c .good && leb (c .at) (length s))

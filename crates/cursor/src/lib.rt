@@ -3,7 +3,7 @@
 use formats::Mark;
 use formats::Val;
 ghost use mathlib.Core.Path.{_≡_};
-ghost use Rattle.cursor.specs.Moves.{standing, cursorAt, readOf, pastTag, pastNumber, pastCounter, pastFixed, pastWord, pastName};
+ghost use Rattle.cursor.specs.Moves.{standing, cursorAt, keep, readOf, pastTag, pastNumber, pastCounter, pastFixed, pastWord, pastName};
 
 // A place in a text, if `good`.
 pub struct Cursor {
@@ -38,6 +38,17 @@ pub fn at_mark(m: Mark) -> Cursor
         return Cursor { at: 0, good: false };
     };
     Cursor { at: p, good: true }
+}
+
+// The cursor, if it stands in s and a test holds; else a lost one.
+pub fn keep(c: Cursor, s: &[u8], good: bool) -> Cursor
+    ensures { λ r. ⌜ r ≡ cursorAt (keep good (standing (now (s .entry)) c)) ⌝ }
+{
+    if good {
+        let m = place(c, s);
+        return at_mark(m);
+    }
+    Cursor { at: 0, good: false }
 }
 
 // A value and the cursor behind it.

@@ -8,10 +8,10 @@ use lib.WfN.{Nat·lt-wfRel}
 use denote.Laws.{Is}
 use Rattle.formats.specs.declared.Mark.{Mark}
 use Rattle.cursor.specs.declared.Cursor.{Cursor}
-use Rattle.cursor.specs.Moves.{standing}
+use Rattle.cursor.specs.Moves.{keep, standing}
 use Rattle.reader.specs.declared.elements.Wanted.{Wanted}
 use Rattle.reader.specs.declared.elements.Todo.{Todo}
-use Rattle.reader.specs.Reading.{keep, inOrder}
+use Rattle.reader.specs.Reading.{inOrder}
 use Rattle.rows.specs.Rows.{observationRow, observationTo}
 use Rattle.reader.specs.Turns.{atFirst, After, Whole}
 use Rattle.reader.specs.TurnsLaws.{Leads, leads-first, leads-last, leads-on}

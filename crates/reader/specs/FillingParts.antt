@@ -27,7 +27,7 @@ use Rattle.message.specs.SeriesForm.{counted, Volume, volumeBody, ofVolume}
 use Rattle.message.specs.SeriesListForm.{follows, seriesList}
 use Rattle.message.specs.PartnerForm.{partnerForm}
 use Rattle.message.specs.FileForm.{partnersForm}
-use Rattle.reader.specs.Reading.{keep, parsed-no, observing, Passed, observationsOf, observationItem, observationOnto, VolumeRead, volume-parsed, ownParse, own-body, own-read, sharedParse, shared-body, shared-read, Outline, outline}
+use Rattle.reader.specs.Reading.{parsed-no, observing, Passed, observationsOf, observationItem, observationOnto, VolumeRead, volume-parsed, ownParse, own-body, own-read, sharedParse, shared-body, shared-read, Outline, outline}
 use Rattle.reader.specs.ReaderItems.{viewed, view-bad, unview, folded}
 use Rattle.reader.specs.ReaderSeries.{seriesForm, item, onto, placeIn, counting, listForm}
 use Rattle.reader.specs.ReaderPartner.{Head, headParse, numbered, partnerKept, partner-seen}

@@ -9,7 +9,7 @@ use Rattle.formats.specs.Place.{Parsed}
 use Rattle.formats.specs.declared.Mark.{Mark}
 use Rattle.formats.specs.declared.Mark.the-variants.{At, No}
 use Rattle.cursor.specs.declared.Cursor.{Cursor}
-use Rattle.cursor.specs.Moves.{standing, cursorAt, lost, pastTag}
+use Rattle.cursor.specs.Moves.{keep, standing, cursorAt, lost, pastTag}
 use Rattle.kinds.specs.declared.Kind.{Kind}
 use Rattle.kinds.specs.declared.Kind.the-variants.{Toe01, Toe02, Toe03}
 use Rattle.message.specs.FileForm.{partnersForm}
@@ -18,7 +18,6 @@ use Rattle.reader.specs.declared.partners.Head.{Head}
 use Rattle.reader.specs.declared.partners.PartnersTodo.{PartnersTodo}
 use Rattle.reader.specs.declared.partners.PartnerSeen.{PartnerSeen}
 use Rattle.rows.specs.Rows.{companyRow, accessRow}
-use Rattle.reader.specs.Reading.{keep}
 use Rattle.reader.specs.ReaderItems.{folded}
 use Rattle.reader.specs.ReaderSeries.{Room}
 use Rattle.reader.specs.ReaderPartner.{partnerKept}

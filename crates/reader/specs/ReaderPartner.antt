@@ -23,7 +23,8 @@ use Rattle.message.specs.SeriesForm.{counted, apart-supplies}
 use Rattle.message.specs.SeriesListForm.{seriesList}
 use Rattle.message.specs.ObservationForm.{plainNumber}
 use Rattle.message.specs.PartnerForm.{ownPartner, ownPartnerBody, sharedPartner, sharedPartnerBody, partnerForm}
-use Rattle.reader.specs.Reading.{keep, parsed-ok, parsed-no}
+use Rattle.cursor.specs.Moves.{keep}
+use Rattle.reader.specs.Reading.{parsed-ok, parsed-no}
 use Rattle.reader.specs.ReaderItems.{run-same, viewed, folded, read-long}
 use Rattle.reader.specs.ReaderSeries.{seriesForm, counting, listForm, Room}
 

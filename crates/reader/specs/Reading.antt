@@ -21,6 +21,7 @@ use Rattle.formats.specs.Place.{placed, Within, Parsed}
 use Rattle.formats.specs.declared.Mark.{Mark}
 use Rattle.formats.specs.declared.Mark.the-variants.{At, No}
 use Rattle.text.specs.Ascii.{bytes}
+use Rattle.cursor.specs.Moves.{keep}
 use Rattle.moments.specs.declared.Moment.{Moment}
 use Rattle.moments.specs.Moments.{momentBytes, periodStart, periodEnd}
 use Rattle.moments.specs.MomentsLaws.{length-moment}
@@ -29,11 +30,6 @@ use Rattle.message.specs.Bytes.{opening, ending, closing, element, supplies, de
 use Rattle.message.specs.Valid.{lastPosition}
 use Rattle.message.specs.ObservationForm.{isPeriod, monthBody, behindMonth, period, observation, observations, plainNumber, quantity, observationBody, observable, observed}
 use Rattle.message.specs.SeriesForm.{position-fits, counted, Volume, volumeBody, ofVolume, volumeOf, volume-back, ownBody, sharedBody}
-
--- a mark where a test holds
-abbrev pub keep : Bool → Mark → Mark
-keep true m = m
-keep false m = No
 
 -- an observation of the month, from position low on
 abbrev pub inOrder : ℕ → ℕ → ℕ × ℕ → Bool

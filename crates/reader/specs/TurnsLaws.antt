@@ -12,7 +12,7 @@ use Rattle.formats.specs.FormatLaws.{got-bad}
 use Rattle.formats.specs.Items.{itemsParse, items-bad}
 use Rattle.formats.specs.Place.{placed, Within, Parsed}
 use Rattle.cursor.specs.declared.Cursor.{Cursor}
-use Rattle.cursor.specs.Moves.{standing, cursorAt, lost}
+use Rattle.cursor.specs.Moves.{keep, standing, cursorAt, lost}
 use Rattle.cursor.specs.MovesLaws.{standing-within, stands-at}
 use Rattle.message.specs.Contents.{Observation}
 use Rattle.message.specs.Valid.{lastPosition}
@@ -21,7 +21,7 @@ use Rattle.message.specs.ObservationForm.{observation, observed}
 use Rattle.reader.specs.declared.elements.Key.{Key}
 use Rattle.reader.specs.declared.elements.Wanted.{Wanted}
 use Rattle.reader.specs.declared.elements.Todo.{Todo}
-use Rattle.reader.specs.Reading.{keep, inOrder, observing, observing-parsed, Passed, passed-end, passed-no, observationsOf, observationItem, observationOnto, observationsEnd, end-start, end-last, end-bad, end-step}
+use Rattle.reader.specs.Reading.{inOrder, observing, observing-parsed, Passed, passed-end, passed-no, observationsOf, observationItem, observationOnto, observationsEnd, end-start, end-last, end-bad, end-step}
 use Rattle.rows.specs.Rows.{observationRow, observationTo}
 use Rattle.reader.specs.RowsLaws.{observation-read, observation-fits}
 use Rattle.reader.specs.Filling.{Fills, Stored, rowsOfObservation}

@@ -1,23 +1,15 @@
 // A time series, from its observations up: the cursor that was lent is lent on, to rows, to the loop over observations and to the tags behind them.
 use cursor::Cursor;
-use formats::Mark;
 use rows::MonthRow;
 use rows::ObservationRow;
 ghost use mathlib.Core.Path.{_≡_};
 ghost use Prim.Native.Nat.{_+_, _-_, _*_, _≤_, _<_};
-ghost use Rattle.cursor.specs.Moves.{standing};
+ghost use Rattle.cursor.specs.Moves.{standing, keep};
 ghost use Rattle.message.specs.ObservationForm.{observed};
-ghost use Rattle.reader.specs.Reading.{inOrder, keep};
+ghost use Rattle.reader.specs.Reading.{inOrder};
 ghost use Rattle.reader.specs.Filling.{Stored};
 ghost use Rattle.reader.specs.Turns.{atFirst, After, Whole};
 ghost use Rattle.reader.specs.Volumes.{MonthPassed, VolumeDone};
-
-// A mark where a test holds.
-pub fn kept(m: Mark, good: bool) -> Mark
-    ensures { λ r. ⌜ r ≡ keep good m ⌝ }
-{
-    if good { m } else { Mark::No }
-}
 
 // An observation's watts, from its kilowatts.
 fn watts_of(whole: u64, part: u64) -> u64
@@ -116,9 +108,8 @@ fn turn(c: Cursor, s: &[u8], o: ObservationRow, t: Todo, out: &mut [u64]) -> Tur
     let key = t.key;
     let watts = watts_of(o.whole, o.part);
     let good = in_order(o.position, watts, t.behind, t.last);
-    let m = cursor::place(c, s);
-    let e = kept(m, good);
-    let Mark::At(q) = e else {
+    let to = cursor::keep(c, s, good);
+    if !to.good {
         let none = Todo {
             left: 0,
             behind: 0,
@@ -126,11 +117,8 @@ fn turn(c: Cursor, s: &[u8], o: ObservationRow, t: Todo, out: &mut [u64]) -> Tur
             key,
             rows: t.rows,
         };
-        return Turned {
-            to: Cursor { at: 0, good: false },
-            todo: none,
-        };
-    };
+        return Turned { to, todo: none };
+    }
     let rows = store(out, t.rows, key, o.position, watts);
     let left = less_one(t.left);
     let rest = Todo {
@@ -140,10 +128,7 @@ fn turn(c: Cursor, s: &[u8], o: ObservationRow, t: Todo, out: &mut [u64]) -> Tur
         key,
         rows,
     };
-    Turned {
-        to: Cursor { at: q, good: true },
-        todo: rest,
-    }
+    Turned { to, todo: rest }
 }
 
 // One less, down to none.

@@ -1,7 +1,6 @@
 // The partners of a file: the loop over them moves the cursor that was lent to it.
 use crate::series::SeriesTodo;
 use cursor::Cursor;
-use formats::Mark;
 use kinds::Kind;
 ghost use mathlib.Core.Path.{_≡_};
 ghost use Prim.Native.Nat.{_+_, _^_, _<_};
@@ -150,11 +149,10 @@ fn end_by(c: Cursor, s: &[u8], x: PartnerSeen) -> PartnerRead
     let u = x.series;
     let kind = t.kind;
     let behind = group_end(c, s, kind);
-    let m = cursor::place(behind, s);
     let number = u.partner;
     let good = t.low <= number;
-    let e = crate::elements::kept(m, good);
-    let Mark::At(q) = e else {
+    let to = cursor::keep(behind, s, good);
+    if !to.good {
         let none = PartnersTodo {
             kind,
             left: 0,
@@ -163,11 +161,8 @@ fn end_by(c: Cursor, s: &[u8], x: PartnerSeen) -> PartnerRead
             month: t.month,
             rows: t.rows,
         };
-        return PartnerRead {
-            to: Cursor { at: 0, good: false },
-            todo: none,
-        };
-    };
+        return PartnerRead { to, todo: none };
+    }
     let left = crate::elements::less_one(t.left);
     let low = number_behind(number);
     let rest = PartnersTodo {
@@ -178,10 +173,7 @@ fn end_by(c: Cursor, s: &[u8], x: PartnerSeen) -> PartnerRead
         month: u.month,
         rows: u.rows,
     };
-    PartnerRead {
-        to: Cursor { at: q, good: true },
-        todo: rest,
-    }
+    PartnerRead { to, todo: rest }
 }
 
 // Past the end of a partner; what is then left.

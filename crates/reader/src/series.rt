@@ -3,7 +3,6 @@ use crate::elements::TimeSeries;
 use crate::elements::VolumeTodo;
 use cursor::Cursor;
 use cursor::Read;
-use formats::Mark;
 use kinds::Kind;
 ghost use mathlib.Core.Path.{_≡_};
 ghost use Prim.Native.Nat.{_+_, _*_, _^_, _≤_, _<_};
@@ -126,7 +125,6 @@ fn end_by(c: Cursor, s: &[u8], x: SeriesSeen) -> SeriesRead
     let v = x.series;
     let kind = t.kind;
     let behind = cursor::tag_by(c, s, b"</ToETimeSeries>");
-    let m = cursor::place(behind, s);
     let good = joins(
         x.supply,
         v.delivery,
@@ -136,8 +134,8 @@ fn end_by(c: Cursor, s: &[u8], x: SeriesSeen) -> SeriesRead
         t.year,
         t.month,
     );
-    let e = crate::elements::kept(m, good);
-    let Mark::At(q) = e else {
+    let to = cursor::keep(behind, s, good);
+    if !to.good {
         let none = SeriesTodo {
             kind,
             partner: t.partner,
@@ -148,11 +146,8 @@ fn end_by(c: Cursor, s: &[u8], x: SeriesSeen) -> SeriesRead
             month: t.month,
             rows: t.rows,
         };
-        return SeriesRead {
-            to: Cursor { at: 0, good: false },
-            todo: none,
-        };
-    };
+        return SeriesRead { to, todo: none };
+    }
     let left = crate::elements::less_one(t.left);
     let low = place_behind(x.supply, v.delivery);
     let rows = sum(t.rows, v.rows);
@@ -166,10 +161,7 @@ fn end_by(c: Cursor, s: &[u8], x: SeriesSeen) -> SeriesRead
         month: v.month,
         rows,
     };
-    SeriesRead {
-        to: Cursor { at: q, good: true },
-        todo: rest,
-    }
+    SeriesRead { to, todo: rest }
 }
 
 // Past the end of a series; what is then left.

@@ -1,5 +1,9 @@
 -- The number is tested against those before it; where it stands, what is left is the next, and else nothing is left.
-use mathlib.Core.Path.{refl}
+use mathlib.Core.Path.{refl, ap, _∙_}
+use lib.Dec.{leb}
+use borrow.Author.Tests.{not-true, not-false}
+use Rattle.cursor.specs.Moves.{standing, cursorAt, keep}
+use Rattle.cursor.specs.MovesLaws.{mark-lost, mark-found}
 use native.Mathlib.Omega.{arith}
 use borrow.Author.Needs.{needs}
 use Rattle.reader.proofs.partners.end_by.Statement.{statement}
@@ -8,20 +12,14 @@ use Rattle.reader.proofs.partners.end_by.Tie as tie
 group-end-requires : tie.Need-group-end-requires
 group-end-requires c κs = search needs
 
-place-requires : tie.Need-place-requires
-place-requires c κs = search needs
-
-kept-requires : tie.Need-kept-requires
-kept-requires c κs = search needs
-
-enum-known-e : tie.Need-enum-known-e
-enum-known-e c = search needs
-
-enum-told : tie.Need-enum-told
-enum-told c = search needs
+keep-requires : tie.Need-keep-requires
+keep-requires c κs = search needs
 
 returns : tie.Need-returns
-returns c = (omega arith, rw (← c .before .before .before .before .before .group-end .ensures, ← c .before .before .before .before .place .ensures, ← c .before .before .kept .ensures, c .enum-told .given .1) (refl, refl))
+returns c =
+    let k = c .before .before .keep in
+    let m = mark-lost (keep (leb (c .before .before .before .before .before .before .before .before .args .x .todo .low) (c .before .before .before .before .before .before .before .before .args .x .series .partner)) (standing (c .before .before .before .before .before .before .before .before .args .s .now) (c .before .before .before .before .group-end .result))) (k .result) (k .ensures) (not-true _ (c .if1 .taken)) in
+    (omega arith, rw (← c .before .before .before .before .group-end .ensures, m) (k .ensures ∙ ap cursorAt m, refl))
 
 less-one-requires : tie.Need-less-one-requires
 less-one-requires c κs = search needs
@@ -30,20 +28,16 @@ number-behind-requires : tie.Need-number-behind-requires
 number-behind-requires c κs = search needs
 
 returns-2 : tie.Need-returns-2
-returns-2 c = (
-  omega (arith, c .before .less-one .ensures),
-  rw (← c .before .before .before .before .before .before .before .before .group-end .ensures, ← c .before .before .before .before .before .before .before .place .ensures, ← c .before .before .before .before .before .kept .ensures, c .before .before .before .e .given .1) (refl, λ f. rw (c .before .less-one .ensures, c .number-behind .ensures f)),
-)
+returns-2 c =
+    let k = c .before .before .before .before .keep in
+    let m = mark-found (keep (leb (c .before .before .before .before .before .before .before .before .before .before .args .x .todo .low) (c .before .before .before .before .before .before .before .before .before .before .args .x .series .partner)) (standing (c .before .before .before .before .before .before .before .before .before .before .args .s .now) (c .before .before .before .before .before .before .group-end .result))) (k .result) (k .ensures) (not-false _ (c .before .before .if1 .left)) in
+    (omega (arith, c .before .less-one .ensures), rw (← c .before .before .before .before .before .before .group-end .ensures, m) (k .ensures ∙ ap cursorAt m, λ f. rw (c .before .less-one .ensures, c .number-behind .ensures f)))
 
 pub end-by-spec : {M : Type 1} → statement M
 end-by-spec =
     tie.close
     (tie.spec
-    group-end-requires
-    place-requires
-    kept-requires
-    enum-known-e
-    enum-told
+    group-end-requires keep-requires
     returns
     less-one-requires
     number-behind-requires

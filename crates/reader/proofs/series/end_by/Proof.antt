@@ -1,5 +1,8 @@
 -- What was read is tested against what was seen; where it stands, what is left is the next, and else nothing is left.
-use mathlib.Core.Path.{refl}
+use mathlib.Core.Path.{refl, ap, _∙_}
+use borrow.Author.Tests.{not-true, not-false}
+use Rattle.cursor.specs.Moves.{standing, cursorAt, keep}
+use Rattle.cursor.specs.MovesLaws.{mark-lost, mark-found}
 use native.Mathlib.Omega.{arith}
 use Rattle.text.specs.Ascii.{bytes}
 use borrow.Author.Needs.{needs}
@@ -12,24 +15,21 @@ slice-aggregate-tag-by c = search needs
 tag-by-requires : tie.Need-tag-by-requires
 tag-by-requires c κs = search needs
 
-place-requires : tie.Need-place-requires
-place-requires c κs = search needs
-
 joins-requires : tie.Need-joins-requires
 joins-requires c κs = search needs
 
-kept-requires : tie.Need-kept-requires
-kept-requires c κs = search needs
-
-enum-known-e : tie.Need-enum-known-e
-enum-known-e c = search needs
-
-enum-told : tie.Need-enum-told
-enum-told c = search needs
+keep-requires : tie.Need-keep-requires
+keep-requires c κs = search needs
 
 returns : tie.Need-returns
 unfolding bytes
-returns c = (omega arith, λ g. rw (← c .before .before .before .joins .ensures g, ← c .before .before .before .before .before .tag-by .ensures, ← c .before .before .before .before .place .ensures, ← c .before .before .kept .ensures, c .enum-told .given .1) (refl, refl))
+returns c = (
+  omega arith,
+  λ g.
+      let k = c .before .before .keep in
+      let m = mark-lost (keep (c .before .before .before .joins .result) (standing (c .before .before .before .before .before .before .before .before .before .args .s .now) (c .before .before .before .before .tag-by .result))) (k .result) (k .ensures) (not-true _ (c .if1 .taken)) in
+      rw (← c .before .before .before .joins .ensures g, ← c .before .before .before .before .tag-by .ensures, m) (k .ensures ∙ ap cursorAt m, refl),
+)
 
 less-one-requires : tie.Need-less-one-requires
 less-one-requires c κs = search needs
@@ -44,7 +44,10 @@ returns-2 : tie.Need-returns-2
 unfolding bytes
 returns-2 c = (
   omega (arith, c .before .before .less-one .ensures),
-  λ g. rw (← c .before .before .before .before .before .before .before .joins .ensures g, ← c .before .before .before .before .before .before .before .before .before .tag-by .ensures, ← c .before .before .before .before .before .before .before .before .place .ensures, ← c .before .before .before .before .before .before .kept .ensures, c .before .before .before .before .e .given .1) (refl, λ f. rw (c .before .before .less-one .ensures, c .before .place-behind .ensures g, c .sum .ensures f)),
+  λ g.
+      let k = c .before .before .before .before .before .keep in
+      let m = mark-found (keep (c .before .before .before .before .before .before .joins .result) (standing (c .before .before .before .before .before .before .before .before .before .before .before .before .args .s .now) (c .before .before .before .before .before .before .before .tag-by .result))) (k .result) (k .ensures) (not-false _ (c .before .before .before .if1 .left)) in
+      rw (← c .before .before .before .before .before .before .joins .ensures g, ← c .before .before .before .before .before .before .before .tag-by .ensures, m) (k .ensures ∙ ap cursorAt m, λ f. rw (c .before .before .less-one .ensures, c .before .place-behind .ensures g, c .sum .ensures f)),
 )
 
 pub end-by-spec : {M : Type 1} → statement M
@@ -53,11 +56,7 @@ end-by-spec =
     (tie.spec
     slice-aggregate-tag-by
     tag-by-requires
-    place-requires
-    joins-requires
-    kept-requires
-    enum-known-e
-    enum-told
+    joins-requires keep-requires
     returns
     less-one-requires
     place-behind-requires
