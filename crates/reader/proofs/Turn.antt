@@ -6,7 +6,6 @@ use mathlib.Core.WellFounded.{WellFounded, InvImage·wf}
 use lib.ListN.{length}
 use lib.WfN.{Nat·lt-wfRel}
 use denote.Laws.{Is}
-use Rattle.formats.specs.declared.Mark.{Mark}
 use Rattle.cursor.specs.declared.Cursor.{Cursor}
 use Rattle.cursor.specs.Moves.{keep, standing}
 use Rattle.reader.specs.declared.elements.Wanted.{Wanted}

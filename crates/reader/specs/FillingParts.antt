@@ -2,7 +2,7 @@
 use mathlib.Core.Path.{_≡_, refl, sym, ap, ap₂, _∙_, subst}
 use mathlib.Core.List.{List, [], _∷_, _++_, map, flatMap, map-append}
 use Prim.Native.Nat.{ℕ, suc, _+_, _-_, _*_, _≤_, _<_}
-use lib.Dec.{leb, ltb}
+use lib.Dec.{leb}
 use lib.ListN.{length, drop, length-append}
 use native.Mathlib.Numerals.{add-one}
 use native.Mathlib.Omega.{arith}
@@ -15,25 +15,25 @@ use Rattle.formats.specs.Items.{itemsParse, items-bad}
 use Rattle.formats.specs.Run.{run-map}
 use Rattle.formats.specs.Place.{Parsed}
 use Rattle.formats.specs.declared.Mark.{Mark}
-use Rattle.formats.specs.declared.Mark.the-variants.{At, No}
+use Rattle.formats.specs.declared.Mark.the-variants.{At}
 use Rattle.kinds.specs.declared.Kind.{Kind}
 use Rattle.message.specs.Contents.{Observation, Series, Partner, place}
 use Rattle.message.specs.Bytes.{opening, ending, closing, element, group, supplies, deliveries}
 use Rattle.message.specs.Valid.{lastPosition, monthOf}
 use Rattle.message.specs.Rows.{Row, rowNumbers, numbers, rowsOf, seriesRows}
 use Rattle.message.specs.Group.{spread}
-use Rattle.message.specs.ObservationForm.{observation, observations, plainNumber, period}
+use Rattle.message.specs.ObservationForm.{observation, observations, period}
 use Rattle.message.specs.SeriesForm.{counted, Volume, volumeBody, ofVolume}
 use Rattle.message.specs.SeriesListForm.{follows, seriesList}
 use Rattle.message.specs.PartnerForm.{partnerForm}
 use Rattle.message.specs.FileForm.{partnersForm}
-use Rattle.reader.specs.Reading.{parsed-no, observing, Passed, observationsOf, observationItem, observationOnto, VolumeRead, volume-parsed, ownParse, own-body, own-read, sharedParse, shared-body, shared-read, Outline, outline}
+use Rattle.reader.specs.Reading.{observing, Passed, observationsOf, observationItem, observationOnto, VolumeRead, volume-parsed, ownParse, own-body, own-read, sharedParse, shared-body, shared-read, Outline, outline}
 use Rattle.reader.specs.ReaderItems.{viewed, view-bad, unview, folded}
 use Rattle.reader.specs.ReaderSeries.{seriesForm, item, onto, placeIn, counting, listForm}
 use Rattle.reader.specs.ReaderPartner.{Head, headParse, numbered, partnerKept, partner-seen}
 use Rattle.reader.specs.ReaderPartners.{partnerItem, partnerOnto, months-folded}
 use Rattle.reader.specs.Filling.{Fills, Stored, rowsOfObservation, rowsOfSeries, rowsOfPartner}
-use Rattle.reader.specs.FillingLaws.{fills-nowhere, fills-same, fills-view, fills-only, fills-bad, fills-within, fills-none, fills-step}
+use Rattle.reader.specs.FillingLaws.{fills-same, fills-view, fills-only, fills-bad, fills-within, fills-none, fills-step}
 
 -- contents as they are
 fills-all : {A : Type 0} {f : List ℕ → Res A} {R : A → List Row} {s : List ℕ} {m : Mark} {k : ℕ} {d o : List ℕ} → Fills f R s m k d o → Fills (mapParse (λ a. a) f) R s m k d o
@@ -187,12 +187,6 @@ partner-fills kind t s m a b c h v i j tag fills =
     fills-view (numbered (λ l. l)) (λ p. flatMap (rowsOfSeries (p .0)) (p .1))
     (fills-within list (mapParse (numbered (λ l. l)) (partnerForm kind (t .0) .parse)) (λ p. flatMap (rowsOfSeries (p .0)) (p .1)) (closing (group kind)) (u .value) (h .0, u .value)
     fills (partner-seen kind (t .0) (λ l. l) s m a b c h (u .value) i same tag) (u .parsed) tag (λ q e. refl))
-
-pub partner-fills-none : (kind : Kind) (seen : ℕ × ℕ) (s : List ℕ) (m : Mark) (h : Head) (k : ℕ) (d : List ℕ) → Parsed (headParse kind) s m No h → Fills (partnerForm kind seen .parse) rowsOfPartner s m k d d
-partner-fills-none kind seen s m h k d i =
-    let list = listForm kind (h .1 .0) (h .1 .1) seen .parse in
-    partner-fills kind (seen, 0) s m No No No h (seen, 0) i (parsed-no (mapParse (folded counting (seen, 0)) list) s (seen, 0)) (parsed-no (strip (closing (group kind))) s tt)
-    (fills-nowhere list (flatMap (rowsOfSeries (h .0))) s k d)
 
 pub next-partner-fills : (kind : Kind) (low : ℕ) (seen : ℕ × ℕ) {R : Partner → List Row} {s : List ℕ} {m : Mark} {k : ℕ} {d o : List ℕ} → Fills (partnerForm kind seen .parse) R s m k d o
     → Fills (partnerItem kind (low, seen) .parse) R s m k d o

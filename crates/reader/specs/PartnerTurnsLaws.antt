@@ -14,7 +14,7 @@ use Rattle.formats.specs.Combine.{strip, mapParse}
 use Rattle.formats.specs.Place.{Within, Parsed}
 use Rattle.formats.specs.PlaceLaws.{parsed, not-there}
 use Rattle.cursor.specs.declared.Cursor.{Cursor}
-use Rattle.cursor.specs.Moves.{keep, standing, cursorAt, lost, pastTag}
+use Rattle.cursor.specs.Moves.{keep, standing, pastTag}
 use Rattle.cursor.specs.MovesLaws.{standing-within, stands-at}
 use Rattle.cursor.specs.MovesParsed.{tag-parsed, fixed-fits}
 use Rattle.kinds.specs.declared.Kind.{Kind}
@@ -25,10 +25,10 @@ use Rattle.reader.specs.declared.series.SeriesTodo.{SeriesTodo}
 use Rattle.reader.specs.declared.partners.PartnersTodo.{PartnersTodo}
 use Rattle.reader.specs.RowsLaws.{company-read, access-read, access-fits}
 use Rattle.reader.specs.Reading.{parsed-no}
-use Rattle.reader.specs.ReaderItems.{run-same, folded}
+use Rattle.reader.specs.ReaderItems.{run-same}
 use Rattle.reader.specs.ReaderSeries.{Room}
 use Rattle.reader.specs.ReaderPartner.{Head, headParse, of-company, partnerKept, partner-read, tagForm, room-on, head-room, room-keep}
-use Rattle.reader.specs.ReaderPartners.{partnerItem, next-partner, adding, partnersKept, partners-start, partners-end, partners-bad, partners-step}
+use Rattle.reader.specs.ReaderPartners.{partnerItem, next-partner, partnersKept, partners-start, partners-end, partners-bad, partners-step}
 use Rattle.reader.specs.Filling.{Fills, rowsOfPartner}
 use Rattle.reader.specs.FillingLaws.{fills-no}
 use Rattle.reader.specs.FillingParts.{partner-fills, next-partner-fills, partnersFrom, partners-filled, partners-fill-none, partners-fill-bad, partners-fill-step}

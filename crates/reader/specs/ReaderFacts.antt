@@ -12,7 +12,6 @@ use Rattle.formats.specs.declared.Mark.{Mark}
 use Rattle.formats.specs.declared.Mark.the-variants.{At, No}
 use Rattle.cursor.specs.Moves.{standing}
 use Rattle.cursor.specs.MovesLaws.{stands}
-use Rattle.kinds.specs.declared.Kind.{Kind}
 use Rattle.message.specs.declared.FileFacts.{FileFacts}
 use Rattle.message.specs.declared.ReadAnswer.the-variants.{File, Refused}
 use Rattle.message.specs.Bytes.{opening, ending}

@@ -1,6 +1,6 @@
 -- The rows of calls as readings at places (`Parsed`): each move is one, from where the cursor stood to where it then stands.
-use mathlib.Core.Path.{_≡_, refl, ap, subst, _∙_}
-use mathlib.Core.List.{List, [], _∷_, _++_}
+use mathlib.Core.Path.{_≡_, refl}
+use mathlib.Core.List.{List, _++_}
 use Prim.Native.Nat.{ℕ, _+_, _*_, _≤_, _<_}
 use lib.ListN.{drop}
 use native.Mathlib.Omega.{arith}
@@ -10,7 +10,7 @@ use Rattle.formats.specs.Combine.{strip}
 use Rattle.formats.specs.Words.{wordsParse}
 use Rattle.formats.specs.Exactly.{fixedDigits}
 use Rattle.formats.specs.Name.{nameByte, span, nameParse}
-use Rattle.formats.specs.Place.{Within, Parsed, left}
+use Rattle.formats.specs.Place.{Parsed, left}
 use Rattle.cursor.specs.declared.Cursor.{Cursor}
 use Rattle.cursor.specs.Moves.{standing, pastTag, pastNumber, pastCounter, pastFixed, pastWord, pastName}
 use Rattle.cursor.specs.MovesParsed.{tag-parsed, number-parsed, fixed-parsed, word-parsed, name-parsed, number-fits, fixed-fits, word-fits}

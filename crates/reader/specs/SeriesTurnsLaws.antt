@@ -9,13 +9,13 @@ use lib.ListN.{length, drop}
 use Rattle.text.specs.Ascii.{bytes}
 use Rattle.formats.specs.declared.Mark.{Mark}
 use Rattle.formats.specs.declared.Mark.the-variants.{At, No}
-use Rattle.formats.specs.Format.{Res, bad}
+use Rattle.formats.specs.Format.{Res}
 use Rattle.formats.specs.FormatLaws.{got-bad}
 use Rattle.formats.specs.Combine.{strip, mapParse}
 use Rattle.formats.specs.Place.{Within, Parsed}
 use Rattle.formats.specs.PlaceLaws.{parsed, not-there}
 use Rattle.cursor.specs.declared.Cursor.{Cursor}
-use Rattle.cursor.specs.Moves.{keep, standing, cursorAt, lost, pastTag}
+use Rattle.cursor.specs.Moves.{keep, standing, pastTag}
 use Rattle.cursor.specs.MovesLaws.{standing-within, stands-at}
 use Rattle.kinds.specs.declared.Kind.{Kind}
 use Rattle.kinds.specs.declared.Kind.the-variants.{Toe01, Toe02, Toe03}
@@ -26,13 +26,13 @@ use Rattle.reader.specs.declared.elements.TimeSeries.{TimeSeries}
 use Rattle.rows.specs.Rows.{ownStart}
 use Rattle.reader.specs.RowsLaws.{SupplySteps, own-steps, own-fits, shared-steps, series-end}
 use Rattle.reader.specs.Reading.{Outline, outline, parsed-no, VolumeRead, sharedParse}
-use Rattle.reader.specs.ReaderItems.{run-same, folded}
-use Rattle.reader.specs.ReaderSeries.{seriesForm, joins, item, placeIn, next-kept, counting, listForm, listKept, list-start, list-end, list-bad, list-step, item-long, Room}
+use Rattle.reader.specs.ReaderItems.{run-same}
+use Rattle.reader.specs.ReaderSeries.{seriesForm, joins, item, placeIn, next-kept, listKept, list-start, list-end, list-bad, list-step, item-long, Room}
 use Rattle.reader.specs.Filling.{Fills, rowsOfSeries}
 use Rattle.reader.specs.FillingLaws.{fills-no}
 use Rattle.reader.specs.FillingParts.{own-filled, shared-filled, next-fills, seriesFrom, series-filled, series-fill-none, series-fill-bad, series-fill-step}
 use Rattle.reader.specs.Volumes.{VolumeDone}
-use Rattle.reader.specs.SeriesTurns.{seriesStart, seriesNext, seriesNone, SeriesAfter, SeriesEnd, SeriesOn, SeriesTurned, SeriesStep, SeriesWhole}
+use Rattle.reader.specs.SeriesTurns.{seriesStart, SeriesAfter, SeriesEnd, SeriesOn, SeriesTurned, SeriesStep, SeriesWhole}
 
 -- what is read from nowhere ends nowhere
 pub from-none : {A : Type 0} {f : List ℕ → Res A} {s : List ℕ} (m : Mark) {v : A} → Parsed f s No m v → m ≡ No

@@ -7,9 +7,7 @@ use Rattle.formats.specs.declared.Mark.the-variants.{At, No}
 use Rattle.cursor.specs.declared.Cursor.{Cursor}
 use Rattle.cursor.specs.Moves.{standing, cursorAt, lost}
 use Rattle.message.specs.Valid.{lastPosition}
-use Rattle.message.specs.Rows.{Row}
 use Rattle.message.specs.ObservationForm.{observed}
-use Rattle.reader.specs.declared.elements.Key.{Key}
 use Rattle.reader.specs.declared.elements.Wanted.{Wanted}
 use Rattle.reader.specs.declared.elements.Todo.{Todo}
 use Rattle.reader.specs.Reading.{Passed, observationsOf}

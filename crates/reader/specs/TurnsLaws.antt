@@ -7,12 +7,11 @@ use native.Mathlib.Omega.{arith}
 use lib.ListN.{length, drop}
 use Rattle.formats.specs.declared.Mark.{Mark}
 use Rattle.formats.specs.declared.Mark.the-variants.{At, No}
-use Rattle.formats.specs.Format.{Res, bad}
 use Rattle.formats.specs.FormatLaws.{got-bad}
 use Rattle.formats.specs.Items.{itemsParse, items-bad}
 use Rattle.formats.specs.Place.{placed, Within, Parsed}
 use Rattle.cursor.specs.declared.Cursor.{Cursor}
-use Rattle.cursor.specs.Moves.{keep, standing, cursorAt, lost}
+use Rattle.cursor.specs.Moves.{keep, standing}
 use Rattle.cursor.specs.MovesLaws.{standing-within, stands-at}
 use Rattle.message.specs.Contents.{Observation}
 use Rattle.message.specs.Valid.{lastPosition}

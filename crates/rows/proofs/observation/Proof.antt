@@ -1,5 +1,5 @@
 -- A walk by hand: the cursor that was lent is lent on to one call after another, the tags as literals (`Lent`, `Lit` and `Call_..` of `cursor`). Its lines are printed by tools/lent_row.py.
-use Rattle.cursor.proofs.Walk.{ℕ, _<_, _^_, GName, Lft, Share, ftrue, flft, SProp, ent, emp, via, fst∗, Fun, givenOf, tables, tablesOf, u8, yes, Is, mem, owns, RefT, MutRef, ptr-vals, mut-tells, now, plain, ShrSlice, slice-vals, shr-slice-tells, owned, nothing, onEntry, Meets, tripleOf, Triple, entered, cited, says, Stays, stay-ref, walkOf, goes-ref, ends-at, walked, walk-meets, stay-dropped, goes-dropped, Atoms, fullShare, URA, lit<, [], _∷_, List, _≡_, refl, named, Val, vptr, Memory, Routine, Heap, Calls, Loops, WpFn, Tables, FmC, fmOf, WpFn-mono, Given, ‵, _⊛_, ⋆, _$_, _∵_, !, qed, by, move, keep, split, join, fsplit, fjoin, suffices, frame, done, agg, look, init, forget, stop, hop, from, load, of-opd, and-then, no-more, assigns, land, returns, enter, alloc1, alloc0, params1, pass1, pass0, free1, free0, store, lit, neg-lit, addr, lft-new, lft-end}
+use Rattle.cursor.proofs.Walk.{ℕ, _<_, _^_, GName, Lft, Share, ftrue, flft, SProp, ent, emp, via, fst∗, Fun, givenOf, tables, tablesOf, u8, yes, Is, mem, owns, RefT, MutRef, ptr-vals, mut-tells, now, plain, ShrSlice, slice-vals, shr-slice-tells, owned, nothing, onEntry, Meets, tripleOf, Triple, entered, cited, says, Stays, stay-ref, walkOf, goes-ref, ends-at, walked, walk-meets, stay-dropped, goes-dropped, Atoms, fullShare, URA, lit<, [], _∷_, List, refl, named, Val, vptr, Memory, Routine, Heap, Calls, Loops, WpFn, Tables, FmC, fmOf, WpFn-mono, Given, ‵, _⊛_, ⋆, _$_, _∵_, !, qed, by, move, keep, split, join, fsplit, fjoin, suffices, frame, done, agg, look, init, forget, stop, hop, from, load, and-then, no-more, assigns, land, returns, enter, alloc1, alloc0, params1, pass1, pass0, free1, free0, store, lit, neg-lit, addr, lft-new, lft-end}
 use denote.Struct.Laws as LL
 use denote.Builtin.{SliceRefOf}
 use Rattle.text.specs.Ascii.{bytes}

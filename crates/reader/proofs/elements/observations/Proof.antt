@@ -1,6 +1,6 @@
 -- A walk by hand, with a loop: in each turn the cursor that was lent is lent on to `rows::observation` (`Call_observation`), and the rows are lent again to `turn` (`Again`), which is covered.
 -- What holds where a turn begins is `Turn`, on values, and `Ctx` here, in memory.
-use Rattle.cursor.proofs.Walk.{ℕ, _<_, _^_, GName, Lft, Share, ftrue, fat, flft, SProp, ent, emp, via, fst∗, snd∗, exE, id⊢, Fun, fact, givenOf, tables, tablesOf, u8, u64, yes, Is, shows, mem, owns, RefT, MutRef, ptr-vals, mut-tells, now, plain, ShrSlice, sliceVal, slice-vals, shr-slice-tells, only, opens, closes, owned, peeks, heard, nothing, spelt, calls-at, ensured, lasts, onEntry, Meets, tripleOf, Contract, Triple, entered, cited, says, Stays, stay-ref, walkOf, goes-ref, ends-at, walked, walk-meets, stay-dropped, goes-dropped, Atoms, sem, fullShare, URA, length, [], _∷_, List, _≡_, refl, ap, named, w8, w64, Val, vptr, vunit, Memory, Routine, Heap, Calls, Loops, WpFn, Tables, fmOf, WpFn-mono, Given, ‵, raw, _⊛_, some, later, ⋆, _$_, _∵_, !, qed, by, move, keep, drop, use1, split, join, pick, rewrite, fsplit, fsplit3, fjoin, fjoin3, feqI, suffices, frame, await, done, group, whole, sub, look-in, agg, look, look-raw, store-raw, init, forget, stop, hop, fld, from, load, of-opd, and-then, no-more, assigns, land, returns, enter, alloc1, alloc0, params1, pass1, pass0, free1, free0, store, lit, addr, unit-lit, lft-new, lft-end}
+use Rattle.cursor.proofs.Walk.{ℕ, _<_, GName, Lft, Share, ftrue, fat, flft, SProp, ent, emp, via, fst∗, snd∗, exE, id⊢, Fun, fact, givenOf, tables, tablesOf, u8, u64, yes, Is, shows, mem, owns, RefT, MutRef, ptr-vals, mut-tells, now, plain, ShrSlice, sliceVal, slice-vals, shr-slice-tells, only, opens, closes, owned, peeks, heard, nothing, spelt, calls-at, ensured, lasts, onEntry, Meets, tripleOf, Contract, Triple, entered, cited, says, Stays, stay-ref, walkOf, goes-ref, ends-at, walked, walk-meets, stay-dropped, goes-dropped, Atoms, sem, fullShare, URA, length, [], _∷_, List, _≡_, refl, ap, named, w8, w64, Val, vptr, vunit, Memory, Routine, Heap, Calls, Loops, WpFn, Tables, fmOf, WpFn-mono, Given, ‵, raw, _⊛_, some, later, ⋆, _$_, _∵_, !, qed, by, move, keep, drop, use1, split, join, pick, rewrite, fsplit, fsplit3, fjoin, fjoin3, feqI, suffices, frame, await, done, group, whole, sub, look-in, agg, look, look-raw, store-raw, init, forget, stop, hop, fld, from, load, of-opd, and-then, no-more, assigns, land, returns, enter, alloc1, alloc0, params1, pass1, pass0, free1, free0, store, lit, addr, unit-lit, lft-new, lft-end}
 use base.Fml.{Fml, froom, fdies}
 use Rattle.cursor.proofs.Again.{LentAgain, lends-again, comes-back}
 use Rattle.reader.proofs.Turn.{Turn, Fewer, fewer-wf, begins, made, Said, next, next-fewer}

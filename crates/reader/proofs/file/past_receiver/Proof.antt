@@ -7,7 +7,6 @@ use Rattle.cursor.proofs.Cursor as T
 use Rattle.cursor.proofs.Cursor.Laws as T′
 use Rattle.cursor.proofs.Lent.{R, Good, sv, Slice}
 use Rattle.reader.specs.declared.file.Root.{Root}
-use Rattle.reader.specs.declared.file.Receiver.{Receiver}
 use Rattle.reader.specs.declared.file.ReceiverRead.{ReceiverRead}
 use Rattle.reader.proofs.file.Root as T-Root
 use Rattle.reader.proofs.file.Root.Laws as L-Root

@@ -4,7 +4,6 @@ use base.Fml.{froom, fdies}
 use mathlib.Core.Bool.{Bool, true, false}
 use mathlib.Core.Path.{sym, subst, _∙_}
 use mathlib.Core.WellFounded.{WellFounded, InvImage·wf}
-use Prim.Native.Nat.{_≤_}
 use native.Mathlib.Omega.{arith}
 use lib.Dec.{ltb}
 use lib.WfN.{Nat·lt-wfRel}

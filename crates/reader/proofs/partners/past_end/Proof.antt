@@ -7,7 +7,6 @@ use Rattle.cursor.proofs.Cursor as T
 use Rattle.cursor.proofs.Cursor.Laws as T′
 use Rattle.cursor.proofs.Lent.{R, Good, sv, Slice}
 use Rattle.reader.specs.declared.partners.PartnerSeen.{PartnerSeen}
-use Rattle.reader.specs.declared.partners.PartnersTodo.{PartnersTodo}
 use Rattle.reader.specs.declared.partners.PartnerRead.{PartnerRead}
 use Rattle.reader.proofs.partners.PartnerSeen as T-PartnerSeen
 use Rattle.reader.proofs.partners.PartnerSeen.Laws as L-PartnerSeen

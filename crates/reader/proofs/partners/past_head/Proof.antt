@@ -7,7 +7,6 @@ use Rattle.cursor.proofs.Cursor as T
 use Rattle.cursor.proofs.Cursor.Laws as T′
 use Rattle.cursor.proofs.Lent.{R, Good, sv, Slice}
 use Rattle.reader.specs.declared.partners.PartnersTodo.{PartnersTodo}
-use Rattle.reader.specs.declared.series.SeriesTodo.{SeriesTodo}
 use Rattle.reader.specs.declared.partners.HeadRead.{HeadRead}
 use Rattle.reader.proofs.partners.PartnersTodo as T-PartnersTodo
 use Rattle.reader.proofs.partners.PartnersTodo.Laws as L-PartnersTodo

@@ -7,7 +7,6 @@ use Rattle.cursor.proofs.Cursor as T
 use Rattle.cursor.proofs.Cursor.Laws as T′
 use Rattle.cursor.proofs.Lent.{R, Good, sv, Slice}
 use Rattle.reader.specs.declared.series.SeriesSeen.{SeriesSeen}
-use Rattle.reader.specs.declared.series.SeriesTodo.{SeriesTodo}
 use Rattle.reader.specs.declared.series.SeriesRead.{SeriesRead}
 use Rattle.reader.proofs.series.SeriesSeen as T-SeriesSeen
 use Rattle.reader.proofs.series.SeriesSeen.Laws as L-SeriesSeen
