@@ -3,8 +3,8 @@ use crate::series::SeriesTodo;
 use cursor::Cursor;
 use kinds::Kind;
 ghost use mathlib.Core.Path.{_≡_};
-ghost use Prim.Native.Nat.{_+_, _^_, _<_};
-ghost use Rattle.reader.specs.PartnerTurns.{companyHead, accessHead, headOf, headTodo, groupEnd, PartnerEnd, PartnerStep, PartnersWhole};
+ghost use Prim.Native.Nat.{_+_, _-_, _≤_, _<_};
+ghost use Rattle.reader.specs.PartnerTurns.{companyHead, accessHead, headOf, headTodo, groupEnd, partnersNone, partnersNext, PartnerEnd, PartnerStep, PartnersWhole};
 
 // The partners that are left of a file: so many, with numbers from `low` on, behind the month that was seen and so many rows.
 pub struct PartnersTodo {
@@ -141,6 +141,40 @@ pub struct PartnerRead {
     pub todo: PartnersTodo,
 }
 
+// Nothing is left.
+fn none_left(t: PartnersTodo) -> PartnersTodo
+    ensures { λ r. ⌜ r ≡ partnersNone t ⌝ }
+{
+    let kind = t.kind;
+    PartnersTodo {
+        kind,
+        left: 0,
+        low: t.low,
+        year: t.year,
+        month: t.month,
+        rows: t.rows,
+    }
+}
+
+// What is left behind a partner that was read.
+fn left_behind(x: PartnerSeen) -> PartnersTodo
+    ensures { λ r. ⌜ (x .series .partner < 18446744073709551615 → r ≡ partnersNext x) × (r .left ≤ x .todo .left - 1) ⌝ }
+{
+    let t = x.todo;
+    let u = x.series;
+    let kind = t.kind;
+    let left = crate::elements::less_one(t.left);
+    let low = number_behind(u.partner);
+    PartnersTodo {
+        kind,
+        left,
+        low,
+        year: u.year,
+        month: u.month,
+        rows: u.rows,
+    }
+}
+
 // The end of a partner, whose number is held against those before it; where it isn't good the cursor is lost, and nothing is left.
 fn end_by(c: Cursor, s: &[u8], x: PartnerSeen) -> PartnerRead
     ensures { λ r. ⌜ PartnerEnd (now (s .entry)) x c (r .to) (r .todo) ⌝ }
@@ -153,27 +187,11 @@ fn end_by(c: Cursor, s: &[u8], x: PartnerSeen) -> PartnerRead
     let good = t.low <= number;
     let to = cursor::keep(behind, s, good);
     if !to.good {
-        let none = PartnersTodo {
-            kind,
-            left: 0,
-            low: t.low,
-            year: t.year,
-            month: t.month,
-            rows: t.rows,
-        };
-        return PartnerRead { to, todo: none };
+        let todo = none_left(t);
+        return PartnerRead { to, todo };
     }
-    let left = crate::elements::less_one(t.left);
-    let low = number_behind(number);
-    let rest = PartnersTodo {
-        kind,
-        left,
-        low,
-        year: u.year,
-        month: u.month,
-        rows: u.rows,
-    };
-    PartnerRead { to, todo: rest }
+    let todo = left_behind(x);
+    PartnerRead { to, todo }
 }
 
 // Past the end of a partner; what is then left.

@@ -5,10 +5,10 @@ use cursor::Cursor;
 use cursor::Read;
 use kinds::Kind;
 ghost use mathlib.Core.Path.{_≡_};
-ghost use Prim.Native.Nat.{_+_, _*_, _^_, _≤_, _<_};
+ghost use Prim.Native.Nat.{_+_, _-_, _*_, _^_, _≤_, _<_};
 ghost use Rattle.message.specs.SeriesListForm.{follows};
 ghost use Rattle.reader.specs.ReaderSeries.{joins};
-ghost use Rattle.reader.specs.SeriesTurns.{seriesStart, SeriesEnd, SeriesStep, SeriesWhole};
+ghost use Rattle.reader.specs.SeriesTurns.{seriesStart, seriesNone, seriesNext, SeriesEnd, SeriesStep, SeriesWhole};
 
 // The series that are left of a partner: so many, from place `low` on, behind the month that was seen and so many rows. In TOE03 `supply` is
 // the access point's.
@@ -117,13 +117,51 @@ pub struct SeriesRead {
     pub todo: SeriesTodo,
 }
 
+// Nothing is left.
+fn none_left(t: SeriesTodo) -> SeriesTodo
+    ensures { λ r. ⌜ r ≡ seriesNone t ⌝ }
+{
+    let kind = t.kind;
+    SeriesTodo {
+        kind,
+        partner: t.partner,
+        supply: t.supply,
+        left: 0,
+        low: t.low,
+        year: t.year,
+        month: t.month,
+        rows: t.rows,
+    }
+}
+
+// What is left behind a series that was read.
+fn left_behind(x: SeriesSeen) -> SeriesTodo
+    ensures { λ r. ⌜ ((x .supply ≤ 1) × (x .series .delivery ≤ 1) × (x .todo .rows + x .series .rows < 2 ^ 64) → r ≡ seriesNext x) × (r .left ≤ x .todo .left - 1) ⌝ }
+{
+    let t = x.todo;
+    let v = x.series;
+    let kind = t.kind;
+    let left = crate::elements::less_one(t.left);
+    let low = place_behind(x.supply, v.delivery);
+    let rows = sum(t.rows, v.rows);
+    SeriesTodo {
+        kind,
+        partner: t.partner,
+        supply: t.supply,
+        left,
+        low,
+        year: v.year,
+        month: v.month,
+        rows,
+    }
+}
+
 // The end of a series, which is held against those before it; where it isn't good the cursor is lost, and nothing is left.
 fn end_by(c: Cursor, s: &[u8], x: SeriesSeen) -> SeriesRead
     ensures { λ r. ⌜ SeriesEnd (now (s .entry)) x c (r .to) (r .todo) ⌝ }
 {
     let t = x.todo;
     let v = x.series;
-    let kind = t.kind;
     let behind = cursor::tag_by(c, s, b"</ToETimeSeries>");
     let good = joins(
         x.supply,
@@ -136,32 +174,11 @@ fn end_by(c: Cursor, s: &[u8], x: SeriesSeen) -> SeriesRead
     );
     let to = cursor::keep(behind, s, good);
     if !to.good {
-        let none = SeriesTodo {
-            kind,
-            partner: t.partner,
-            supply: t.supply,
-            left: 0,
-            low: t.low,
-            year: t.year,
-            month: t.month,
-            rows: t.rows,
-        };
-        return SeriesRead { to, todo: none };
+        let todo = none_left(t);
+        return SeriesRead { to, todo };
     }
-    let left = crate::elements::less_one(t.left);
-    let low = place_behind(x.supply, v.delivery);
-    let rows = sum(t.rows, v.rows);
-    let rest = SeriesTodo {
-        kind,
-        partner: t.partner,
-        supply: t.supply,
-        left,
-        low,
-        year: v.year,
-        month: v.month,
-        rows,
-    };
-    SeriesRead { to, todo: rest }
+    let todo = left_behind(x);
+    SeriesRead { to, todo }
 }
 
 // Past the end of a series; what is then left.

@@ -21,44 +21,25 @@ joins-requires c κs = search needs
 keep-requires : tie.Need-keep-requires
 keep-requires c κs = search needs
 
+none-left-requires : tie.Need-none-left-requires
+none-left-requires c κs = search needs
+
 returns : tie.Need-returns
 unfolding bytes
-returns c = (
-  omega arith,
-  λ g.
-      let k = c .before .before .keep in
-      let m = mark-lost (keep (c .before .before .before .joins .result) (standing (c .before .before .before .before .before .before .before .before .before .args .s .now) (c .before .before .before .before .tag-by .result))) (k .result) (k .ensures) (not-true _ (c .if1 .taken)) in
-      rw (← c .before .before .before .joins .ensures g, ← c .before .before .before .before .tag-by .ensures, m) (k .ensures ∙ ap cursorAt m, refl),
-)
+returns c =
+    let k = c .before .before .before .keep in
+    let m = mark-lost (keep (c .before .before .before .before .joins .result) (standing (c .before .before .before .before .before .before .before .before .before .before .args .s .now) (c .before .before .before .before .before .tag-by .result))) (k .result) (k .ensures) (not-true _ (c .before .if1 .taken)) in
+    rw (c .none-left .ensures) (omega arith, λ g. rw (← c .before .before .before .before .joins .ensures g, ← c .before .before .before .before .before .tag-by .ensures, m) (k .ensures ∙ ap cursorAt m, refl))
 
-less-one-requires : tie.Need-less-one-requires
-less-one-requires c κs = search needs
-
-place-behind-requires : tie.Need-place-behind-requires
-place-behind-requires c κs = search needs
-
-sum-requires : tie.Need-sum-requires
-sum-requires c κs = search needs
+left-behind-requires : tie.Need-left-behind-requires
+left-behind-requires c κs = search needs
 
 returns-2 : tie.Need-returns-2
 unfolding bytes
-returns-2 c = (
-  omega (arith, c .before .before .less-one .ensures),
-  λ g.
-      let k = c .before .before .before .before .before .keep in
-      let m = mark-found (keep (c .before .before .before .before .before .before .joins .result) (standing (c .before .before .before .before .before .before .before .before .before .before .before .before .args .s .now) (c .before .before .before .before .before .before .before .tag-by .result))) (k .result) (k .ensures) (not-false _ (c .before .before .before .if1 .left)) in
-      rw (← c .before .before .before .before .before .before .joins .ensures g, ← c .before .before .before .before .before .before .before .tag-by .ensures, m) (k .ensures ∙ ap cursorAt m, λ f. rw (c .before .before .less-one .ensures, c .before .place-behind .ensures g, c .sum .ensures f)),
-)
+returns-2 c =
+    let k = c .before .before .before .keep in
+    let m = mark-found (keep (c .before .before .before .before .joins .result) (standing (c .before .before .before .before .before .before .before .before .before .before .args .s .now) (c .before .before .before .before .before .tag-by .result))) (k .result) (k .ensures) (not-false _ (c .before .if1 .left)) in
+    (c .left-behind .ensures .1, λ g. rw (← c .before .before .before .before .joins .ensures g, ← c .before .before .before .before .before .tag-by .ensures, m) (k .ensures ∙ ap cursorAt m, λ f. c .left-behind .ensures .0 (g .0, g .1, f)))
 
 pub end-by-spec : {M : Type 1} → statement M
-end-by-spec =
-    tie.close
-    (tie.spec
-    slice-aggregate-tag-by
-    tag-by-requires
-    joins-requires keep-requires
-    returns
-    less-one-requires
-    place-behind-requires
-    sum-requires
-    returns-2)
+end-by-spec = tie.close (tie.spec slice-aggregate-tag-by tag-by-requires joins-requires keep-requires none-left-requires returns left-behind-requires returns-2)
