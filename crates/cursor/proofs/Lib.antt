@@ -1,6 +1,8 @@
 pub mod Walk
 pub mod Lit
 pub mod Lent
+pub mod Again
+pub mod Lends
 pub mod Call_past_tag
 pub mod Call_past_number
 pub mod Call_past_fixed

@@ -4,11 +4,11 @@ use mathlib.Core.Bool.{Bool, true, false, _&&_}
 use mathlib.Core.List.{List, [], _∷_}
 use Prim.Native.Nat.{ℕ, _-_}
 use lib.ListN.{length}
-use lib.Dec.{leb}
+use lib.Dec.{leb, ltb}
 use Rattle.formats.specs.declared.Mark.{Mark}
 use Rattle.formats.specs.declared.Mark.the-variants.{At, No}
 use Rattle.formats.specs.Format.{Res, got, bad, bind, pick}
-use Rattle.formats.specs.Combine.{strip}
+use Rattle.formats.specs.Combine.{strip, onlyParse}
 use Rattle.formats.specs.Words.{wordsParse}
 use Rattle.formats.specs.Exactly.{fixedDigits}
 use Rattle.formats.specs.Numbers.{numberParse}
@@ -36,6 +36,11 @@ markIf false n = No
 
 abbrev pub standing : List ℕ → Cursor → Mark
 standing s c = markIf (c .good && leb (c .at) (length s)) (c .at)
+
+-- a mark where a test holds
+abbrev pub keep : Bool → Mark → Mark
+keep true m = m
+keep false m = No
 
 -- ---- from a reading to the cursor behind it
 
@@ -66,6 +71,13 @@ numberOf stop max s = pick (leb 9 max) (numberParse stop max s)
 
 unfoldable pub pastNumber : List ℕ → ℕ → ℕ → Cursor → Read
 pastNumber s stop max c = taken s (readAt (numberOf stop max) s c)
+
+-- a counter is 1 or more
+abbrev pub counterParse : List ℕ → Res ℕ
+counterParse = onlyParse (λ n. ltb 0 n) (numberParse 60 18446744073709551615)
+
+unfoldable pub pastCounter : List ℕ → Cursor → Read
+pastCounter s c = taken s (readAt counterParse s c)
 
 -- a number of n digits, at most 18
 abbrev pub fixedOf : ℕ → List ℕ → Res ℕ

@@ -4,7 +4,7 @@ use mathlib.Core.Bool.{Bool, true, false}
 use mathlib.Core.List.{List, [], _∷_, _++_}
 use Prim.Native.Nat.{ℕ, _+_, _-_, _^_, _≤_, _<_}
 use lib.ListN.{length, drop, length-drop, length-append}
-use lib.Dec.{leb}
+use lib.Dec.{leb, ltb}
 use lib.Seq.{drop-append-seam, drop-drop}
 use native.Mathlib.Omega.{arith}
 use borrow.Author.Tests.{le-leb}
@@ -12,15 +12,15 @@ use Rattle.text.specs.Decimal.{digit, plain}
 use Rattle.formats.specs.declared.Mark.{Mark}
 use Rattle.formats.specs.declared.Mark.the-variants.{At, No}
 use Rattle.formats.specs.Format.{Res, got, bad, bind, pick, Sound}
-use Rattle.formats.specs.Combine.{strip, strip-sound}
+use Rattle.formats.specs.Combine.{strip, strip-sound, only}
 use Rattle.formats.specs.Words.{wordAt, wordsParse, words-sound}
 use Rattle.formats.specs.Exactly.{fixedDigits}
-use Rattle.formats.specs.Numbers.{numberParse, number-sound}
+use Rattle.formats.specs.Numbers.{numberParse, number, number-sound}
 use Rattle.formats.specs.Name.{nameByte, span, nameParse, Name, name-sound}
 use Rattle.formats.specs.Place.{Within, Parsed, placed, left}
 use Rattle.formats.specs.PlaceLaws.{parsed, not-there}
 use Rattle.cursor.specs.declared.Cursor.{Cursor}
-use Rattle.cursor.specs.Moves.{standing, behind, valueIn, readAt, pastTag, pastNumber, pastFixed, pastWord, pastName}
+use Rattle.cursor.specs.Moves.{standing, behind, valueIn, readAt, counterParse, pastTag, pastNumber, pastCounter, pastFixed, pastWord, pastName}
 use Rattle.cursor.specs.MovesLaws.{standing-within}
 
 -- v is what was found, if anything was
@@ -90,6 +90,12 @@ module _ (s : List ℕ) (c : Cursor) where
       let f = numberParse stop max in
       rw (le-leb 9 max nine) (move-parsed (λ v. v ≤ max) (λ v. plain v ++ (stop ∷ [])) f s (number-sound stop max nine off) c (valueIn (readAt f s c)) (says-value (readAt f s c)))
 
+  pub counter-parsed : Parsed counterParse s (standing s c) (standing s (pastCounter s c .to)) (pastCounter s c .value)
+  unfolding pastCounter
+  counter-parsed =
+      let F = only (λ n. ltb 0 n) (number 60 18446744073709551615 (omega arith) refl) in
+      move-parsed (F .Ok) (F .render) counterParse s (F .sound) c (valueIn (readAt counterParse s c)) (says-value (readAt counterParse s c))
+
   pub fixed-parsed : (n : ℕ) → n ≤ 18 → Parsed (fixedDigits n .parse) s (standing s c) (standing s (pastFixed s n c .to)) (pastFixed s n c .value)
   unfolding pastFixed
   fixed-parsed n few =
@@ -118,3 +124,7 @@ module _ (s : List ℕ) (c : Cursor) where
   pub fixed-fits : (n : ℕ) → n ≤ 18 → 0 < 10 ^ n → pastFixed s n c .value < 10 ^ n
   unfolding pastFixed
   fixed-fits n few pos = rw (le-leb n 18 few) (in-range (fixedDigits n .parse) (fixedDigits n .render) (λ v. v < 10 ^ n) pos (fixedDigits n .sound) s (standing s c))
+
+  pub word-fits : (v w : List ℕ) → pastWord s v w c .value < 2
+  unfolding pastWord
+  word-fits v w = in-range (wordsParse (v ∷ w ∷ [])) (wordAt (v ∷ w ∷ [])) (λ n. n < 2) (omega arith) (words-sound (v ∷ w ∷ [])) s (standing s c)

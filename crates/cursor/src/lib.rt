@@ -3,7 +3,7 @@
 use formats::Mark;
 use formats::Val;
 ghost use mathlib.Core.Path.{_≡_};
-ghost use Rattle.cursor.specs.Moves.{standing, cursorAt, readOf, pastTag, pastNumber, pastFixed, pastWord, pastName};
+ghost use Rattle.cursor.specs.Moves.{standing, cursorAt, keep, readOf, pastTag, pastNumber, pastCounter, pastFixed, pastWord, pastName};
 
 // A place in a text, if `good`.
 pub struct Cursor {
@@ -38,6 +38,17 @@ pub fn at_mark(m: Mark) -> Cursor
         return Cursor { at: 0, good: false };
     };
     Cursor { at: p, good: true }
+}
+
+// The cursor, if it stands in s and a test holds; else a lost one.
+pub fn keep(c: Cursor, s: &[u8], good: bool) -> Cursor
+    ensures { λ r. ⌜ r ≡ cursorAt (keep good (standing (now (s .entry)) c)) ⌝ }
+{
+    if good {
+        let m = place(c, s);
+        return at_mark(m);
+    }
+    Cursor { at: 0, good: false }
 }
 
 // A value and the cursor behind it.
@@ -79,6 +90,20 @@ pub fn number_by(c: Cursor, s: &[u8], stop: u8, max: u64) -> Read
     let m = place(c, s);
     let v = formats::number(s, m, stop, max);
     read_of(v)
+}
+
+// A counter, which is 1 or more, and the cursor behind the byte < that ends it.
+pub fn counter_by(c: Cursor, s: &[u8]) -> Read
+    ensures { λ r. ⌜ r ≡ pastCounter (now (s .entry)) c ⌝ }
+{
+    let n = number_by(c, s, 60, 18446744073709551615);
+    if n.value == 0 {
+        return Read {
+            to: Cursor { at: 0, good: false },
+            value: 0,
+        };
+    }
+    n
 }
 
 // A number of n digits, at most 18, and the cursor behind it.
@@ -126,6 +151,15 @@ pub fn past_number(c: &mut Cursor, s: &[u8], stop: u8, max: u64) -> u64
     ensures { λ r. ⌜ (now (c .exit) ≡ pastNumber (now (s .entry)) stop max (now (c .entry)) .to) × (r ≡ pastNumber (now (s .entry)) stop max (now (c .entry)) .value) ⌝ }
 {
     let n = number_by(*c, s, stop, max);
+    *c = n.to;
+    n.value
+}
+
+// Past a counter.
+pub fn past_counter(c: &mut Cursor, s: &[u8]) -> u64
+    ensures { λ r. ⌜ (now (c .exit) ≡ pastCounter (now (s .entry)) (now (c .entry)) .to) × (r ≡ pastCounter (now (s .entry)) (now (c .entry)) .value) ⌝ }
+{
+    let n = counter_by(*c, s);
     *c = n.to;
     n.value
 }

@@ -1,1 +1,2 @@
 mod Cited
+pub mod Turn

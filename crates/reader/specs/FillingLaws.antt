@@ -46,8 +46,8 @@ began f s (At p) (At n) v q h e = (p, (refl, h .run .run ∙ ap (λ (k : ℕ). g
 
 -- ---- nothing is read
 
-pub fills-nowhere : {A : Type 0} (f : List ℕ → Res A) (R : A → List Row) (s : List ℕ) (k : ℕ) (d : List ℕ) → Fills f R s No k d d
-fills-nowhere f R s k d = record { keeps = refl; wrote = λ p v r e. absurd (no-at p e) }
+pub fills-no : {A : Type 0} {f : List ℕ → Res A} {R : A → List Row} {s : List ℕ} {k : ℕ} {d o : List ℕ} → length o ≡ length d → Fills f R s No k d o
+fills-no e = record { keeps = e; wrote = λ p v r i. absurd (no-at p i) }
 
 pub fills-bad : {A : Type 0} (f : List ℕ → Res A) (R : A → List Row) (s : List ℕ) (p k : ℕ) (d o : List ℕ) → length o ≡ length d → f (drop p s) ≡ bad → Fills f R s (At p) k d o
 fills-bad f R s p k d o l e =

@@ -2,7 +2,7 @@
 use mathlib.Core.Path.{_≡_, refl, sym, ap, ap₂, _∙_, subst}
 use mathlib.Core.List.{List, [], _∷_, _++_, map, flatMap, map-append}
 use Prim.Native.Nat.{ℕ, suc, _+_, _-_, _*_, _≤_, _<_}
-use lib.Dec.{leb, ltb}
+use lib.Dec.{leb}
 use lib.ListN.{length, drop, length-append}
 use native.Mathlib.Numerals.{add-one}
 use native.Mathlib.Omega.{arith}
@@ -15,25 +15,25 @@ use Rattle.formats.specs.Items.{itemsParse, items-bad}
 use Rattle.formats.specs.Run.{run-map}
 use Rattle.formats.specs.Place.{Parsed}
 use Rattle.formats.specs.declared.Mark.{Mark}
-use Rattle.formats.specs.declared.Mark.the-variants.{At, No}
+use Rattle.formats.specs.declared.Mark.the-variants.{At}
 use Rattle.kinds.specs.declared.Kind.{Kind}
 use Rattle.message.specs.Contents.{Observation, Series, Partner, place}
 use Rattle.message.specs.Bytes.{opening, ending, closing, element, group, supplies, deliveries}
 use Rattle.message.specs.Valid.{lastPosition, monthOf}
 use Rattle.message.specs.Rows.{Row, rowNumbers, numbers, rowsOf, seriesRows}
 use Rattle.message.specs.Group.{spread}
-use Rattle.message.specs.ObservationForm.{observation, observations, plainNumber, period}
-use Rattle.message.specs.SeriesForm.{Volume, volumeBody, ofVolume}
+use Rattle.message.specs.ObservationForm.{observation, observations, period}
+use Rattle.message.specs.SeriesForm.{counted, Volume, volumeBody, ofVolume}
 use Rattle.message.specs.SeriesListForm.{follows, seriesList}
 use Rattle.message.specs.PartnerForm.{partnerForm}
 use Rattle.message.specs.FileForm.{partnersForm}
-use Rattle.reader.specs.Reading.{keep, parsed-no, observing, Passed, observationsOf, observationItem, observationOnto, VolumeRead, volume-parsed, ownParse, own-body, own-read, sharedParse, shared-body, shared-read, Outline, outline}
+use Rattle.reader.specs.Reading.{observing, Passed, observationsOf, observationItem, observationOnto, VolumeRead, volume-parsed, ownParse, own-body, own-read, sharedParse, shared-body, shared-read, Outline, outline}
 use Rattle.reader.specs.ReaderItems.{viewed, view-bad, unview, folded}
 use Rattle.reader.specs.ReaderSeries.{seriesForm, item, onto, placeIn, counting, listForm}
 use Rattle.reader.specs.ReaderPartner.{Head, headParse, numbered, partnerKept, partner-seen}
 use Rattle.reader.specs.ReaderPartners.{partnerItem, partnerOnto, months-folded}
 use Rattle.reader.specs.Filling.{Fills, Stored, rowsOfObservation, rowsOfSeries, rowsOfPartner}
-use Rattle.reader.specs.FillingLaws.{fills-nowhere, fills-same, fills-view, fills-only, fills-bad, fills-within, fills-none, fills-step}
+use Rattle.reader.specs.FillingLaws.{fills-same, fills-view, fills-only, fills-bad, fills-within, fills-none, fills-step}
 
 -- contents as they are
 fills-all : {A : Type 0} {f : List ℕ → Res A} {R : A → List Row} {s : List ℕ} {m : Mark} {k : ℕ} {d o : List ℕ} → Fills f R s m k d o → Fills (mapParse (λ a. a) f) R s m k d o
@@ -73,12 +73,6 @@ module _ (year month : ℕ) where
     unfolding observationsFrom
     observations-fill-none h = fills-none (observationItem year month) (observationOnto year month) (rowsOfObservation partner directions) n i (low, tt) s p k d h
 
-    pub observations-fill-bad : i < n → observing (lastPosition year month) low (drop p s) ≡ bad → Fills (observationsFrom (n - i) low) (flatMap (rowsOfObservation partner directions)) s (At p) k d d
-    unfolding observationsFrom observation
-    observations-fill-bad h e =
-        fills-bad (itemsParse (observationItem year month) (observationOnto year month) (n - i) (low, tt)) (flatMap (rowsOfObservation partner directions)) s p k d d refl
-        (items-bad (observationItem year month) (observationOnto year month) n i (low, tt) (drop p s) h e)
-
     pub observations-fill-step : {q k′ : ℕ} {mid o : List ℕ} (x : Observation) → i < n → observing (lastPosition year month) low (drop p s) ≡ got x (drop q s)
         → Stored (partner, (directions, x)) k d mid k′ → Fills (observationsFrom (n - (i + 1)) (x .position + 1)) (flatMap (rowsOfObservation partner directions)) s (At q) k′ mid o
         → Fills (observationsFrom (n - i) low) (flatMap (rowsOfObservation partner directions)) s (At p) k d o
@@ -92,8 +86,8 @@ module _ (year month : ℕ) where
 
 module _ (s : List ℕ) {m a b c d e f g h : Mark} {x n year month : ℕ} (partner supply : ℕ) {k : ℕ} {before after : List ℕ} where
   pub volume-filled : Parsed (strip (opening "DeliveryDirection")) s m a tt → Parsed (wordsParse deliveries) s a b x
-      → Parsed (strip (closing "DeliveryDirection" ++ element "UnitType" (bytes "KWT") ++ opening "ObservationCounter")) s b c tt → Parsed (plainNumber .parse) s c d n
-      → Parsed (strip (ending "ObservationCounter" ++ opening "TimeSeriesPeriod")) s (keep (ltb 0 n) d) e tt → Parsed (period .parse) s e f (year, month)
+      → Parsed (strip (closing "DeliveryDirection" ++ element "UnitType" (bytes "KWT") ++ opening "ObservationCounter")) s b c tt → Parsed (counted .parse) s c d n
+      → Parsed (strip (ending "ObservationCounter" ++ opening "TimeSeriesPeriod")) s d e tt → Parsed (period .parse) s e f (year, month)
       → Passed (observationsOf year month n) s f g × Fills (observationsOf year month n) (flatMap (rowsOfObservation partner (supply, x))) s f k before after
       → Parsed (strip (closing "TimeSeriesPeriod")) s g h tt
       → VolumeRead s m h x year month n × Fills (volumeBody .parse) (λ v. rowsOfSeries partner (ofVolume supply v)) s m k before after
@@ -193,12 +187,6 @@ partner-fills kind t s m a b c h v i j tag fills =
     fills-view (numbered (λ l. l)) (λ p. flatMap (rowsOfSeries (p .0)) (p .1))
     (fills-within list (mapParse (numbered (λ l. l)) (partnerForm kind (t .0) .parse)) (λ p. flatMap (rowsOfSeries (p .0)) (p .1)) (closing (group kind)) (u .value) (h .0, u .value)
     fills (partner-seen kind (t .0) (λ l. l) s m a b c h (u .value) i same tag) (u .parsed) tag (λ q e. refl))
-
-pub partner-fills-none : (kind : Kind) (seen : ℕ × ℕ) (s : List ℕ) (m : Mark) (h : Head) (k : ℕ) (d : List ℕ) → Parsed (headParse kind) s m No h → Fills (partnerForm kind seen .parse) rowsOfPartner s m k d d
-partner-fills-none kind seen s m h k d i =
-    let list = listForm kind (h .1 .0) (h .1 .1) seen .parse in
-    partner-fills kind (seen, 0) s m No No No h (seen, 0) i (parsed-no (mapParse (folded counting (seen, 0)) list) s (seen, 0)) (parsed-no (strip (closing (group kind))) s tt)
-    (fills-nowhere list (flatMap (rowsOfSeries (h .0))) s k d)
 
 pub next-partner-fills : (kind : Kind) (low : ℕ) (seen : ℕ × ℕ) {R : Partner → List Row} {s : List ℕ} {m : Mark} {k : ℕ} {d o : List ℕ} → Fills (partnerForm kind seen .parse) R s m k d o
     → Fills (partnerItem kind (low, seen) .parse) R s m k d o

@@ -1,4 +1,3 @@
-pub mod Rows
 pub mod Reading
 pub mod ReaderItems
 pub mod Filling
@@ -11,4 +10,14 @@ pub mod FillingParts
 pub mod ReaderPlaces
 pub mod ReaderFile
 pub mod JudgedLaws
+pub mod Turns
+pub mod TurnsLaws
+pub mod Volumes
+pub mod VolumesLaws
+pub mod SeriesTurns
+pub mod SeriesTurnsLaws
+pub mod PartnerTurns
+pub mod PartnerTurnsLaws
+pub mod FileTurns
+pub mod FileTurnsLaws
 pub mod ReaderFacts

@@ -1,14 +1,17 @@
 -- What the reading of a file tells of it, and that this is what the call answers.
 use mathlib.Core.Path.{_≡_, refl, sym, ap, _∙_}
+use mathlib.Core.Bool.{true, false}
 use mathlib.Core.List.{List, _++_}
 use Prim.Native.Nat.{ℕ, _+_, _-_, _*_, _/_, _≤_, _<_}
 use lib.ListN.{length, take}
 use native.Mathlib.Omega.{arith}
+use borrow.Author.Tests.{le-leb}
 use Rattle.formats.specs.Name.{nameByte, span}
 use Rattle.formats.specs.Place.{left}
 use Rattle.formats.specs.declared.Mark.{Mark}
 use Rattle.formats.specs.declared.Mark.the-variants.{At, No}
-use Rattle.kinds.specs.declared.Kind.{Kind}
+use Rattle.cursor.specs.Moves.{standing}
+use Rattle.cursor.specs.MovesLaws.{stands}
 use Rattle.message.specs.declared.FileFacts.{FileFacts}
 use Rattle.message.specs.declared.ReadAnswer.the-variants.{File, Refused}
 use Rattle.message.specs.Bytes.{opening, ending}
@@ -17,62 +20,72 @@ use Rattle.message.specs.Rows.{Row, numbers}
 use Rattle.message.specs.FileLaws.{readMessage}
 use Rattle.message.specs.Calls.{over, afterwards, readVerdict, messageNumbers, ReadCalled}
 use Rattle.message.specs.CallsLaws.{judged, accepted-is}
+use Rattle.reader.specs.declared.file.FileRead.{FileRead}
 use Rattle.reader.specs.Filling.{Fills}
 use Rattle.reader.specs.ReaderFile.{Filed, rowsOfParts}
 use Rattle.reader.specs.ReaderPlaces.{idStart}
 use Rattle.reader.specs.JudgedLaws.{judged-none, judged-left, judged-short, judged-file, parts-read, written-over, id-place, moment-place}
 
--- a place, 0 where there is none
-abbrev pub placeOf : Mark → ℕ
-placeOf (At p) = p
-placeOf No = 0
-
--- of the ID from the mark b to c, which stands behind the byte that ends it, and the moment at d
-unfoldable pub factsRead : Kind → ℕ → (ℕ × ℕ) × ℕ → Mark → Mark → Mark → FileFacts
-factsRead k receiver t b c d =
+-- of the ID from the cursor `id` to `end`, which stands behind the byte that ends it, and the moment
+unfoldable pub factsRead : FileRead → FileFacts
+factsRead r =
     record {
-      kind = k;
-      receiver = receiver;
-      year = t .0 .0;
-      month = t .0 .1;
-      rows = t .1;
-      id = placeOf b;
-      «id_length» = placeOf c - (placeOf b + 1);
-      moment = placeOf d;
+      kind = r .root .kind;
+      receiver = r .receiver;
+      year = r .told .year;
+      month = r .told .month;
+      rows = r .told .rows;
+      id = r .message .id .at;
+      «id_length» = r .message .end .at - (r .message .id .at + 1);
+      moment = r .message .moment .at;
     }
 
-module _ (s : List ℕ) (lent : ℕ) {o : Mark} {k : Kind} {receiver : ℕ} {t : (ℕ × ℕ) × ℕ} {b c d : Mark} (f : Filed s o k receiver t b c d) where
+module _ (s : List ℕ) (lent : ℕ) (r : FileRead) (f : Filed s (standing s (r .to)) (r .root .kind) (r .receiver) ((r .told .year, r .told .month), r .told .rows) (standing s (r .message .id)) (standing s (r .message .end)) (standing s (r .message .moment))) where
   abbrev id : List ℕ
-  id = span nameByte (left s b)
+  id = span nameByte (left s (standing s (r .message .id)))
 
   abbrev moment : List ℕ
-  moment = take 29 (left s d)
+  moment = take 29 (left s (standing s (r .message .moment)))
+
+  abbrev tally : (ℕ × ℕ) × ℕ
+  tally = ((r .told .year, r .told .month), r .told .rows)
 
   abbrev parts : Parts
-  parts = (k, (id, (moment, (receiver, (f .count, f .partners)))))
+  parts = (r .root .kind, (id, (moment, (r .receiver, (f .count, f .partners)))))
 
   -- 13: no file, or bytes behind it
-  pub read-none : o ≡ No → Refused 13 0 ≡ judged s lent
+  read-none : standing s (r .to) ≡ No → Refused 13 0 ≡ judged s lent
   read-none e = judged-none s lent parts (rw e at (f .parsed))
 
-  pub read-left : (q : ℕ) → o ≡ At q → (q ≡ length s → ⊥) → Refused 13 0 ≡ judged s lent
-  read-left q e n = judged-left s lent parts q (rw e at (f .parsed)) n
+  pub read-lost : r .to .good ≡ false → Refused 13 0 ≡ judged s lent
+  read-lost g = read-none (rw g)
 
-  -- 10: no room for its rows
-  pub read-short : (q : ℕ) → o ≡ At q → q ≡ length s → lent / 6 < t .1 → Refused 10 0 ≡ judged s lent
-  read-short q e all l = judged-short s q k id moment receiver (f .count) (f .partners) (rw e at (f .parsed)) all lent t (f .is q e) (omega arith)
+  pub read-left : (r .to .at ≡ length s → ⊥) → Refused 13 0 ≡ judged s lent
+  read-left n = go (standing s (r .to)) refl
+    where
+      go : (m : Mark) → standing s (r .to) ≡ m → Refused 13 0 ≡ judged s lent
+      go No e = read-none e
+      go (At q) e = judged-left s lent parts q (rw e at (f .parsed)) (λ i. n (stands s (r .to) q e ∙ i))
 
-  -- a file
-  pub read-file : (q : ℕ) → o ≡ At q → q ≡ length s → t .1 ≤ lent / 6 → File (factsRead k receiver t b c d) ≡ judged s lent
-  unfolding factsRead
-  read-file q e all l =
-      let h = rw e at (f .parsed) in
-      let p = f .places q e in
-      let start : placeOf b ≡ idStart k = ap placeOf (p .start) in
-      let end : placeOf c ≡ idStart k + length id + 1 = ap placeOf (p .end) in
-      let at : placeOf d ≡ idStart k + length id + 1 + length (ending "TransactionID" ++ opening "MessageCreateDateTime") = ap placeOf (p .moment) in
-      judged-file s q k id moment receiver (f .count) (f .partners) h all lent t (f .is q e)
-      (placeOf b) (placeOf c - (placeOf b + 1)) (placeOf d) (start ∙ id-place k) (omega arith) (omega (arith, id-place k, moment-place k id)) (omega arith)
+  module _ (good : r .to .good ≡ true) (all : r .to .at ≡ length s) where
+    there : standing s (r .to) ≡ At (length s)
+    there = rw (good, all, le-leb (length s) (length s) (omega arith))
+
+    -- 10: no room for its rows
+    pub read-short : lent / 6 < r .told .rows → Refused 10 0 ≡ judged s lent
+    read-short l = judged-short s (length s) (r .root .kind) id moment (r .receiver) (f .count) (f .partners) (rw there at (f .parsed)) refl lent tally (f .is (length s) there) (omega arith)
+
+    -- a file
+    pub read-file : r .told .rows ≤ lent / 6 → File (factsRead r) ≡ judged s lent
+    unfolding factsRead
+    read-file l =
+        let k = r .root .kind in
+        let p = f .places (length s) there in
+        let start = stands s (r .message .id) (idStart k) (p .start) in
+        let end = stands s (r .message .end) (idStart k + length id + 1) (p .end) in
+        let at = stands s (r .message .moment) (idStart k + length id + 1 + length (ending "TransactionID" ++ opening "MessageCreateDateTime")) (p .moment) in
+        judged-file s (length s) k id moment (r .receiver) (f .count) (f .partners) (rw there at (f .parsed)) refl lent tally (f .is (length s) there)
+        (r .message .id .at) (r .message .end .at - (r .message .id .at + 1)) (r .message .moment .at) (start ∙ id-place k) (omega (arith, start, end)) (omega (arith, at, id-place k, moment-place k id)) (omega arith)
 
 -- ---- the rows, by the second reading
 

@@ -1,9 +1,8 @@
 -- How the judge reads a partner: its head, its series, its end.
-use mathlib.Core.Path.{_≡_, refl, sym, ap}
+use mathlib.Core.Path.{_≡_, refl, sym}
 use mathlib.Core.Bool.{Bool, true, false}
 use mathlib.Core.List.{List, [], _++_}
-use Prim.Native.Nat.{ℕ, _≤_}
-use lib.Dec.{ltb}
+use Prim.Native.Nat.{ℕ}
 use lib.ListN.{drop}
 use native.Mathlib.Omega.{arith}
 use Rattle.formats.specs.Format.{Res, got, bad, Format}
@@ -21,9 +20,8 @@ use Rattle.message.specs.Contents.{Series, Partner}
 use Rattle.message.specs.Bytes.{opening, ending, closing, group, partner, digits, supplies}
 use Rattle.message.specs.SeriesForm.{counted, apart-supplies}
 use Rattle.message.specs.SeriesListForm.{seriesList}
-use Rattle.message.specs.ObservationForm.{plainNumber}
 use Rattle.message.specs.PartnerForm.{ownPartner, ownPartnerBody, sharedPartner, sharedPartnerBody, partnerForm}
-use Rattle.reader.specs.Reading.{keep, parsed-ok, parsed-no, counted-parsed}
+use Rattle.cursor.specs.Moves.{keep}
 use Rattle.reader.specs.ReaderItems.{run-same, viewed, folded, read-long}
 use Rattle.reader.specs.ReaderSeries.{seriesForm, counting, listForm, Room}
 
@@ -44,10 +42,9 @@ room-on F s (At n) (At q) v rows w h p = omega (arith, h, read-long F s n q v w 
 unfoldable pub directionCounter : Format ℕ
 directionCounter = post counted (ending "DirectionCounter")
 
-pub counter-parsed : (s : List ℕ) (m a b : Mark) (n : ℕ) → Parsed (plainNumber .parse) s m a n → Parsed (strip (ending "DirectionCounter")) s (keep (ltb 0 n) a) b tt
-    → Parsed (directionCounter .parse) s m b n
+pub counter-parsed : (s : List ℕ) (m a b : Mark) (n : ℕ) → Parsed (counted .parse) s m a n → Parsed (strip (ending "DirectionCounter")) s a b tt → Parsed (directionCounter .parse) s m b n
 unfolding directionCounter
-counter-parsed s m a b n h i = let one = counted-parsed s m a n h in record { run = run-post _ (one .run) (i .run); within = i .within }
+counter-parsed s m a b n h i = record { run = run-post _ (h .run) (i .run); within = i .within }
 
 -- ---- a partner's head: number, supply direction (0 where each series has its own), how many series follow
 
@@ -186,31 +183,9 @@ head-room Toe01 s m r h rows w i p = room-view (companyHead Toe01) ofCompany s m
 head-room Toe02 s m r h rows w i p = room-view (companyHead Toe02) ofCompany s m r h rows w i p
 head-room Toe03 s m r h rows w i p = room-on accessForm s m r h rows w i p
 
-company-supply : (k : Kind) (s : List ℕ) (m : Mark) (q : ℕ) (h : Head) → Parsed (mapParse ofCompany (companyHead k .parse)) s m (At q) h → h .1 .0 ≤ 1
-company-supply k s No q h p = absurd (got-bad (sym (p .run .run)))
-company-supply k s (At n) q h p =
-    let a = viewed ofCompany (companyHead k .parse) (drop n s) h (drop q s) (p .run .run) in
-    omega (arith, ap (λ (v : Head). v .1 .0) (a .1 .1))
-
-access-supply : (h : Head) → accessForm .Ok h → h .1 .0 ≤ 1
-unfolding accessForm supplies
-access-supply h ok = omega (arith, ok .1 .0)
-
-pub head-supply : (k : Kind) (s : List ℕ) (m : Mark) (q : ℕ) (h : Head) → Parsed (headParse k) s m (At q) h → h .1 .0 ≤ 1
-unfolding headParse
-head-supply Toe01 s m q h p = company-supply Toe01 s m q h p
-head-supply Toe02 s m q h p = company-supply Toe02 s m q h p
-head-supply Toe03 s m q h p = access-supply h (parsed-ok accessForm s m q h p)
-
 pub room-keep : (t : Bool) (m : Mark) (rows : ℕ) → Room m rows → Room (keep t m) rows
 room-keep true m rows h = h
 room-keep false m rows h = tt
-
--- where there is no head there is no partner
-pub partner-none : (k : Kind) (t : (ℕ × ℕ) × ℕ) (s : List ℕ) (m : Mark) (h : Head) (v : (ℕ × ℕ) × ℕ) → Parsed (headParse k) s m No h
-    → Parsed (mapParse (partnerKept t) (partnerForm k (t .0) .parse)) s m No (h .0, v)
-partner-none k t s m h v i =
-    partner-read k t s m No No No h v i (parsed-no (mapParse (folded counting t) (listForm k (h .1 .0) (h .1 .1) (t .0) .parse)) s v) (parsed-no (strip (closing (group k))) s tt)
 
 pub of-company : (before behind s : List ℕ) (m r : Mark) (number count : ℕ) → Parsed (companyForm before behind .parse) s m r (number, count)
     → Parsed (mapParse ofCompany (companyForm before behind .parse)) s m r (number, (0, count))

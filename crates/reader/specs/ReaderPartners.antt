@@ -1,32 +1,25 @@
 -- How the judge reads the partners one after the other.
-use mathlib.Core.Path.{_≡_, refl, sym, ap, _∙_, subst}
+use mathlib.Core.Path.{_≡_, refl, sym, ap, _∙_}
 use mathlib.Core.Bool.{Bool, true, false}
 use mathlib.Core.List.{List, [], _∷_, map}
-use Prim.Native.Nat.{ℕ, suc, _+_, _-_, _^_, _≤_, _<_}
+use Prim.Native.Nat.{ℕ, suc, _+_, _-_, _≤_, _<_}
 use lib.Dec.{leb}
-use lib.ListN.{length, drop}
 use native.Mathlib.Numerals.{add-one}
-use native.Mathlib.Omega.{arith}
 use Rattle.formats.specs.Format.{Res, got, bad, Format, bind}
-use Rattle.formats.specs.FormatLaws.{sound-of}
 use Rattle.formats.specs.Combine.{mapParse}
 use Rattle.formats.specs.Items.{itemsParse}
 use Rattle.formats.specs.Rising.{fromLow, rise}
 use Rattle.formats.specs.Run.{run-only, run-fail}
 use Rattle.formats.specs.Place.{Parsed}
-use Rattle.formats.specs.PlaceLaws.{parsed, not-there}
 use Rattle.formats.specs.declared.Mark.{Mark}
-use Rattle.formats.specs.declared.Mark.the-variants.{At, No}
 use Rattle.kinds.specs.declared.Kind.{Kind}
-use Rattle.kinds.specs.declared.Kind.the-variants.{Toe01, Toe02, Toe03}
 use Rattle.message.specs.Contents.{Series, Partner, number}
-use Rattle.message.specs.Bytes.{digits}
 use Rattle.message.specs.Valid.{monthOf}
 use Rattle.message.specs.SeriesListForm.{after}
-use Rattle.message.specs.PartnerForm.{partnerForm, partner-to}
+use Rattle.message.specs.PartnerForm.{partnerForm}
 use Rattle.message.specs.Months.{nextMonths}
 use Rattle.message.specs.FileForm.{partnersForm}
-use Rattle.reader.specs.Reading.{keep}
+use Rattle.cursor.specs.Moves.{keep}
 use Rattle.reader.specs.ReaderItems.{run-same, viewed, view-bad, view-only, folded, foldParse, fold-end, fold-bad, fold-step}
 use Rattle.reader.specs.ReaderSeries.{counting}
 use Rattle.reader.specs.ReaderPartner.{partnerKept}
@@ -48,20 +41,6 @@ next-partner k low t s m r v h = go (leb low (v .0)) refl
     go true e = record { run = run-same (λ q. view-only (partnerKept t) (partnerForm k (t .0) .parse) q (λ v. leb low (v .0))) (run-only (λ v. leb low (v .0)) (h .run) e); within = h .within }
     go false e = record { run = run-same (λ q. view-only (partnerKept t) (partnerForm k (t .0) .parse) q (λ v. leb low (v .0))) (run-fail (λ v. leb low (v .0)) (h .run) e); within = tt }
 
--- its number has 18 digits at most
-number-fits : (k : Kind) (n : ℕ) → n < 10 ^ digits k → n < 1000000000000000000
-unfolding digits
-number-fits Toe01 n h = omega (arith, h)
-number-fits Toe02 n h = omega (arith, h)
-number-fits Toe03 n h = omega (arith, h)
-
-pub partner-number : (k : Kind) (low : ℕ) (t : (ℕ × ℕ) × ℕ) (s : List ℕ) (p q : ℕ) (v : ℕ × ((ℕ × ℕ) × ℕ))
-    → Parsed (mapParse (partnerKept t) (partnerItem k (low, t .0) .parse)) s (At p) (At q) v → v .0 < 1000000000000000000
-partner-number k low t s p q v h =
-    let a = viewed (partnerKept t) (partnerItem k (low, t .0) .parse) (drop p s) v (drop q s) (h .run .run) in
-    let ok = partner-to k (t .0) (a .0) (sound-of (partnerItem k (low, t .0)) (drop p s) (a .0) (drop q s) (a .1 .0) .1 .0) in
-    subst (λ (n : ℕ). n < 1000000000000000000) (ap (λ (w : ℕ × ((ℕ × ℕ) × ℕ)). w .0) (a .1 .1)) (number-fits k (a .0 .number) (ok .is .number))
-
 -- ---- so many partners
 
 -- month and number of rows, one partner on
@@ -78,7 +57,7 @@ module _ (k : Kind) where
   unfoldable pub partnersKept : ℕ → ℕ → (ℕ × ℕ) × ℕ → List ℕ → Res ((ℕ × ℕ) × ℕ)
   partnersKept n low t s = foldParse (partnerItem k) (partnerOnto k) adding n (low, t .0) t s
 
-  partners-start : (n : ℕ) (s : List ℕ) → mapParse (folded adding ((0, 0), 0)) (partnersForm k n .parse) s ≡ partnersKept n 0 ((0, 0), 0) s
+  pub partners-start : (n : ℕ) (s : List ℕ) → mapParse (folded adding ((0, 0), 0)) (partnersForm k n .parse) s ≡ partnersKept n 0 ((0, 0), 0) s
   unfolding partnersKept partnersForm foldParse mapParse
   partners-start n s = go (itemsParse (partnerItem k) (partnerOnto k) n (0, (0, 0)) s)
     where
@@ -105,11 +84,3 @@ module _ (k : Kind) where
         ∙ ap (λ (q : ℕ × ℕ). foldParse (partnerItem k) (partnerOnto k) adding (n - (i + 1)) (suc (p .number), q) (folded counting t (p .series)) r) (months-folded t (p .series))
         ∙ ap (λ (w : ℕ × ((ℕ × ℕ) × ℕ)). foldParse (partnerItem k) (partnerOnto k) adding (n - (i + 1)) (suc (w .0), w .1 .0) (w .1) r) (a .1 .1)
         ∙ ap (λ (l : ℕ). foldParse (partnerItem k) (partnerOnto k) adding (n - (i + 1)) (l, v .1 .0) (v .1) r) (sym (add-one (v .0)))
-
-  module _ (n : ℕ) (s : List ℕ) (start : ℕ) where
-    pub partners-done : (q : ℕ) (v : (ℕ × ℕ) × ℕ) → partnersKept n 0 ((0, 0), 0) (drop start s) ≡ got v (drop q s) → q ≤ length s
-        → Parsed (mapParse (folded adding ((0, 0), 0)) (partnersForm k n .parse)) s (At start) (At q) v
-    partners-done q v e h = parsed (mapParse (folded adding ((0, 0), 0)) (partnersForm k n .parse)) s start v q (partners-start n (drop start s) ∙ e) h
-
-    pub partners-none : (v : (ℕ × ℕ) × ℕ) → partnersKept n 0 ((0, 0), 0) (drop start s) ≡ bad → Parsed (mapParse (folded adding ((0, 0), 0)) (partnersForm k n .parse)) s (At start) No v
-    partners-none v e = not-there (mapParse (folded adding ((0, 0), 0)) (partnersForm k n .parse)) s start v (partners-start n (drop start s) ∙ e)

@@ -17,7 +17,6 @@ use Rattle.formats.specs.Items.{itemsParse}
 use Rattle.formats.specs.Rising.{fromLow, rise}
 use Rattle.formats.specs.Run.{run-only, run-fail, run-none}
 use Rattle.formats.specs.Place.{Parsed}
-use Rattle.formats.specs.PlaceLaws.{parsed, not-there}
 use Rattle.formats.specs.declared.Mark.{Mark}
 use Rattle.formats.specs.declared.Mark.the-variants.{At, No}
 use Rattle.kinds.specs.declared.Kind.{Kind}
@@ -28,7 +27,8 @@ use Rattle.message.specs.Valid.{monthOf}
 use Rattle.message.specs.SeriesForm.{ownSeries, sharedSeries}
 use Rattle.message.specs.SeriesListForm.{follows, following, seriesList}
 use Rattle.message.specs.PartnerForm.{own-01, own-02}
-use Rattle.reader.specs.Reading.{keep, Outline, outline}
+use Rattle.cursor.specs.Moves.{keep}
+use Rattle.reader.specs.Reading.{Outline, outline}
 use Rattle.reader.specs.ReaderItems.{run-same, only-same, viewed, view-bad, view-only, folded, foldParse, fold-end, fold-bad, fold-step, longer, longer-both, flat-long, read-long}
 
 -- ---- a series of any kind
@@ -182,18 +182,3 @@ module _ (k : Kind) (x : ℕ) where
       let e = ap length (series-bytes k x (a .0)) in
       let f = ap (λ (v : Outline). v .1 .1) (a .1 .1) in
       omega (arith, l, e, f, series-long k (a .0))
-
-  pub item-directions : (low : ℕ) (seen : ℕ × ℕ) (s : List ℕ) (p q : ℕ) (o : Outline) → x ≤ 1
-      → Parsed (mapParse outline (item k x (low, seen) .parse)) s (At p) (At q) o → (o .0 .0 ≤ 1) × (o .0 .1 ≤ 1)
-  item-directions low seen s p q o h r =
-      let a = viewed outline (item k x (low, seen) .parse) (drop p s) o (drop q s) (r .run .run) in
-      let ok = series-ok k x (a .0) h (sound-of (item k x (low, seen)) (drop p s) (a .0) (drop q s) (a .1 .0) .1 .0 .0) in
-      subst (λ (v : Outline). (v .0 .0 ≤ 1) × (v .0 .1 ≤ 1)) (a .1 .1) ok
-
-  module _ (n : ℕ) (t : (ℕ × ℕ) × ℕ) (s : List ℕ) (start : ℕ) where
-    pub list-done : (q : ℕ) (v : (ℕ × ℕ) × ℕ) → listKept n 0 t (drop start s) ≡ got v (drop q s) → q ≤ length s
-        → Parsed (mapParse (folded counting t) (listForm k x n (t .0) .parse)) s (At start) (At q) v
-    list-done q v e h = parsed (mapParse (folded counting t) (listForm k x n (t .0) .parse)) s start v q (list-start n t (drop start s) ∙ e) h
-
-    pub list-none : (v : (ℕ × ℕ) × ℕ) → listKept n 0 t (drop start s) ≡ bad → Parsed (mapParse (folded counting t) (listForm k x n (t .0) .parse)) s (At start) No v
-    list-none v e = not-there (mapParse (folded counting t) (listForm k x n (t .0) .parse)) s start v (list-start n t (drop start s) ∙ e)

@@ -3,7 +3,7 @@ use mathlib.Core.Path.{_≡_, refl, sym, ap, _∙_, subst}
 use mathlib.Core.Bool.{Bool, true, false, _&&_}
 use mathlib.Core.List.{List, _++_, append-assoc}
 use Prim.Native.Nat.{ℕ, _+_, _-_, _*_, _≤_, _<_}
-use lib.Dec.{leb, ltb}
+use lib.Dec.{leb}
 use lib.ListN.{length, take, drop, length-drop}
 use lib.Seq.{take-all}
 use native.Mathlib.Numerals.{add-one}
@@ -21,6 +21,7 @@ use Rattle.formats.specs.Place.{placed, Within, Parsed}
 use Rattle.formats.specs.declared.Mark.{Mark}
 use Rattle.formats.specs.declared.Mark.the-variants.{At, No}
 use Rattle.text.specs.Ascii.{bytes}
+use Rattle.cursor.specs.Moves.{keep}
 use Rattle.moments.specs.declared.Moment.{Moment}
 use Rattle.moments.specs.Moments.{momentBytes, periodStart, periodEnd}
 use Rattle.moments.specs.MomentsLaws.{length-moment}
@@ -29,11 +30,6 @@ use Rattle.message.specs.Bytes.{opening, ending, closing, element, supplies, de
 use Rattle.message.specs.Valid.{lastPosition}
 use Rattle.message.specs.ObservationForm.{isPeriod, monthBody, behindMonth, period, observation, observations, plainNumber, quantity, observationBody, observable, observed}
 use Rattle.message.specs.SeriesForm.{position-fits, counted, Volume, volumeBody, ofVolume, volumeOf, volume-back, ownBody, sharedBody}
-
--- a mark where a test holds
-abbrev pub keep : Bool → Mark → Mark
-keep true m = m
-keep false m = No
 
 -- an observation of the month, from position low on
 abbrev pub inOrder : ℕ → ℕ → ℕ × ℕ → Bool
@@ -142,11 +138,6 @@ module _ (year month : ℕ) where
     unfolding observationsEnd observation
     end-step o r h e = ends-step observationItem observationOnto n i (low, tt) s o r h e ∙ ap (λ (k : ℕ). ends (itemsParse observationItem observationOnto (n - (i + 1)) (k, tt) r)) (sym (add-one (o .position)))
 
-  -- what is read lies in the month
-  pub position-most : (low : ℕ) (s : List ℕ) (o : Observation) (r : List ℕ) → observing (lastPosition year month) low s ≡ got o r → o .position ≤ lastPosition year month
-  unfolding observation
-  position-most low s o r e = sound-of (observationItem (low, tt)) s o r e .1 .0 .within
-
 -- ---- what stands behind a period's month
 
 behind-join : (t c o e d r : List ℕ) → t ++ (c ++ o) ++ e ++ (d ++ r) ≡ t ++ c ++ (o ++ e ++ d) ++ r
@@ -203,24 +194,16 @@ pub record VolumeRead (s : List ℕ) (m r : Mark) (delivery year month rows : �
   pub observations : List Observation
   pub parsed : Parsed (volumeBody .parse) s m r (delivery, (rows, ((year, month), observations)))
 
-pub counted-parsed : (s : List ℕ) (m r : Mark) (n : ℕ) → Parsed (plainNumber .parse) s m r n → Parsed (counted .parse) s m (keep (ltb 0 n) r) n
-counted-parsed s m r n h = go (ltb 0 n) refl
-  where
-    go : (t : Bool) → ltb 0 n ≡ t → Parsed (counted .parse) s m (keep t r) n
-    go true e = record { run = run-only (λ k. ltb 0 k) (h .run) e; within = h .within }
-    go false e = record { run = run-fail (λ k. ltb 0 k) (h .run) e; within = tt }
-
 module _ (s : List ℕ) {m a b c d e f g h : Mark} {x n year month : ℕ} where
   pub volume-parsed : Parsed (strip (opening "DeliveryDirection")) s m a tt → Parsed (wordsParse deliveries) s a b x
-      → Parsed (strip (closing "DeliveryDirection" ++ element "UnitType" (bytes "KWT") ++ opening "ObservationCounter")) s b c tt → Parsed (plainNumber .parse) s c d n
-      → Parsed (strip (ending "ObservationCounter" ++ opening "TimeSeriesPeriod")) s (keep (ltb 0 n) d) e tt → Parsed (period .parse) s e f (year, month)
+      → Parsed (strip (closing "DeliveryDirection" ++ element "UnitType" (bytes "KWT") ++ opening "ObservationCounter")) s b c tt → Parsed (counted .parse) s c d n
+      → Parsed (strip (ending "ObservationCounter" ++ opening "TimeSeriesPeriod")) s d e tt → Parsed (period .parse) s e f (year, month)
       → (q : Passed (observationsOf year month n) s f g) → Parsed (strip (closing "TimeSeriesPeriod")) s g h tt → Parsed (volumeBody .parse) s m h (x, (n, ((year, month), q .ran .value)))
   unfolding volumeBody
   volume-parsed i j k l o p q r =
-      let one = counted-parsed s c d n l in
       record {
         run = run-pre (opening "DeliveryDirection") (i .run)
-            (run-seq _ (run-post _ (j .run) (k .run)) (run-seq _ (run-post _ (one .run) (o .run)) (run-seq _ (p .run) (run-post _ (q .ran .ran) (r .run)))));
+            (run-seq _ (run-post _ (j .run) (k .run)) (run-seq _ (run-post _ (l .run) (o .run)) (run-seq _ (p .run) (run-post _ (q .ran .ran) (r .run)))));
         within = r .within;
       }
 

@@ -1,27 +1,17 @@
 // The reader of a file.
 mod elements;
 mod file;
-mod rows;
+mod partners;
+mod series;
 
 use crate::file::FileRead;
-use formats::Mark;
 use message::FileFacts;
 use message::ReadAnswer;
 ghost use mathlib.Core.Path.{_≡_};
 ghost use Prim.Native.Nat.{_+_, _-_};
 ghost use Rattle.message.specs.FileLaws.{readMessage};
 ghost use Rattle.message.specs.Calls.{readVerdict, readSays, ReadCalled};
-ghost use Rattle.reader.specs.ReaderFacts.{placeOf, factsRead};
-
-// A place, or 0 where there is none.
-fn place(m: Mark) -> usize
-    ensures { λ r. ⌜ r ≡ placeOf m ⌝ }
-{
-    let Mark::At(p) = m else {
-        return 0;
-    };
-    p
-}
+ghost use Rattle.reader.specs.ReaderFacts.{factsRead};
 
 // The number of places between two.
 fn between(a: usize, b: usize) -> usize
@@ -35,25 +25,26 @@ fn between(a: usize, b: usize) -> usize
 
 // What the reading of a file tells of it.
 fn facts(j: FileRead) -> FileFacts
-    ensures { λ r. ⌜ r ≡ factsRead (j .kind) (j .receiver) ((j .year, j .month), j .rows) (j .id) (j .«id_end») (j .moment) ⌝ }
+    ensures { λ r. ⌜ r ≡ factsRead j ⌝ }
 {
-    let kind = j.kind;
-    let a = j.id;
-    let b = j.id_end;
-    let m = j.moment;
-    let id = place(a);
-    let id_length = between(id, place(b));
-    let moment = place(m);
-    let rows = j.rows as usize;
+    let root = j.root;
+    let told = j.told;
+    let m = j.message;
+    let kind = root.kind;
+    let id = m.id;
+    let end = m.end;
+    let moment = m.moment;
+    let id_length = between(id.at, end.at);
+    let rows = told.rows as usize;
     FileFacts {
         kind,
         receiver: j.receiver,
-        year: j.year,
-        month: j.month,
+        year: told.year,
+        month: told.month,
         rows,
-        id,
+        id: id.at,
         id_length,
-        moment,
+        moment: moment.at,
     }
 }
 
@@ -63,14 +54,15 @@ pub fn judge(file: &[u8], lent: usize) -> ReadAnswer
 {
     let mut none = [0u64; 1];
     let j = crate::file::file_read(file, &mut none);
-    let next = j.next;
-    let Mark::At(q) = next else {
-        return ReadAnswer::Refused(13, 0);
-    };
-    if q != file.len() {
+    let to = j.to;
+    if !to.good {
         return ReadAnswer::Refused(13, 0);
     }
-    let count = j.rows as usize;
+    if to.at != file.len() {
+        return ReadAnswer::Refused(13, 0);
+    }
+    let told = j.told;
+    let count = told.rows as usize;
     if lent / 6 < count {
         return ReadAnswer::Refused(10, 0);
     }
