@@ -7,7 +7,7 @@ use Prim.Native.Nat.{ℕ, _^_, _<_}
 use native.Mathlib.Omega.{arith}
 use lib.Dec.{eqb, leb, ltb}
 use borrow.Author.Tests.{eqb-true, eq-eqb, ltb-true, ltb-false, not-false}
-use Rattle.integers.specs.Tests.{both}
+use Rattle.integers.specs.Tests.{both, neither}
 use Rattle.integers.specs.First.{anyBelow, any-of}
 use Rattle.integers.specs.Ranges.{range}
 use Rattle.book.specs.Calendars.{daysOf}
@@ -17,7 +17,7 @@ use Rattle.book.specs.Register.{pointAt, registerRow, deliveryIn, accessIn, sup
 use Rattle.book.specs.Judged.{refusalOf}
 use Rattle.book.specs.Book.{bookOf}
 use Rattle.book.specs.declared.Point.{Point}
-use Rattle.volumes.specs.SoundLaws.{neither, passes, first-none, mem-range}
+use Rattle.volumes.specs.SoundLaws.{passes, first-none, mem-range}
 use Rattle.volumes.specs.BookLaws.{points-length}
 use Rattle.reports.specs.Registered.{Numbered, Registered}
 

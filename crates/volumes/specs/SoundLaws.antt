@@ -12,7 +12,7 @@ use lib.IntN.{ℤ, pos, negℤ}
 use lib.ListN.{length, length-take, length-map, drop-of-length-le, List·getD-eq-default}
 use lib.Signed.{leZ}
 use borrow.Author.Tests.{eqb-true, eqb-false, leb-true, ltb-true, ltb-false, not-true, not-false}
-use Rattle.integers.specs.Tests.{both}
+use Rattle.integers.specs.Tests.{both, neither}
 use Rattle.integers.specs.First.{first, anyBelow, any-of}
 use Rattle.integers.specs.Ranges.{range, length-range}
 use Rattle.integers.specs.Z.{up, dn, one-0, le-yes}
@@ -47,10 +47,6 @@ not-refused false number later e = absurd (never number e)
 not-found : (found : Option ℕ) (number : ℕ) (later : Option Refusal) → unlessFound found number later ≡ none → (found ≡ none) × (later ≡ none)
 not-found none number later e = (refl, e)
 not-found (some i) number later e = absurd (never number e)
-
-pub neither : (a b : Bool) → (a || b) ≡ false → (a ≡ false) × (b ≡ false)
-neither false b e = (refl, e)
-neither true b e = absurd (false≢true (sym e))
 
 -- a search that found nothing: the test names none
 pub first-none : (test : ℕ → Bool) (a n : ℕ) → first test a n ≡ none → (i : ℕ) → a ≤ i → i < a + n → test i ≡ false
