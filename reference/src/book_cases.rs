@@ -18,6 +18,8 @@ pub fn cases() -> Vec<Case> {
     cases.register();
     cases.register_order();
     cases.readings();
+    cases.reading_places();
+    cases.reading_pairs();
     cases.engagements();
     cases.engagement_order();
     cases.large_books();
@@ -452,6 +454,62 @@ impl Cases {
             book.readings[1][96 * 29 - 1] = -limit - 1;
         });
         self.changed("a day of missing readings", &small(1), |book| book.readings[0][96..192].fill(MISSING));
+    }
+
+    /// The book with readings changed, which are named by their places in section 4.
+    fn placed(&mut self, what: impl Into<String>, book: &Book, placed: &[(usize, i32)]) {
+        let each = 96 * book.days();
+        self.changed(what, book, |book| {
+            for &(place, watts) in placed {
+                book.readings[place / each][place % each] = watts;
+            }
+        });
+    }
+
+    /// Readings out of range about the edges of blocks of 1,024, of points and of section 4, in books of 2,784 readings, the
+    /// fewest, of 3,072, which are three blocks, of 5,568, where a block has readings of two points, and of 6,144.
+    fn reading_places(&mut self) {
+        let bad = WATT_LIMIT as i32 + 1;
+        for (month, points) in [(2, 1), (8, 1), (2, 2), (8, 2)] {
+            let book = Book::plain(2021, month, 1, points);
+            let each = 96 * book.days();
+            let count = each * points as usize;
+            let rest = count / 1024 * 1024;
+            let edges = [1, 1024, 1025, 2048, each, each + 1, rest, rest + 1, count - 1, count];
+            let mut places: Vec<usize> = edges.into_iter().flat_map(|edge| [edge - 1, edge]).collect();
+            places.retain(|&place| place < count);
+            places.sort();
+            places.dedup();
+            for &place in &places {
+                let what = format!("{count} readings, {place} out of range");
+                self.placed(what.clone(), &book, &[(place, bad)]);
+                self.placed(what + " below", &book, &[(place, -bad)]);
+            }
+            let missing: Vec<_> = places.iter().map(|&place| (place, MISSING)).collect();
+            self.placed(format!("{count} readings, {places:?} missing"), &book, &missing);
+        }
+    }
+
+    /// Two readings out of range, and one beside missing ones, in a book of 5,568 readings of two points.
+    fn reading_pairs(&mut self) {
+        let (book, bad) = (small(2), WATT_LIMIT as i32 + 1);
+        let pairs = [
+            ("in one block, of one point", 1030, 2040),
+            ("in one block, of two points", 2783, 2784),
+            ("at both ends of a block, of two points", 2048, 3071),
+            ("in two blocks, of one point", 1023, 1024),
+            ("in two blocks, of two points", 2047, 3072),
+            ("in the first block and behind the last", 0, 5567),
+            ("in the last block and behind it", 5119, 5120),
+            ("behind the last block", 5120, 5567),
+        ];
+        for (what, first, second) in pairs {
+            self.placed(format!("two readings out of range {what}"), &book, &[(first, bad), (second, -bad)]);
+        }
+        for place in [1, 1023, 1024, 2783, 2784, 5119, 5120, 5566] {
+            let what = format!("reading {place} out of range, those beside it missing");
+            self.placed(what, &book, &[(place - 1, MISSING), (place, bad), (place + 1, MISSING)]);
+        }
     }
 
     /// A change of one engagement of a book of 3 points, L 3, N 31.
