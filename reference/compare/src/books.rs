@@ -79,6 +79,16 @@ fn other(random: &mut Random, byte: u8) -> u8 {
     }
 }
 
+/// One or two readings at the edges of their range, or missing.
+fn change_readings(random: &mut Random, bytes: &mut [u8], (start, length): (i64, i64)) {
+    for _ in 0..random.range(1, 2) {
+        let place = (start + 4 * random.range(0, length / 4 - 1)) as usize;
+        let limit = 1_000_000_000;
+        let watts = random.pick(&[limit, limit + 1, -limit, -limit - 1, i32::MAX, MISSING + 1, MISSING]);
+        bytes[place..place + 4].copy_from_slice(&watts.to_le_bytes());
+    }
+}
+
 /// The bytes of a book with some of them changed, cut off or added.
 pub fn damaged_book(random: &mut Random, book: &Book) -> Vec<u8> {
     let mut bytes = book.encode();
@@ -97,6 +107,9 @@ pub fn damaged_book(random: &mut Random, book: &Book) -> Vec<u8> {
             let place = random.range(start, start + length - 1) as usize;
             bytes[place] = other(random, bytes[place]);
         }
+    }
+    if random.once_in(6) {
+        change_readings(random, &mut bytes, section(3));
     }
     match random.range(0, 19) {
         0 => bytes.truncate(random.range(0, bytes.len() as i64) as usize),

@@ -6,6 +6,7 @@ mod calls;
 mod lent;
 mod pool;
 mod quick;
+mod reading;
 mod timing;
 
 use std::process::ExitCode;
@@ -14,6 +15,7 @@ const USAGE: &str =
     "usage: compare agree [SEED [ROUNDS]]  all five calls on random and damaged input; 1 and 2000 if not given
        compare timing                 settling against one in Rust that keeps each point's day sums
        compare files                  a month's whole set of files of a pool of 180 points
+       compare reading                reading and writing a large file against libxml2
 see ../README.md
 ";
 
@@ -35,6 +37,7 @@ fn run(words: &[&str]) -> Option<()> {
         ["agree", seed, rounds] => agree::run(seed.parse().ok()?, rounds.parse().ok()?),
         ["timing"] => timing::run(),
         ["files"] => pool::run(),
+        ["reading"] => reading::run(),
         _ => return None,
     }
     Some(())

@@ -6,19 +6,43 @@ use reference::random::Random;
 use reference::refusal::Refusal;
 use std::time::Instant;
 
-/// A book of 64 days whose points have engagements of method 2, of 48 quarter-hours, X 10 and Y 20.
-pub fn month(seed: u64, points: u16, engagements: u16) -> Book {
+/// What a timed book has: engagements of one method, count and X and Y, on 64 days.
+#[derive(Clone, Copy)]
+struct Shape {
+    points: u16,
+    engagements: u16,
+    method: u8,
+    count: u8,
+}
+
+/// The largest settling.
+const LARGEST: Shape = Shape { points: 256, engagements: 512, method: 2, count: 48 };
+
+/// A book of August 2021 with 33 lead days, X 10 and Y 20.
+fn month(seed: u64, shape: Shape) -> Book {
+    let Shape { points, engagements, method, count } = shape;
     let mut random = Random::new(seed);
     let mut book = Book::plain(2021, 8, 33, points);
     book.choices = vec![Choice { x: 10, y: 20 }; 4];
     for row in &mut book.register {
-        (row.supplier, row.fsp, row.method) = (3, 7, 2);
+        (row.supplier, row.fsp, row.method) = (3, 7, method);
         (row.largest_up, row.largest_down) = (500_000, 500_000);
         (row.source_party, row.fsp_party) = (1, 2);
     }
     for watts in book.readings.iter_mut().flatten() {
         *watts = random.range(-200_000, 1_000_000) as i32;
     }
+    for (point, day) in places(&mut random, points, engagements) {
+        let (first, direction) = (random.range(0, 96 - count as i64) as u8, random.range(0, 1) as u8);
+        let requested = random.range(1, 500_000) as u32;
+        book.engagements.push(Engagement { point, day, first, count, direction, requested, ..Engagement::default() });
+    }
+    book.lay_out();
+    book
+}
+
+/// Points and settled days in rising order, all different, the points taking turns.
+fn places(random: &mut Random, points: u16, engagements: u16) -> Vec<(u16, u8)> {
     let mut places: Vec<(u16, u8)> = Vec::new();
     while places.len() < engagements as usize {
         let point = (places.len() % points as usize) as u16;
@@ -28,21 +52,7 @@ pub fn month(seed: u64, points: u16, engagements: u16) -> Book {
         }
     }
     places.sort();
-    for (point, day) in places {
-        let (first, direction) = (random.range(0, 48) as u8, random.range(0, 1) as u8);
-        let requested = random.range(1, 500_000) as u32;
-        book.engagements.push(Engagement {
-            point,
-            day,
-            first,
-            count: 48,
-            direction,
-            requested,
-            ..Engagement::default()
-        });
-    }
-    book.lay_out();
-    book
+    places
 }
 
 const RUNS: usize = 60;
@@ -59,8 +69,14 @@ fn once(settle: Settle, bytes: &[u8], rows: &mut [i64]) -> u64 {
     spent
 }
 
-/// The least of some times of each settling, taken in turn; how many times as long the proved one takes.
-fn row(what: &str, book: &Book) -> f64 {
+/// The least times of the two settlings, in milliseconds.
+struct Times {
+    proved: f64,
+    plain: f64,
+}
+
+/// The least of some times of each settling, taken in turn, the rows compared each time.
+fn times(book: &Book) -> Times {
     let bytes = book.encode();
     let count: usize = book.engagements.iter().map(|e| e.count as usize).sum();
     let (mut ours, mut theirs) = (vec![0; 4 * count], vec![0; 4 * count]);
@@ -70,24 +86,45 @@ fn row(what: &str, book: &Book) -> f64 {
         plain = plain.min(once(quick::settle, &bytes, &mut theirs));
         assert_eq!(ours, theirs, "the rows differ");
     }
-    let ratio = proved as f64 / plain as f64;
-    let (proved, plain) = (proved as f64 / 1e6, plain as f64 / 1e6);
-    println!("{what:<20} proved {proved:>7.3} ms   Rust {plain:>7.3} ms   ratio {ratio:.2}");
-    ratio
+    Times { proved: proved as f64 / 1e6, plain: plain as f64 / 1e6 }
 }
 
+/// A line of the table, with the growth from the proved time before it, if there is one.
+fn line(what: String, book: &Book, before: Option<f64>) -> Times {
+    let times = times(book);
+    let Times { proved, plain } = times;
+    let growth = before.map_or(String::new(), |before| format!("   growth {:.2}", proved / before));
+    println!("  {what:<16} proved {proved:>7.3} ms   Rust {plain:>7.3} ms   ratio {:.2}{growth}", proved / plain);
+    times
+}
+
+/// Lines of books in which a number doubles; the greatest growth.
+fn doubling(what: &str, from: u16, shape: fn(u16) -> Shape) -> f64 {
+    println!("twice as many {what}");
+    let (mut before, mut most) = (None, 0.0);
+    for number in [from, 2 * from, 4 * from, 8 * from] {
+        let proved = line(format!("{number} {what}"), &month(1, shape(number)), before).proved;
+        most = f64::max(most, before.map_or(0.0, |before| proved / before));
+        before = Some(proved);
+    }
+    most
+}
+
+/// The largest settling on seven books, of which the greatest ratio counts, and how the time grows.
 pub fn run() {
-    println!("256 points, 64 days, 512 engagements of method 2, count 48, X 10, Y 20");
-    println!("least of {RUNS} runs of each, rows compared");
-    let ratios: Vec<f64> = (1..=7).map(|seed| row(&format!("book {seed}"), &month(seed, 256, 512))).collect();
-    let most = ratios.iter().cloned().fold(0.0, f64::max);
-    println!("greatest ratio {most:.2}");
-    println!("growth with points, two engagements each");
-    for points in [32, 64, 128, 256] {
-        row(&format!("{points} points"), &month(1, points, 2 * points));
+    println!("64 days, X 10, Y 20; least of {RUNS} runs of each in turn, rows cleared before and compared after");
+    println!("256 points, 512 engagements of method 2, count 48");
+    let times = (1..=7).map(|seed| line(format!("book {seed}"), &month(seed, LARGEST), None));
+    println!("  greatest ratio {:.2}", times.map(|t| t.proved / t.plain).fold(0.0, f64::max));
+    println!("the same by another method, and with eight engagements a point");
+    for method in [0, 1] {
+        line(format!("method {method}"), &month(1, Shape { method, ..LARGEST }), None);
     }
-    println!("growth with engagements, 256 points");
-    for engagements in [64, 128, 256, 512] {
-        row(&format!("{engagements} engagements"), &month(1, 256, engagements));
-    }
+    line("64 points".into(), &month(1, Shape { points: 64, ..LARGEST }), None);
+    let growths = [
+        doubling("points", 32, |points| Shape { points, engagements: 2 * points, ..LARGEST }),
+        doubling("engagements", 64, |engagements| Shape { engagements, ..LARGEST }),
+        doubling("quarter-hours", 12, |count| Shape { count: count as u8, ..LARGEST }),
+    ];
+    println!("  greatest growth {:.2}", growths.into_iter().fold(0.0, f64::max));
 }
