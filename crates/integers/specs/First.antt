@@ -1,11 +1,12 @@
 -- The first number that a test names, and whether it names one at all, with the laws that a loop over the numbers needs.
-use mathlib.Core.Path.{_≡_}
+use mathlib.Core.Path.{_≡_, _∙_}
 use mathlib.Core.Logic.{⊎-elim}
 use mathlib.Core.Bool.{Bool, true, false, cond, _||_, or-true}
 use mathlib.Core.Option.{Option, none, some}
 use Prim.Native.Nat.{ℕ, zero, suc, _+_, _-_, _≤_, _<_}
 use native.Mathlib.Nat.{eq-or-lt-of-le}
 use native.Mathlib.Omega.{arith}
+use Rattle.integers.specs.Tests.{neither}
 
 -- the first of the n numbers a, a + 1, .. that the test names
 unfoldable pub first : (ℕ → Bool) → ℕ → ℕ → Option ℕ
@@ -42,3 +43,17 @@ any-of test i (suc n) h t =
     (λ e. let q : n ≡ i = omega arith in rw (q, t) (or-true (anyBelow test i)))
     (λ l. let s : i < n = omega arith in rw (any-of test i n s t))
     (eq-or-lt-of-le h)
+
+pub any-next : (test : ℕ → Bool) (i : ℕ) → anyBelow test (i + 1) ≡ (anyBelow test i || test i)
+unfolding anyBelow
+any-next test i = let s : i + 1 ≡ suc i = omega arith in rw s
+
+-- where the test names none of k numbers, the first is sought behind them
+pub first-behind : (test : ℕ → Bool) (a k m : ℕ) → anyBelow (λ i. test (a + i)) k ≡ false → first test a (k + m) ≡ first test (a + k) m
+unfolding first anyBelow
+first-behind test a zero m e = let s : 0 + m ≡ m = omega arith in let t : a + 0 ≡ a = omega arith in rw (s, t)
+first-behind test a (suc k) m e =
+    let n = neither (anyBelow (λ i. test (a + i)) k) (test (a + k)) e in
+    let s : suc k + m ≡ k + suc m = omega arith in
+    let t : a + suc k ≡ suc (a + k) = omega arith in
+    rw (s, t) (first-behind test a k (suc m) (n .0) ∙ rw (n .1))
