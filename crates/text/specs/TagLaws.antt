@@ -1,19 +1,15 @@
 -- A list begins with a tag exactly where it is the tag and something more.
 use mathlib.Core.Path.{_≡_, refl, sym, ap, _∙_}
-use mathlib.Core.Bool.{Bool, true, false, _&&_}
+use mathlib.Core.Bool.{Bool, true, false, _&&_, and-assoc}
 use mathlib.Core.List.{List, [], _∷_, _++_}
 use Prim.Native.Nat.{ℕ, _+_, _≤_, _<_}
-use lib.ListN.{length, drop, getD, length-append, drop-of-length-le}
+use lib.ListN.{length, drop, getD, length-append, length-drop, drop-of-length-le}
 use lib.Seq.{drop-cons}
 use lib.Dec.{eqb}
 use native.Mathlib.Omega.{arith}
 use native.Mathlib.Numerals.{add-one}
-use borrow.Author.Tests.{eq-eqb, eqb-true}
+use borrow.Author.Tests.{eq-eqb, ne-eqb, eqb-true}
 use Rattle.text.specs.Tag.{begins}
-
-and-assoc : (a b c : Bool) → ((a && b) && c) ≡ (a && (b && c))
-and-assoc true b c = refl
-and-assoc false b c = refl
 
 pub begins-append : (t rest : List ℕ) → begins t (t ++ rest) ≡ true
 unfolding begins
@@ -40,16 +36,21 @@ begins-both [] b s = refl
 begins-both (t ∷ a) b [] = refl
 begins-both (t ∷ a) b (x ∷ s) = ap (λ (r : Bool). eqb x t && r) (begins-both a b s) ∙ sym (and-assoc (eqb x t) (begins a s) (begins b (drop (length a) s)))
 
--- ---- one byte on: what a loop over a tag goes by
+-- ---- what a loop over a tag goes by: no room for it, and one byte on
+
+pub begins-no-room : (s t : List ℕ) (p : ℕ) → length s < p + length t → begins t (drop p s) ≡ eqb (length t) 0
+unfolding begins
+begins-no-room s [] p h = refl
+begins-no-room s (x ∷ t) p h = go (begins (x ∷ t) (drop p s)) refl ∙ sym (ne-eqb (length (x ∷ t)) 0 (λ e. omega arith))
+  where
+    go : (b : Bool) → begins (x ∷ t) (drop p s) ≡ b → b ≡ false
+    go true e = let l = begins-length (x ∷ t) (drop p s) e in absurd (omega (arith, length-drop p s))
+    go false e = refl
 
 module _ (s t : List ℕ) (p i : ℕ) where
   pub begins-end : length t ≤ i → begins (drop i t) (drop p s) ≡ true
   unfolding begins
   begins-end h = rw (drop-of-length-le t h)
-
-  pub begins-short : i < length t → length s ≤ p → begins (drop i t) (drop p s) ≡ false
-  unfolding begins
-  begins-short h k = rw (drop-cons t i 0, drop-of-length-le s k)
 
   pub begins-step : i < length t → p < length s → begins (drop i t) (drop p s) ≡ (eqb (getD s p 0) (getD t i 0) && begins (drop (i + 1) t) (drop (p + 1) s))
   unfolding begins

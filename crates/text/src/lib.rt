@@ -12,23 +12,23 @@ pub enum Number {
     NotDigits,
 }
 
-// Whether the tag stands at `at`.
+// Whether the tag stands at `at`. No byte ends the loop, so that the compiler compares several at once.
 pub fn matches(s: &[u8], at: usize, tag: &[u8]) -> bool
     ensures { λ r. ⌜ r ≡ begins (now (tag .entry)) (drop at (now (s .entry))) ⌝ }
 {
-    let mut i: usize = 0;
-    let mut p = at;
-    while i < tag.len() {
-        if s.len() <= p {
-            return false;
-        }
-        if s[p] != tag[i] {
-            return false;
-        }
-        i += 1;
-        p += 1;
+    if s.len() < tag.len() {
+        return false;
     }
-    true
+    if s.len() - tag.len() < at {
+        return tag.len() == 0;
+    }
+    let mut i: usize = 0;
+    let mut same = true;
+    while i < tag.len() {
+        same = same & (s[at + i] == tag[i]);
+        i += 1;
+    }
+    same
 }
 
 // Whether the byte is a digit.
