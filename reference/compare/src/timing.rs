@@ -4,6 +4,8 @@ use crate::{calls, quick};
 use reference::book::{Book, Choice, Engagement};
 use reference::random::Random;
 use reference::refusal::Refusal;
+use reference::settle;
+use std::iter;
 use std::time::Instant;
 
 /// What a timed book has: engagements of one method, count and X and Y, on 64 days.
@@ -55,72 +57,111 @@ fn places(random: &mut Random, points: u16, engagements: u16) -> Vec<(u16, u8)> 
     places
 }
 
+/// Each book is settled so often by each settling, some times in succession and then again: what slows the machine down
+/// for a while, or a place in memory, then meets none alone.
 const RUNS: usize = 60;
+const AT_A_TIME: usize = 10;
 
 type Settle = fn(&[u8], &mut [i64]) -> Result<usize, Refusal>;
 
-/// One settling's time in nanoseconds, the rows cleared before.
-fn once(settle: Settle, bytes: &[u8], rows: &mut [i64]) -> u64 {
-    rows.fill(0);
-    let begun = Instant::now();
-    let answer = settle(bytes, rows);
-    let spent = begun.elapsed().as_nanos() as u64;
-    answer.expect("the book is accepted");
-    spent
+/// A book's bytes, a buffer for its rows, the rows that the reference calculates, and the least times so far, in nanoseconds.
+struct Timed {
+    bytes: Vec<u8>,
+    rows: Vec<i64>,
+    expected: Vec<i64>,
+    proved: u64,
+    plain: u64,
 }
 
-/// The least times of the two settlings, in milliseconds.
-struct Times {
-    proved: f64,
-    plain: f64,
-}
-
-/// The least of some times of each settling, taken in turn, the rows compared each time.
-fn times(book: &Book) -> Times {
-    let bytes = book.encode();
-    let count: usize = book.engagements.iter().map(|e| e.count as usize).sum();
-    let (mut ours, mut theirs) = (vec![0; 4 * count], vec![0; 4 * count]);
-    let (mut proved, mut plain) = (u64::MAX, u64::MAX);
-    for _ in 0..RUNS {
-        proved = proved.min(once(calls::settle, &bytes, &mut ours));
-        plain = plain.min(once(quick::settle, &bytes, &mut theirs));
-        assert_eq!(ours, theirs, "the rows differ");
+impl Timed {
+    fn new(seed: u64, shape: Shape) -> Timed {
+        let bytes = month(seed, shape).encode();
+        let expected = settle::settle(&bytes, usize::MAX).expect("the book is accepted");
+        Timed { bytes, rows: vec![0; expected.len()], expected, proved: u64::MAX, plain: u64::MAX }
     }
-    Times { proved: proved as f64 / 1e6, plain: plain as f64 / 1e6 }
+
+    /// One settling's time, the rows cleared before and compared after.
+    fn once(&mut self, settle: Settle) -> u64 {
+        self.rows.fill(0);
+        let begun = Instant::now();
+        let answer = settle(&self.bytes, &mut self.rows);
+        let spent = begun.elapsed().as_nanos() as u64;
+        assert!(answer == Ok(self.rows.len() / 4) && self.rows == self.expected, "the rows differ");
+        spent
+    }
+
+    fn proved(&mut self) {
+        self.proved = self.proved.min(self.once(calls::settle));
+    }
+
+    fn plain(&mut self) {
+        self.plain = self.plain.min(self.once(quick::settle));
+    }
+
+    /// How many times as long as the Rust one the proved one takes.
+    fn ratio(&self) -> f64 {
+        self.proved as f64 / self.plain as f64
+    }
+
+    fn print(&self, what: &str, behind: &str) {
+        let (proved, plain) = (self.proved as f64 / 1e6, self.plain as f64 / 1e6);
+        println!("  {what:<16} proved {proved:>7.3} ms   Rust {plain:>7.3} ms   ratio {:.2}{behind}", self.ratio());
+    }
 }
 
-/// A line of the table, with the growth from the proved time before it, if there is one.
-fn line(what: String, book: &Book, before: Option<f64>) -> Times {
-    let times = times(book);
-    let Times { proved, plain } = times;
-    let growth = before.map_or(String::new(), |before| format!("   growth {:.2}", proved / before));
-    println!("  {what:<16} proved {proved:>7.3} ms   Rust {plain:>7.3} ms   ratio {:.2}{growth}", proved / plain);
-    times
+fn in_turn(book: &mut Timed) {
+    for _ in 0..AT_A_TIME {
+        book.proved();
+        book.plain();
+    }
 }
 
-/// Lines of books in which a number doubles; the greatest growth.
+/// For growth, where the other settling's use of the caches would count too.
+fn in_succession(book: &mut Timed) {
+    (0..AT_A_TIME).for_each(|_| book.proved());
+    (0..AT_A_TIME).for_each(|_| book.plain());
+}
+
+/// All runs of some books.
+fn timed(books: impl Iterator<Item = (u64, Shape)>, runs: fn(&mut Timed)) -> Vec<Timed> {
+    let mut all: Vec<Timed> = books.map(|(seed, shape)| Timed::new(seed, shape)).collect();
+    for _ in 0..RUNS / AT_A_TIME {
+        for book in &mut all {
+            book.bytes = book.bytes.clone();
+            runs(book);
+        }
+    }
+    all
+}
+
+/// Books in which a number doubles; the greatest growth of the proved time.
 fn doubling(what: &str, from: u16, shape: fn(u16) -> Shape) -> f64 {
     println!("twice as many {what}");
-    let (mut before, mut most) = (None, 0.0);
-    for number in [from, 2 * from, 4 * from, 8 * from] {
-        let proved = line(format!("{number} {what}"), &month(1, shape(number)), before).proved;
-        most = f64::max(most, before.map_or(0.0, |before| proved / before));
-        before = Some(proved);
+    let numbers = [from, 2 * from, 4 * from, 8 * from];
+    let books = timed(numbers.into_iter().map(|number| (1, shape(number))), in_succession);
+    let growths = books.windows(2).map(|two| two[1].proved as f64 / two[0].proved as f64);
+    let said = iter::once(String::new()).chain(growths.clone().map(|growth| format!("   growth {growth:.2}")));
+    for ((number, book), behind) in numbers.into_iter().zip(&books).zip(said) {
+        book.print(&format!("{number} {what}"), &behind);
     }
-    most
+    growths.fold(0.0, f64::max)
 }
 
 /// The largest settling on seven books, of which the greatest ratio counts, and how the time grows.
 pub fn run() {
-    println!("64 days, X 10, Y 20; least of {RUNS} runs of each in turn, rows cleared before and compared after");
-    println!("256 points, 512 engagements of method 2, count 48");
-    let times = (1..=7).map(|seed| line(format!("book {seed}"), &month(seed, LARGEST), None));
-    println!("  greatest ratio {:.2}", times.map(|t| t.proved / t.plain).fold(0.0, f64::max));
-    println!("the same by another method, and with eight engagements a point");
-    for method in [0, 1] {
-        line(format!("method {method}"), &month(1, Shape { method, ..LARGEST }), None);
+    println!("64 days, X 10, Y 20; least of {RUNS} runs of each, rows cleared before and compared after");
+    println!("256 points, 512 engagements of method 2, count 48, the two in turn");
+    let books = timed((1..=7).map(|seed| (seed, LARGEST)), in_turn);
+    for (book, seed) in books.iter().zip(1..) {
+        book.print(&format!("book {seed}"), "");
     }
-    line("64 points".into(), &month(1, Shape { points: 64, ..LARGEST }), None);
+    println!("  greatest ratio {:.2}", books.iter().map(Timed::ratio).fold(0.0, f64::max));
+    println!("the same by another method, and with eight engagements a point");
+    let others = ["method 0", "method 1", "64 points"];
+    let shapes = [Shape { method: 0, ..LARGEST }, Shape { method: 1, ..LARGEST }, Shape { points: 64, ..LARGEST }];
+    for (what, book) in others.into_iter().zip(timed(shapes.into_iter().map(|shape| (1, shape)), in_turn)) {
+        book.print(what, "");
+    }
     let growths = [
         doubling("points", 32, |points| Shape { points, engagements: 2 * points, ..LARGEST }),
         doubling("engagements", 64, |engagements| Shape { engagements, ..LARGEST }),
