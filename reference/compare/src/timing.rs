@@ -5,7 +5,6 @@ use reference::book::{Book, Choice, Engagement};
 use reference::random::Random;
 use reference::refusal::Refusal;
 use reference::settle;
-use std::iter;
 use std::time::Instant;
 
 /// What a timed book has: engagements of one method, count and X and Y, on 64 days.
@@ -116,7 +115,7 @@ fn in_turn(book: &mut Timed) {
     }
 }
 
-/// For growth, where the other settling's use of the caches would count too.
+/// Without the other settling's use of the caches in between.
 fn in_succession(book: &mut Timed) {
     (0..AT_A_TIME).for_each(|_| book.proved());
     (0..AT_A_TIME).for_each(|_| book.plain());
@@ -134,17 +133,23 @@ fn timed(books: impl Iterator<Item = (u64, Shape)>, runs: fn(&mut Timed)) -> Vec
     all
 }
 
-/// Books in which a number doubles; the greatest growth of the proved time.
-fn doubling(what: &str, from: u16, shape: fn(u16) -> Shape) -> f64 {
+/// Books in which a number doubles; the greatest growth of the proved time, in succession and in turn.
+fn doubling(what: &str, from: u16, shape: fn(u16) -> Shape) -> [f64; 2] {
     println!("twice as many {what}");
     let numbers = [from, 2 * from, 4 * from, 8 * from];
-    let books = timed(numbers.into_iter().map(|number| (1, shape(number))), in_succession);
-    let growths = books.windows(2).map(|two| two[1].proved as f64 / two[0].proved as f64);
-    let said = iter::once(String::new()).chain(growths.clone().map(|growth| format!("   growth {growth:.2}")));
-    for ((number, book), behind) in numbers.into_iter().zip(&books).zip(said) {
-        book.print(&format!("{number} {what}"), &behind);
+    let books = |runs| timed(numbers.into_iter().map(|number| (1, shape(number))), runs);
+    let both: [Vec<Timed>; 2] = [books(in_succession), books(in_turn)];
+    let mut most = [0.0; 2];
+    for (k, number) in numbers.into_iter().enumerate() {
+        let mut behind = String::new();
+        if k > 0 {
+            let growth = [0, 1].map(|way: usize| both[way][k].proved as f64 / both[way][k - 1].proved as f64);
+            behind = format!("   growth {:.2}, in turn {:.2}", growth[0], growth[1]);
+            most = [0, 1].map(|way| f64::max(most[way], growth[way]));
+        }
+        both[1][k].print(&format!("{number} {what}"), &behind);
     }
-    growths.fold(0.0, f64::max)
+    most
 }
 
 /// The largest settling on seven books, of which the greatest ratio counts, and how the time grows.
@@ -167,5 +172,6 @@ pub fn run() {
         doubling("engagements", 64, |engagements| Shape { engagements, ..LARGEST }),
         doubling("quarter-hours", 12, |count| Shape { count: count as u8, ..LARGEST }),
     ];
-    println!("  greatest growth {:.2}", growths.into_iter().fold(0.0, f64::max));
+    let most = [0, 1].map(|way| growths.iter().map(|growth| growth[way]).fold(0.0, f64::max));
+    println!("  greatest growth {:.2}, in turn {:.2}", most[0], most[1]);
 }
