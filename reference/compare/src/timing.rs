@@ -147,9 +147,23 @@ fn doubling(what: &str, from: u16, shape: fn(u16) -> Shape) -> [f64; 2] {
             behind = format!("   growth {:.2}, in turn {:.2}", growth[0], growth[1]);
             most = [0, 1].map(|way| f64::max(most[way], growth[way]));
         }
-        both[1][k].print(&format!("{number} {what}"), &behind);
+        both[1][k].print(&format!("{number}"), &behind);
     }
     most
+}
+
+/// Seven of the largest books, of which none stays in the caches: all are settled by the one, then all by the other.
+fn by_turns() -> Vec<Timed> {
+    let mut books: Vec<Timed> = (1..=7).map(|seed| Timed::new(seed, LARGEST)).collect();
+    for _ in 0..RUNS {
+        books.iter_mut().for_each(Timed::proved);
+        books.iter_mut().for_each(Timed::plain);
+    }
+    books
+}
+
+fn greatest_ratio(books: &[Timed]) -> f64 {
+    books.iter().map(Timed::ratio).fold(0.0, f64::max)
 }
 
 /// The largest settling on seven books, of which the greatest ratio counts, and how the time grows.
@@ -160,7 +174,11 @@ pub fn run() {
     for (book, seed) in books.iter().zip(1..) {
         book.print(&format!("book {seed}"), "");
     }
-    println!("  greatest ratio {:.2}", books.iter().map(Timed::ratio).fold(0.0, f64::max));
+    println!(
+        "  greatest ratio {:.2}; where the seven books take turns {:.2}",
+        greatest_ratio(&books),
+        greatest_ratio(&by_turns())
+    );
     println!("the same by another method, and with eight engagements a point");
     let others = ["method 0", "method 1", "64 points"];
     let shapes = [Shape { method: 0, ..LARGEST }, Shape { method: 1, ..LARGEST }, Shape { points: 64, ..LARGEST }];
@@ -168,10 +186,13 @@ pub fn run() {
         book.print(what, "");
     }
     let growths = [
-        doubling("points", 32, |points| Shape { points, engagements: 2 * points, ..LARGEST }),
+        doubling("points", 32, |points| Shape { points, ..LARGEST }),
         doubling("engagements", 64, |engagements| Shape { engagements, ..LARGEST }),
         doubling("quarter-hours", 12, |count| Shape { count: count as u8, ..LARGEST }),
     ];
     let most = [0, 1].map(|way| growths.iter().map(|growth| growth[way]).fold(0.0, f64::max));
-    println!("  greatest growth {:.2}, in turn {:.2}", most[0], most[1]);
+    println!("  greatest growth where one of them doubles {:.2}, in turn {:.2}", most[0], most[1]);
+    let both =
+        doubling("points, each of two engagements", 32, |points| Shape { points, engagements: 2 * points, ..LARGEST });
+    println!("  greatest growth where points and engagements double {:.2}, in turn {:.2}", both[0], both[1]);
 }
