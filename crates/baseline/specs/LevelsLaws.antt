@@ -1,37 +1,26 @@
 -- What is read of the days that are taken is what the definitions look at.
 use mathlib.Core.Path.{_≡_, refl, sym, ap, ap₂, _∙_}
-use mathlib.Core.Bool.{Bool, true, false, not, _&&_}
+use mathlib.Core.Bool.{Bool, true, false}
 use mathlib.Core.List.{List, [], _∷_, _++_, map, flatMap}
 use Prim.Native.Nat.{ℕ, _+_, _-_, _*_, _≤_}
 use native.Mathlib.Omega.{arith}
-use lib.Dec.{eqb, ltb}
+use lib.Dec.{ltb}
 use borrow.Author.Tests.{ltb-true, ltb-false}
 use Rattle.integers.specs.Ranges.{range}
-use Rattle.integers.specs.Tests.{both}
 use Rattle.wire.specs.Readings.{readingAt}
 use Rattle.book.specs.declared.Calendar.{Calendar}
 use Rattle.book.specs.declared.Engagement.{Engagement}
 use Rattle.book.specs.declared.Point.{Point}
 use Rattle.book.specs.declared.Method.the-variants.{Adjusted}
 use Rattle.book.specs.Calendars.{dayStart, quartersOf}
-use Rattle.book.specs.Register.{excludes}
 use Rattle.book.specs.Book.{Book}
 use Rattle.volumes.specs.Quarters.{referenceQuarter, reference}
-use Rattle.volumes.specs.Baseline.{pointOf, complete, dayReading, dayReadings, dayWindow, windowed, eligible}
+use Rattle.volumes.specs.Baseline.{complete, dayReading, dayWindow, windowed, eligible}
+use Rattle.volumes.specs.UsedLaws.{eligible-day}
 use Rattle.baseline.specs.Shown.{Shows}
 use Rattle.baseline.specs.ShownLaws.{day-window, window-row, window-early}
 use Rattle.baseline.specs.Rows.{dayRows}
 use Rattle.baseline.specs.Taken.{All, Serves}
-
--- an eligible day has its window where the method looks at it
-windowed-day : (book : Book) (e : Engagement) (d : ℕ) → eligible book e d ≡ true → windowed (pointOf book e .method) (dayWindow book e d) ≡ true
-unfolding eligible
-windowed-day book e d h =
-    let w = windowed (pointOf book e .method) (dayWindow book e d) in
-    let n = not (excludes (pointOf book e .mask) d) in
-    let a = both (eqb (book .category d) (book .category (e .day))) (n && (complete (dayReadings book e d) && w)) h in
-    let b = both n (complete (dayReadings book e d) && w) (a .1) in
-    both (complete (dayReadings book e d)) w (b .1) .1
 
 module _ {c : Calendar} {calendar readings : List ℕ} {point : Point} {e : Engagement} {book : Book} (s : Shows c calendar readings point e book) where
   -- quarter-hour k of the days
@@ -49,7 +38,7 @@ module _ {c : Calendar} {calendar readings : List ℕ} {point : Point} {e : Enga
   -- the windows of the days, where method 2 looks at them
   window-lies : (d : ℕ) → point .method ≡ Adjusted → eligible book e d ≡ true → complete (dayWindow book e d) ≡ true
   unfolding windowed
-  window-lies d m i = rw (ap (λ (p : Point). p .method) (s .owner) ∙ m) at (windowed-day book e d i)
+  window-lies d m i = rw (ap (λ (p : Point). p .method) (s .owner) ∙ m) at (eligible-day book e d i .windowed)
 
   pub window-inside : (d : ℕ) → point .method ≡ Adjusted → eligible book e d ≡ true → 24 ≤ dayStart c d + e .first
   window-inside d m i = go (ltb (dayStart c d + e .first) 24) refl

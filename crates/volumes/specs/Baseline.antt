@@ -94,12 +94,13 @@ windowed LastQuarter twelve = true
 windowed HighXOfY twelve = true
 windowed Adjusted twelve = complete twelve
 
+-- "it has A's category, isn't excluded"
+unfoldable pub allowed : Book → Engagement → ℕ → Bool
+allowed book e d = eqb (book .category d) (book .category (e .day)) && not (excludes (pointOf book e .mask) d)
+
 -- "day d before A is eligible if it has A's category, isn't excluded and misses no reading in the engagement's quarter-hours"
 unfoldable pub eligible : Book → Engagement → ℕ → Bool
-eligible book e d =
-    eqb (book .category d) (book .category (e .day))
-    && (not (excludes (pointOf book e .mask) d)
-    && (complete (dayReadings book e d) && windowed (pointOf book e .method) (dayWindow book e d)))
+eligible book e d = allowed book e d && (complete (dayReadings book e d) && windowed (pointOf book e .method) (dayWindow book e d))
 
 -- the days before a, the latest first
 unfoldable pub before : ℕ → List ℕ

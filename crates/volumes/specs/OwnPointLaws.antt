@@ -17,7 +17,7 @@ use Rattle.book.specs.declared.Engagement.{Engagement}
 use Rattle.book.specs.Book.{Book}
 use Rattle.volumes.specs.Quarters.{quarterHours, start, reference}
 use Rattle.volumes.specs.Ranking.{insert, ranked}
-use Rattle.volumes.specs.Baseline.{pointOf, watts, known, complete, mean, readingBefore, window, ownReading, dayReading, dayReadings, ownWindow, dayWindow, windowed, eligible, before, keep, eligibleDays, yOf, latest, daySum, taken, high, addend, lastReading, baselineBy, baseline}
+use Rattle.volumes.specs.Baseline.{pointOf, watts, known, complete, mean, readingBefore, window, ownReading, dayReading, dayReadings, ownWindow, dayWindow, windowed, allowed, eligible, before, keep, eligibleDays, yOf, latest, daySum, taken, high, addend, lastReading, baselineBy, baseline}
 use Rattle.volumes.specs.Settlement.{neededBy, needed, tooFew, refusalNumber, deliveredBy, delivered, requestedAt, sourceCorrection, fspCorrection, corrections, signed, row}
 
 -- the book with an engagement's point alone, and the engagement in it
@@ -38,7 +38,7 @@ alone e = record { point = 0; day = e .day; first = e .first; count = e .count; 
 
 module _ (book : Book) (e : Engagement) where
   by-only : (m : Method) (k : ℕ) → baselineBy m book e k ≡ baselineBy m (only book e) (alone e) k
-  unfolding only alone quarterHours start reference insert ranked pointOf watts known complete mean readingBefore window ownReading dayReading dayReadings ownWindow dayWindow windowed eligible before keep eligibleDays latest daySum taken high addend lastReading baselineBy sumBy range
+  unfolding only alone quarterHours start reference insert ranked pointOf watts known complete mean readingBefore window ownReading dayReading dayReadings ownWindow dayWindow windowed allowed eligible before keep eligibleDays latest daySum taken high addend lastReading baselineBy sumBy range
   by-only LastQuarter k = refl
   by-only HighXOfY k = refl
   by-only Adjusted k = refl
@@ -62,6 +62,6 @@ module _ (book : Book) (e : Engagement) where
   needed-only Adjusted = refl
 
   pub refusal-only : refusalNumber book e ≡ refusalNumber (only book e) (alone e)
-  unfolding only alone quarterHours start reference pointOf known complete readingBefore window ownReading dayReading dayReadings dayWindow windowed eligible before keep eligibleDays needed refusalNumber range
+  unfolding only alone quarterHours start reference pointOf known complete readingBefore window ownReading dayReading dayReadings dayWindow windowed allowed eligible before keep eligibleDays needed refusalNumber range
   refusal-only =
       ap (λ l. cond (complete (map (ownReading book e) (quarterHours e) ++ l)) (cond (tooFew (pointOf book e .method) (yOf book e) (length (eligibleDays book e))) (some 9) none) (some 8)) (needed-only (pointOf book e .method))

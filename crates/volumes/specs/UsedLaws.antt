@@ -1,23 +1,21 @@
--- No reading that goes into an accepted book's volumes is missing: taken days are eligible, and an engagement that settles has its own readings.
+-- No reading that goes into an accepted book's volumes is missing: taken days are eligible, an eligible day has its readings, and an engagement that settles has its own.
 use mathlib.Core.Path.{_≡_, refl, sym, ap, _∙_}
 use mathlib.Core.Logic.{⊎-elim}
-use mathlib.Core.Bool.{Bool, true, false, cond, not, _&&_, and-eq-true-iff}
+use mathlib.Core.Bool.{Bool, true, false, cond, _&&_, and-eq-true-iff}
 use mathlib.Core.List.{List, [], _∷_, map, flatMap, List·Memᴰ, List·Memᴰ·head, List·Memᴰ·tail, List·Memᴰ·not-nil, List·Memᴰ·cases-cons, Memᴰ·map, Memᴰ·of-map}
 use Prim.Native.Nat.{ℕ, zero, suc, _+_, _<_, _≤_}
 use native.Mathlib.Nat.{eq-or-lt-of-le}
 use native.Mathlib.Omega.{arith}
-use lib.Dec.{eqb}
 use lib.ListN.{take}
 use Rattle.integers.specs.Ranges.{range}
 use Rattle.wire.specs.declared.Reading.{Reading}
 use Rattle.book.specs.declared.Method.the-variants.{LastQuarter, Adjusted}
 use Rattle.book.specs.declared.Engagement.{Engagement}
-use Rattle.book.specs.Register.{excludes}
 use Rattle.book.specs.Book.{Book}
 use Rattle.volumes.specs.Quarters.{quarterHours}
 use Rattle.volumes.specs.Ranking.{ranked}
 use Rattle.volumes.specs.RankingLaws.{from-ranked}
-use Rattle.volumes.specs.Baseline.{pointOf, known, complete, ownReading, dayReading, dayReadings, ownWindow, dayWindow, windowed, eligible, before, keep, eligibleDays, xOf, yOf, latest, daySum, taken, lastReading}
+use Rattle.volumes.specs.Baseline.{pointOf, known, complete, ownReading, dayReading, dayReadings, ownWindow, dayWindow, windowed, allowed, eligible, before, keep, eligibleDays, xOf, yOf, latest, daySum, taken, lastReading}
 use Rattle.volumes.specs.BaselineLaws.{complete-append}
 use Rattle.volumes.specs.Settlement.{neededBy, needed}
 use Rattle.volumes.specs.SettlementLaws.{Settles}
@@ -60,6 +58,24 @@ unfolding before
 days-before zero d m = absurd (List·Memᴰ·not-nil m)
 days-before (suc a) d m = ⊎-elim (λ e. omega arith) (λ k. let h : d < a = days-before a d k in omega arith) (List·Memᴰ·cases-cons m)
 
+-- "day d before A is eligible if it has A's category, isn't excluded and misses no reading ..": the parts that other laws go by
+pub eligible-is : (book : Book) (e : Engagement) (d : ℕ) → eligible book e d ≡ (allowed book e d && (complete (dayReadings book e d) && windowed (pointOf book e .method) (dayWindow book e d)))
+unfolding eligible
+eligible-is book e d = refl
+
+-- an eligible day: what allows it, its readings and, by method 2, its 12
+pub record Eligible (book : Book) (e : Engagement) (d : ℕ) : Type 0 where
+  pub allowed : allowed book e d ≡ true
+  pub whole : complete (dayReadings book e d) ≡ true
+  pub windowed : windowed (pointOf book e .method) (dayWindow book e d) ≡ true
+
+pub eligible-day : (book : Book) (e : Engagement) (d : ℕ) → eligible book e d ≡ true → Eligible book e d
+eligible-day book e d h =
+    let r = complete (dayReadings book e d) && windowed (pointOf book e .method) (dayWindow book e d) in
+    let f = and-eq-true-iff (allowed book e d) r .0 (sym (eligible-is book e d) ∙ h) in
+    let g = and-eq-true-iff (complete (dayReadings book e d)) (windowed (pointOf book e .method) (dayWindow book e d)) .0 (f .1) in
+    record { allowed = f .0; whole = g .0; windowed = g .1 }
+
 module _ (book : Book) (e : Engagement) where
   -- "day d before A is eligible": each day that is taken
   pub taken-eligible : (d : ℕ) → List·Memᴰ d (taken book e) → (eligible book e d ≡ true) × (d < e .day)
@@ -68,18 +84,12 @@ module _ (book : Book) (e : Engagement) where
       let k = kept (eligible book e) (before (e .day)) d (in-take (yOf book e) (eligibleDays book e) d (from-ranked (daySum book e) d (latest book e) (in-take (xOf book e) (ranked (daySum book e) (latest book e)) d m))) in
       (k .0, days-before (e .day) d (k .1))
 
-  -- its readings and, by method 2, its 12
-  eligible-known : (d : ℕ) → eligible book e d ≡ true → (complete (dayReadings book e d) ≡ true) × (windowed (pointOf book e .method) (dayWindow book e d) ≡ true)
-  unfolding eligible
-  eligible-known d h =
-      let r = complete (dayReadings book e d) && windowed (pointOf book e .method) (dayWindow book e d) in
-      let f = and-eq-true-iff (eqb (book .category d) (book .category (e .day))) (not (excludes (pointOf book e .mask) d) && r) .0 h in
-      let g = and-eq-true-iff (not (excludes (pointOf book e .mask) d)) r .0 (f .1) in
-      and-eq-true-iff (complete (dayReadings book e d)) (windowed (pointOf book e .method) (dayWindow book e d)) .0 (g .1)
+  taken-day : (d : ℕ) → List·Memᴰ d (taken book e) → Eligible book e d
+  taken-day d m = eligible-day book e d (taken-eligible d m .0)
 
   pub taken-known : (k d : ℕ) → k < e .count → List·Memᴰ d (taken book e) → known (dayReading book e k d) ≡ true
   unfolding dayReadings quarterHours
-  taken-known k d h m = complete-known (dayReadings book e d) (eligible-known d (taken-eligible d m .0) .0) (dayReading book e k d) (Memᴰ·map (λ j. dayReading book e j d) (range-mem 0 (e .count) k (omega arith) (omega arith)))
+  taken-known k d h m = complete-known (dayReadings book e d) (taken-day d m .whole) (dayReading book e k d) (Memᴰ·map (λ j. dayReading book e j d) (range-mem 0 (e .count) k (omega arith) (omega arith)))
 
   pub high-complete : (k : ℕ) → k < e .count → complete (map (dayReading book e k) (taken book e)) ≡ true
   high-complete k h = known-complete (map (dayReading book e k) (taken book e)) (λ r m. go r (Memᴰ·of-map (dayReading book e k) (taken book e) m))
@@ -89,7 +99,7 @@ module _ (book : Book) (e : Engagement) where
 
   pub windows-complete : pointOf book e .method ≡ Adjusted → complete (flatMap (dayWindow book e) (taken book e)) ≡ true
   unfolding flatMap complete windowed
-  windows-complete a = all (taken book e) (λ d m. sym (ap (λ x. windowed x (dayWindow book e d)) a) ∙ eligible-known d (taken-eligible d m .0) .1)
+  windows-complete a = all (taken book e) (λ d m. sym (ap (λ x. windowed x (dayWindow book e d)) a) ∙ taken-day d m .windowed)
     where
       all : (l : List ℕ) → ((d : ℕ) → List·Memᴰ d l → windowed Adjusted (dayWindow book e d) ≡ true) → complete (flatMap (dayWindow book e) l) ≡ true
       all [] h = refl
