@@ -59,7 +59,7 @@ fn file_case(book: &[u8], id: &[u8], moment: &[u8], asked: Asked, rows: &mut [i6
     cases::lent::prepare_bytes(file);
     let r = asked.rows;
     let f = asked.file;
-    let said = reports::file::file(
+    let said = filing::file::file(
         book,
         asked.kind,
         asked.receiver,

@@ -32,7 +32,7 @@ fn put_file(input: &[u8], asked: Asked, rows: &mut [i64], out: &mut [u8]) -> usi
     let moment = asked.moment;
     let moment_end = moment + 29;
     let book = asked.book;
-    let answer = reports::file::file(
+    let answer = filing::file::file(
         &input[book..],
         asked.kind,
         asked.receiver,

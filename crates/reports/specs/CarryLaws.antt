@@ -25,7 +25,7 @@ use Rattle.message.specs.Rows.{Row, seriesRows, partnerRows, rowsOf}
 use Rattle.reports.specs.Keep.{isSome}
 use Rattle.reports.specs.KeepLaws.{keep-sum, not-some}
 use Rattle.reports.specs.AscendingLaws.{ascending-once}
-use Rattle.reports.specs.FileRows.{supplyNumber, deliveryNumber, partnerNumbers, directions, positions, observationAt, isWritten, observationsOf, timeSeries, timeSeriesOf, partnerAt, partnersOf, fileRows}
+use Rattle.reports.specs.FileRows.{supplyNumber, deliveryNumber, partnerNumbers, directions, positions, observationAt, isWritten, observationsOf, timeSeries, timeSeriesOf, partnerAt, partnersOf, fileRows, observationBy, observationsBy, timeSeriesBy, partnerBy, partnersBy}
 use Rattle.reports.specs.Watts.{wattsOf, wattsIn}
 use Rattle.reports.specs.PointsLaws.{Inside, no-watts}
 
@@ -54,7 +54,7 @@ module _ (book : Book) (kind : Kind) (receiver : ℕ) (w : Row → ℕ) (nothing
   series-sum : (n : ℕ) (d : Supply × Direction)
       → sumOf (λ o. w (n, ((supplyNumber (d .0), deliveryNumber (d .1)), o))) (observationsOf book kind receiver (seriesOf n (d .0) (d .1)))
       ≡ sumOf (λ p. w (rowAt book kind receiver n d p)) (positions book)
-  unfolding observationsOf isWritten
+  unfolding observationsOf observationsBy isWritten positions observationAt observationBy seriesWatts
   series-sum n d =
       let s = seriesOf n (d .0) (d .1) in
       let f : Observation → ℕ = λ o. w (n, ((supplyNumber (d .0), deliveryNumber (d .1)), o)) in
@@ -64,7 +64,7 @@ module _ (book : Book) (kind : Kind) (receiver : ℕ) (w : Row → ℕ) (nothing
   partner-sum : (n : ℕ)
       → sumOf (λ a. w (n, a)) (spread (map seriesRows (timeSeriesOf book kind receiver n)))
       ≡ sumOf (λ d. sumOf (λ p. w (rowAt book kind receiver n d p)) (positions book)) directions
-  unfolding timeSeriesOf timeSeries
+  unfolding timeSeriesOf partnerAt partnerBy timeSeries timeSeriesBy observationsOf observationsBy
   partner-sum n =
       let all = map (timeSeries book kind receiver n) directions in
       let f : TimeSeries → ℕ = λ s. sumOf (λ o. w (n, ((s .supply, s .delivery), o))) (s .observations) in
@@ -79,7 +79,7 @@ module _ (book : Book) (kind : Kind) (receiver : ℕ) (w : Row → ℕ) (nothing
       none s e = ap (sumOf (λ o. w (n, ((s .supply, s .delivery), o)))) e ∙ nil-sum (λ o. w (n, ((s .supply, s .delivery), o)))
 
   pub rows-sum : sumOf w (fileRows book kind receiver) ≡ sumOf (λ n. sumOf (λ d. sumOf (λ p. w (rowAt book kind receiver n d p)) (positions book)) directions) (partnerNumbers book kind receiver)
-  unfolding fileRows rowsOf partnersOf partnerAt
+  unfolding fileRows rowsOf partnersOf partnersBy partnerAt partnerBy timeSeriesOf timeSeries
   rows-sum =
       let all = map (partnerAt book kind receiver) (partnerNumbers book kind receiver) in
       let f : Partner → ℕ = λ p. sumOf (λ a. w (p .number, a)) (spread (map seriesRows (p .series))) in
@@ -139,7 +139,7 @@ module _ (book : Book) (inside : Inside book) (kind : Kind) (receiver : ℕ) whe
 
   -- at each position of the month, the rows carry the series' watts
   pub carries : (n : ℕ) (u : Supply) (v : Direction) (p : ℕ) → 1 ≤ p → p ≤ monthQuarters (book .calendar) → wattsIn (fileRows book kind receiver) n (supplyNumber u) (deliveryNumber v) p ≡ seriesWatts book kind receiver (seriesOf n u v) p
-  unfolding wattsIn wattsOf positions observationAt
+  unfolding wattsIn wattsOf positions observationAt observationBy seriesWatts
   carries n u v p low most =
       let here : ℕ → Supply × Direction → ℕ = λ m d. seriesWatts book kind receiver (seriesOf m (d .0) (d .1)) p in
       let of : ℕ → Supply × Direction → ℕ → ℕ = λ m d q. seriesWatts book kind receiver (seriesOf m (d .0) (d .1)) q in

@@ -4,6 +4,8 @@ use mathlib.Core.List.{List, [], _∷_, map}
 use Prim.Native.Nat.{ℕ}
 use lib.Dec.{eqb, ltb}
 use Rattle.integers.specs.Ranges.{range}
+use Rattle.integers.specs.Running.{floorAt}
+use Rattle.grains.specs.Grains.{perWatt}
 use Rattle.book.specs.declared.Supply.{Supply}
 use Rattle.book.specs.declared.Supply.the-variants.{OffTake, Injection}
 use Rattle.book.specs.declared.Direction.{Direction}
@@ -11,7 +13,7 @@ use Rattle.book.specs.declared.Direction.the-variants.{Up, Down}
 use Rattle.book.specs.declared.Point.{Point}
 use Rattle.book.specs.Book.{Book}
 use Rattle.volumes.specs.Quarters.{monthQuarters}
-use Rattle.volumes.specs.Series.{Kind, takes, receiverOf, partnerOf, Series, seriesWatts}
+use Rattle.volumes.specs.Series.{Kind, takes, receiverOf, partnerOf, Series, grainsAt}
 use Rattle.volumes.specs.SeriesLaws.{seriesOf}
 use Rattle.message.specs.Contents.{Observation, Series as TimeSeries, Partner, File}
 use Rattle.message.specs.Bytes.{fileBytes}
@@ -40,42 +42,64 @@ partnerNumbers book kind receiver = ascending (map (partnerOf kind) (keep (isTak
 unfoldable pub directions : List (Supply × Direction)
 directions = (OffTake, Up) ∷ (OffTake, Down) ∷ (Injection, Up) ∷ (Injection, Down) ∷ []
 
--- "positions rise": from 1 to the month's last
-unfoldable pub positions : Book → List ℕ
-positions book = range 1 (monthQuarters (book .calendar))
-
--- "The watts at a position", of a series
-unfoldable pub observationAt : Book → Kind → ℕ → Series → ℕ → Observation
-observationAt book kind receiver s p = record { position = p; watts = seriesWatts book kind receiver s p }
-
 -- "Zero watts aren't written"
 unfoldable pub isWritten : Observation → Bool
 isWritten o = ltb 0 (o .watts)
 
-unfoldable pub observationsOf : Book → Kind → ℕ → Series → List Observation
-observationsOf book kind receiver s = keep isWritten (map (observationAt book kind receiver s) (positions book))
+-- ---- partners, of volumes: grains by series and position
 
--- "A series is one partner, supply and delivery direction", "the same period, a whole month": the book's
-unfoldable pub timeSeries : Book → Kind → ℕ → ℕ → Supply × Direction → TimeSeries
-timeSeries book kind receiver partner d =
+abbrev pub Volumes : Type 0
+Volumes = Series → ℕ → ℕ
+
+-- "The watts at a position are the series' grains up to it, over 30,240 rounded down, less the same before it."
+unfoldable pub observationBy : (ℕ → ℕ) → ℕ → Observation
+observationBy grains p = record { position = p; watts = floorAt perWatt grains p }
+
+-- "positions rise": from 1 to the month's last
+unfoldable pub observationsBy : (ℕ → ℕ) → ℕ → List Observation
+observationsBy grains last = keep isWritten (map (observationBy grains) (range 1 last))
+
+-- "A series is one partner, supply and delivery direction", "the same period, a whole month"
+unfoldable pub timeSeriesBy : Volumes → ℕ × ℕ → ℕ → ℕ → Supply × Direction → TimeSeries
+timeSeriesBy volumes q last partner d =
     record {
       supply = supplyNumber (d .0);
       delivery = deliveryNumber (d .1);
-      year = book .calendar .year;
-      month = book .calendar .month;
-      observations = observationsOf book kind receiver (seriesOf partner (d .0) (d .1));
+      year = q .0;
+      month = q .1;
+      observations = observationsBy (volumes (seriesOf partner (d .0) (d .1))) last;
     }
 
 -- "nor empty series"
-unfoldable pub timeSeriesOf : Book → Kind → ℕ → ℕ → List TimeSeries
-timeSeriesOf book kind receiver partner = keep (λ s. isSome (s .observations)) (map (timeSeries book kind receiver partner) directions)
-
-unfoldable pub partnerAt : Book → Kind → ℕ → ℕ → Partner
-partnerAt book kind receiver partner = record { number = partner; series = timeSeriesOf book kind receiver partner }
+unfoldable pub partnerBy : Volumes → ℕ × ℕ → ℕ → ℕ → Partner
+partnerBy volumes q last partner = record { number = partner; series = keep (λ s. isSome (s .observations)) (map (timeSeriesBy volumes q last partner) directions) }
 
 -- "nor a partner without a series"
+unfoldable pub partnersBy : Volumes → ℕ × ℕ → ℕ → List ℕ → List Partner
+partnersBy volumes q last partners = keep (λ p. isSome (p .series)) (map (partnerBy volumes q last) partners)
+
+-- ---- a book's own: its grains in its month
+
+unfoldable pub positions : Book → List ℕ
+positions book = range 1 (monthQuarters (book .calendar))
+
+unfoldable pub observationAt : Book → Kind → ℕ → Series → ℕ → Observation
+observationAt book kind receiver s p = observationBy (grainsAt book kind receiver s) p
+
+unfoldable pub observationsOf : Book → Kind → ℕ → Series → List Observation
+observationsOf book kind receiver s = observationsBy (grainsAt book kind receiver s) (monthQuarters (book .calendar))
+
+unfoldable pub timeSeries : Book → Kind → ℕ → ℕ → Supply × Direction → TimeSeries
+timeSeries book kind receiver partner d = timeSeriesBy (grainsAt book kind receiver) (book .calendar .year, book .calendar .month) (monthQuarters (book .calendar)) partner d
+
+unfoldable pub partnerAt : Book → Kind → ℕ → ℕ → Partner
+partnerAt book kind receiver partner = partnerBy (grainsAt book kind receiver) (book .calendar .year, book .calendar .month) (monthQuarters (book .calendar)) partner
+
+unfoldable pub timeSeriesOf : Book → Kind → ℕ → ℕ → List TimeSeries
+timeSeriesOf book kind receiver partner = partnerAt book kind receiver partner .series
+
 unfoldable pub partnersOf : Book → Kind → ℕ → List Partner
-partnersOf book kind receiver = keep (λ p. isSome (p .series)) (map (partnerAt book kind receiver) (partnerNumbers book kind receiver))
+partnersOf book kind receiver = partnersBy (grainsAt book kind receiver) (book .calendar .year, book .calendar .month) (monthQuarters (book .calendar)) (partnerNumbers book kind receiver)
 
 -- the file of a kind for a receiver, with an ID and a moment
 unfoldable pub fileOf : Book → Kind → ℕ → List ℕ → List ℕ → File

@@ -37,7 +37,7 @@ use Rattle.message.specs.Months.{all-append}
 use Rattle.reports.specs.Keep.{keep, isSome}
 use Rattle.reports.specs.KeepLaws.{keep-length, mem-keep, keep-rises, each-all, some-length, some-member}
 use Rattle.reports.specs.AscendingLaws.{ascending-rises, ascending-once, ascending-length}
-use Rattle.reports.specs.FileRows.{supplyNumber, deliveryNumber, isTaken, partnerNumbers, directions, positions, observationAt, isWritten, observationsOf, timeSeries, timeSeriesOf, partnerAt, partnersOf, fileOf}
+use Rattle.reports.specs.FileRows.{supplyNumber, deliveryNumber, isTaken, partnerNumbers, directions, positions, observationAt, isWritten, observationsOf, timeSeries, timeSeriesOf, partnerAt, partnersOf, fileOf, observationBy, observationsBy, timeSeriesBy, partnerBy, partnersBy}
 use Rattle.reports.specs.Roles.{receivers}
 use Rattle.reports.specs.Registered.{Numbered, Registered}
 use Rattle.reports.specs.PointsLaws.{Of, Inside, watts-point}
@@ -117,7 +117,7 @@ module _ (book : Book) (sound : Sound book) (registered : Registered book) (kind
   -- ---- a series
 
   observation-valid : (s : Series) (o : Observation) → List·Memᴰ o (observationsOf book kind receiver s) → IsObservation (lastPosition (book .calendar .year) (book .calendar .month)) o
-  unfolding observationsOf isWritten positions observationAt
+  unfolding observationsOf observationsBy isWritten positions observationAt observationBy seriesWatts
   observation-valid s o m = let k = mem-keep isWritten (map (observationAt book kind receiver s) (positions book)) o m in go (Memᴰ·of-map (observationAt book kind receiver s) (positions book) (k .0)) (ltb-true 0 (o .watts) (k .1))
     where
       go : (p : ℕ) × List·Memᴰ p (range 1 (monthQuarters (book .calendar))) × (observationAt book kind receiver s p ≡ o) → 0 < o .watts → IsObservation (lastPosition (book .calendar .year) (book .calendar .month)) o
@@ -130,18 +130,18 @@ module _ (book : Book) (sound : Sound book) (registered : Registered book) (kind
           }
 
   observations-few : (s : Series) → length (observationsOf book kind receiver s) ≤ 2976
-  unfolding observationsOf positions lastPosition
+  unfolding observationsOf observationsBy positions lastPosition observationAt observationBy seriesWatts
   observations-few s =
       omega (arith, keep-length isWritten (map (observationAt book kind receiver s) (positions book)), length-map (positions book) (observationAt book kind receiver s), length-range 1 (monthQuarters (book .calendar)), month-positions (book .calendar), month-length (book .calendar .year) (book .calendar .month) (sound .ranged .january) (sound .ranged .december))
 
   observations-rise : (s : Series) → rises 1 (map position (observationsOf book kind receiver s)) ≡ true
-  unfolding observationsOf positions observationAt
+  unfolding observationsOf observationsBy positions observationAt observationBy seriesWatts
   observations-rise s =
       keep-rises isWritten position 1 (map (observationAt book kind receiver s) (positions book))
       (rw (map-back position (observationAt book kind receiver s) (λ n. refl) (positions book)) (range-rises 1 (monthQuarters (book .calendar))))
 
   volume-valid : (n : ℕ) (d : Supply × Direction) → isSome (observationsOf book kind receiver (seriesOf n (d .0) (d .1))) ≡ true → IsVolume (timeSeries book kind receiver n d)
-  unfolding timeSeries
+  unfolding timeSeries timeSeriesBy observationsOf observationsBy
   volume-valid n d e =
       let s = seriesOf n (d .0) (d .1) in
       record {
@@ -154,14 +154,14 @@ module _ (book : Book) (sound : Sound book) (registered : Registered book) (kind
 
   -- a time series that stands in the file, by its directions
   standing : (n : ℕ) (s : TimeSeries) → List·Memᴰ s (timeSeriesOf book kind receiver n) → (d : Supply × Direction) × (timeSeries book kind receiver n d ≡ s) × (isSome (observationsOf book kind receiver (seriesOf n (d .0) (d .1))) ≡ true)
-  unfolding timeSeriesOf timeSeries
+  unfolding timeSeriesOf partnerAt partnerBy timeSeries timeSeriesBy observationsOf observationsBy
   standing n s m = let k = mem-keep (λ (s : TimeSeries). isSome (s .observations)) (map (timeSeries book kind receiver n) directions) s m in go (Memᴰ·of-map (timeSeries book kind receiver n) directions (k .0)) (k .1)
     where
       go : (d : Supply × Direction) × List·Memᴰ d directions × (timeSeries book kind receiver n d ≡ s) → isSome (s .observations) ≡ true → (d : Supply × Direction) × (timeSeries book kind receiver n d ≡ s) × (isSome (observationsOf book kind receiver (seriesOf n (d .0) (d .1))) ≡ true)
       go (d, m, e) h = (d, e, ap (λ (x : TimeSeries). isSome (x .observations)) e ∙ h)
 
   series-valid : (n : ℕ) (s : TimeSeries) → List·Memᴰ s (timeSeriesOf book kind receiver n) → IsSeries s
-  unfolding timeSeries
+  unfolding timeSeries timeSeriesBy observationsOf observationsBy
   series-valid n s m = go (standing n s m)
     where
       go : (d : Supply × Direction) × (timeSeries book kind receiver n d ≡ s) × (isSome (observationsOf book kind receiver (seriesOf n (d .0) (d .1))) ≡ true) → IsSeries s
@@ -169,7 +169,7 @@ module _ (book : Book) (sound : Sound book) (registered : Registered book) (kind
 
   -- it has a point of the receiver and the partner, whose supply direction is its own
   series-point : (n : ℕ) (s : TimeSeries) → List·Memᴰ s (timeSeriesOf book kind receiver n) → (point : Point) × List·Memᴰ point (book .points) × (partnerOf kind point ≡ n) × (s .supply ≡ supplyNumber (point .supply))
-  unfolding timeSeries observationsOf isWritten observationAt
+  unfolding timeSeries timeSeriesBy observationsOf observationsBy isWritten observationAt observationBy positions seriesWatts
   series-point n s m = go (standing n s m)
     where
       at : (d : Supply × Direction) → timeSeries book kind receiver n d ≡ s → (point : Point) × List·Memᴰ point (book .points) × Of kind receiver (seriesOf n (d .0) (d .1)) point → (point : Point) × List·Memᴰ point (book .points) × (partnerOf kind point ≡ n) × (s .supply ≡ supplyNumber (point .supply))
@@ -202,11 +202,11 @@ module _ (book : Book) (sound : Sound book) (registered : Registered book) (kind
       go (point, k, e) = subst (λ x. x < 10 ^ digits kind) e (partner-fits kind point (registered .numbered point k))
 
   series-rise : (n : ℕ) → rises 0 (map place (timeSeriesOf book kind receiver n)) ≡ true
-  unfolding timeSeriesOf timeSeries directions supplyNumber deliveryNumber rises
+  unfolding timeSeriesOf partnerAt partnerBy timeSeries timeSeriesBy directions supplyNumber deliveryNumber rises observationsOf observationsBy
   series-rise n = keep-rises (λ (s : TimeSeries). isSome (s .observations)) place 0 (map (timeSeries book kind receiver n) directions) refl
 
   series-few : (n : ℕ) → length (timeSeriesOf book kind receiver n) ≤ 4
-  unfolding timeSeriesOf directions
+  unfolding timeSeriesOf partnerAt partnerBy directions timeSeries timeSeriesBy
   series-few n = keep-length (λ (s : TimeSeries). isSome (s .observations)) (map (timeSeries book kind receiver n) directions)
 
 -- "in TOE03 an EAN stands once, with one supply direction": its points share theirs
@@ -233,9 +233,17 @@ receiver-fits Toe01 point h = h .fsp
 receiver-fits Toe02 point h = h .supplier
 receiver-fits Toe03 point h = h .supplier
 
+-- no more partners than points
+pub partners-few : (book : Book) (kind : Kind) (receiver : ℕ) → Registered book → length (partnersOf book kind receiver) ≤ 256
+unfolding partnersOf partnersBy partnerNumbers
+partners-few book kind receiver registered =
+    let points = keep (isTaken kind receiver) (book .points) in
+    let numbers = partnerNumbers book kind receiver in
+    omega (arith, keep-length (λ (p : Partner). isSome (p .series)) (map (partnerBy (grainsAt book kind receiver) (book .calendar .year, book .calendar .month) (monthQuarters (book .calendar))) numbers), length-map numbers (partnerBy (grainsAt book kind receiver) (book .calendar .year, book .calendar .month) (monthQuarters (book .calendar))), ascending-length (map (partnerOf kind) points), length-map points (partnerOf kind), keep-length (isTaken kind receiver) (book .points), registered .few)
+
 module _ (book : Book) (sound : Sound book) (registered : Registered book) (kind : Kind) (receiver : ℕ) where
   partner-valid : (p : Partner) → List·Memᴰ p (partnersOf book kind receiver) → IsPartner kind p
-  unfolding partnersOf partnerAt
+  unfolding partnersOf partnersBy partnerAt partnerBy timeSeriesOf timeSeries
   partner-valid p m = let k = mem-keep (λ (p : Partner). isSome (p .series)) (map (partnerAt book kind receiver) (partnerNumbers book kind receiver)) p m in go (Memᴰ·of-map (partnerAt book kind receiver) (partnerNumbers book kind receiver) (k .0)) (k .1)
     where
       at : (n : ℕ) → List·Memᴰ n (partnerNumbers book kind receiver) → isSome (timeSeriesOf book kind receiver n) ≡ true → IsPartner kind (partnerAt book kind receiver n)
@@ -253,14 +261,14 @@ module _ (book : Book) (sound : Sound book) (registered : Registered book) (kind
 
   -- all series are of the book's month
   series-month : (n : ℕ) (s : TimeSeries) → List·Memᴰ s (timeSeriesOf book kind receiver n) → monthOf s ≡ (book .calendar .year, book .calendar .month)
-  unfolding timeSeries
+  unfolding timeSeries timeSeriesBy observationsOf observationsBy
   series-month n s m = go (standing book sound registered kind receiver n s m)
     where
       go : (d : Supply × Direction) × (timeSeries book kind receiver n d ≡ s) × (isSome (observationsOf book kind receiver (seriesOf n (d .0) (d .1))) ≡ true) → monthOf s ≡ (book .calendar .year, book .calendar .month)
       go (d, e, h) = ap monthOf (sym e)
 
   partner-month : (p : Partner) → List·Memᴰ p (partnersOf book kind receiver) → All (λ q. q ≡ (book .calendar .year, book .calendar .month)) (map monthOf (p .series))
-  unfolding partnersOf partnerAt
+  unfolding partnersOf partnersBy partnerAt partnerBy timeSeriesOf timeSeries
   partner-month p m = go (Memᴰ·of-map (partnerAt book kind receiver) (partnerNumbers book kind receiver) (mem-keep (λ (p : Partner). isSome (p .series)) (map (partnerAt book kind receiver) (partnerNumbers book kind receiver)) p m .0))
     where
       month : (n : ℕ) (q : ℕ × ℕ) → (s : TimeSeries) × List·Memᴰ s (timeSeriesOf book kind receiver n) × (monthOf s ≡ q) → q ≡ (book .calendar .year, book .calendar .month)
@@ -275,14 +283,8 @@ module _ (book : Book) (sound : Sound book) (registered : Registered book) (kind
   unfolding periods
   book-month = all-flatMap _ (λ (p : Partner). map monthOf (p .series)) (partnersOf book kind receiver) partner-month
 
-  partners-few : length (partnersOf book kind receiver) ≤ 256
-  unfolding partnersOf partnerNumbers
-  partners-few =
-      let taken = keep (isTaken kind receiver) (book .points) in
-      omega (arith, keep-length (λ (p : Partner). isSome (p .series)) (map (partnerAt book kind receiver) (partnerNumbers book kind receiver)), length-map (partnerNumbers book kind receiver) (partnerAt book kind receiver), ascending-length (map (partnerOf kind) taken), length-map taken (partnerOf kind), keep-length (isTaken kind receiver) (book .points), registered .few)
-
   pub partners-rise : rises 0 (map number (partnersOf book kind receiver)) ≡ true
-  unfolding partnersOf partnerAt partnerNumbers
+  unfolding partnersOf partnersBy partnerAt partnerBy partnerNumbers timeSeriesOf timeSeries
   partners-rise =
       keep-rises (λ (p : Partner). isSome (p .series)) number 0 (map (partnerAt book kind receiver) (partnerNumbers book kind receiver))
       (rw (map-back number (partnerAt book kind receiver) (λ n. refl) (partnerNumbers book kind receiver)) (ascending-rises (map (partnerOf kind) (keep (isTaken kind receiver) (book .points)))))
@@ -305,7 +307,7 @@ module _ (book : Book) (sound : Sound book) (registered : Registered book) (kind
         receiver = receiver-below m;
         id = e;
         moment = f;
-        fits = omega (arith, partners-few);
+        fits = omega (arith, partners-few book kind receiver registered);
         rising = partners-rise;
         each = partners-valid;
         same = all-first (periods (partnersOf book kind receiver)) (book .calendar .year, book .calendar .month) book-month;

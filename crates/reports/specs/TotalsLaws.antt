@@ -18,7 +18,7 @@ use Rattle.message.specs.Rows.{Row}
 use Rattle.reports.specs.Keep.{keep}
 use Rattle.reports.specs.KeepLaws.{mem-keep}
 use Rattle.reports.specs.AscendingLaws.{ascending-once}
-use Rattle.reports.specs.FileRows.{supplyNumber, deliveryNumber, isTaken, partnerNumbers, directions, positions, observationAt, fileRows}
+use Rattle.reports.specs.FileRows.{supplyNumber, deliveryNumber, isTaken, partnerNumbers, directions, positions, observationAt, fileRows, observationBy}
 use Rattle.reports.specs.Roles.{receivers}
 use Rattle.reports.specs.Watts.{wattsOf, directedIn, totalIn}
 use Rattle.reports.specs.PointsLaws.{Inside, no-watts}
@@ -46,7 +46,7 @@ side book t kind receiver n = sumOf (λ (d : Supply × Direction). sumOf (λ p. 
 module _ (book : Book) (inside : Inside book) (t : ℕ → ℕ → ℕ → Bool) where
   -- a file, partner by partner
   file-side : (kind : Kind) (receiver : ℕ) → wattsOf (rowTest t) (fileRows book kind receiver) ≡ sumOf (side book t kind receiver) (partnerNumbers book kind receiver)
-  unfolding wattsOf side observationAt
+  unfolding wattsOf side observationAt observationBy seriesWatts
   file-side kind receiver = rows-sum book kind receiver (λ r. cond (rowTest t r) (r .1 .1 .watts) 0) (λ r e. nought (rowTest t r) e)
 
   -- a partner that the receiver doesn't have adds nothing

@@ -1,10 +1,4 @@
-// The sheets and files of a book: the calls' answers, and demand 3 of the calls' contracts. Definitions and laws stand in specs/.
-mod emission;
-pub mod file;
-mod partners;
-mod series;
-pub mod sheet;
-
+// The sheets and files of a book: the calls' answers, and demand 3 of the calls' contracts. Definitions and laws stand in specs/; crate `filing` has the calls.
 ghost use Rattle.reports.specs.Demand3.{Demand3, Possible};
 ghost use Rattle.reports.specs.Small.{Shown as SmallShown};
 ghost use Rattle.reports.specs.Pool.{Shown as PoolShown};

@@ -10,6 +10,7 @@ pub mod EngagedLaws
 pub mod Verdicts
 pub mod VerdictsLaws
 pub mod Settling
+pub mod PartsLaws
 pub mod SettlingLaws
 pub mod CallsLaws
 pub mod AcceptedLaws

@@ -54,7 +54,7 @@ fn sheet_case(book: &[u8], party: u16, sums: &mut [i64], n: usize)
     requires { ⌜ n ≤ length (now sums) ⌝ }
 {
     cases::lent::prepare(sums);
-    let said = reports::sheet::sheet(book, party, &mut sums[..n]);
+    let said = filing::sheet::sheet(book, party, &mut sums[..n]);
     answer(said, sums);
 }
 

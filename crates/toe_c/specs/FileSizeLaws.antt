@@ -43,10 +43,10 @@ use Rattle.reports.specs.RegisteredLaws.{registered}
 use Rattle.reports.specs.AscendingLaws.{ascending-once}
 use Rattle.reports.specs.Keep.{keep}
 use Rattle.reports.specs.Ascending.{ascending}
-use Rattle.reports.specs.FileRows.{isTaken, partnerNumbers, directions, positions, observationAt, partnersOf, fileOf, fileText, fileRows}
+use Rattle.reports.specs.FileRows.{isTaken, partnerNumbers, directions, positions, observationAt, partnersOf, fileOf, fileText, fileRows, observationBy}
 use Rattle.reports.specs.CarryLaws.{rowAt, rows-sum}
-use Rattle.reports.specs.FormLaws.{partners-valid, file-valid}
-use Rattle.reports.specs.EmissionLaws.{rows-most, partners-few}
+use Rattle.reports.specs.FormLaws.{partners-few, partners-valid, file-valid}
+use Rattle.filing.specs.VolumesLaws.{volumes-most}
 use Rattle.reports.specs.Calls.{textOf, fileRefusal, fileSays, fileAnswer}
 use Rattle.reports.specs.CallsLaws.{kind-is, InForm, file-in-form}
 use Rattle.reports.specs.Demand3.{isFile}
@@ -229,7 +229,7 @@ module _ (book : Book) (kind : Kind) (receiver : ℕ) where
       ∙ sum-swap naturals (λ n e. sumOf (λ d. sumOf (λ p. hits n d p e) (positions book)) directions) (partnerNumbers book kind receiver) (book .engagements)
 
   pub rows-few : Sound book → Registered book → length (fileRows book kind receiver) ≤ rowCount book
-  unfolding rowCount fileRows observationAt
+  unfolding rowCount fileRows observationAt observationBy seriesWatts
   rows-few s r =
       let counted : sumOf one (fileRows book kind receiver) ≡ length (fileRows book kind receiver) = sum-ones one (fileRows book kind receiver) (rows-ones kind (partnersOf book kind receiver) (partners-valid book s r kind receiver)) in
       let parted : sumOf one (fileRows book kind receiver) ≡ sumOf (λ n. sumOf (λ d. sumOf (λ p. one (rowAt book kind receiver n d p)) (positions book)) directions) (partnerNumbers book kind receiver)
@@ -268,7 +268,7 @@ module _ (bytes : List ℕ) (kind : Kind) (receiver : ℕ) (id moment : List ℕ
 
   -- so a buffer of `fileMost` bytes fits any file
   pub file-fits : bookRefusal bytes ≡ none → InForm (bookOf bytes) kind receiver id moment → length (fileText (bookOf bytes) kind receiver id moment) ≤ fileMost
-  file-fits e f = omega (arith, file-by-rows e f, rows-most bytes e)
+  file-fits e f = omega (arith, file-by-rows e f, volumes-most bytes e)
 
 -- of any file call that is accepted
 module _ (bytes : List ℕ) (number receiver : ℕ) (id moment : List ℕ) (rowsLent fileLent : ℕ) where

@@ -18,8 +18,8 @@ use Rattle.message.specs.Calls.{Verdict, accepted, refused, kindNumbered, facts
 use Rattle.message.specs.declared.WriteAnswer.{WriteAnswer}
 use Rattle.writer.specs.WriteCalls.{writeVerdict, WriteCalled}
 use Rattle.reports.specs.Calls.{sheetRefusal, sheetSays, sheetAnswer, textOf, fileRefusal, fileSays, fileAnswer}
-use Rattle.reports.specs.EmissionLaws.{rows-most}
-use Rattle.reports.specs.SeriesSumsWrittenLaws.{month-most}
+use Rattle.filing.specs.VolumesLaws.{volumes-most}
+use Rattle.filing.specs.SeriesSumsWrittenLaws.{month-most}
 use Rattle.toe_c.specs.Codes.{Tells, VerdictTells, settleCode, sheetCode, fileCode, readCode, writeCode, codedVerdict}
 use Rattle.toe_c.specs.SmallLaws.{AllSmall, VerdictSmall, RowsRoom, decoded, settling-small, sheet-judged, file-judged, verdict-written, read-judged, facts-judged}
 use Rattle.toe_c.specs.FileSizeLaws.{first-none, file-few}
@@ -32,7 +32,7 @@ settled-tells (some r) count h k = decoded (r .number) (r .item) h
 
 rows-few : (bytes : List ℕ) (lent : ℕ) → settlingRefusal bytes lent ≡ none → rowCount (bookOf bytes) < 2 ^ 63
 unfolding settlingRefusal
-rows-few bytes lent e = omega (arith, rows-most bytes (first-none (bookRefusal bytes) _ e))
+rows-few bytes lent e = omega (arith, volumes-most bytes (first-none (bookRefusal bytes) _ e))
 
 pub settle-told : (bytes : List ℕ) (lent code : ℕ) → code ≡ settleCode (answerBy (settlingRefusal bytes lent) (rowCount (bookOf bytes))) → Tells (settlingRefusal bytes lent) code
 settle-told bytes lent code e =

@@ -74,7 +74,7 @@ pub extern "C" fn toe_settle(book: &[u8], rows: &mut [i64]) -> u64
 pub extern "C" fn toe_sheet(book: &[u8], party: u16, sums: &mut [i64]) -> u64
     ensures { λ r. ⌜ SheetCoded (now (book .entry)) party (now (sums .entry)) (now (sums .exit)) r ⌝ }
 {
-    sheet_code(reports::sheet::sheet(book, party, sums))
+    sheet_code(filing::sheet::sheet(book, party, sums))
 }
 
 // A receiver's file of a book, and the book's settlement rows; answers how many bytes.
@@ -90,7 +90,7 @@ pub extern "C" fn toe_file(
 ) -> u64
     ensures { λ r. ⌜ FileCoded (now (book .entry)) kind receiver (now (id .entry)) (now (moment .entry)) (now (rows .entry)) (now (rows .exit)) (now (file .entry)) (now (file .exit)) r ⌝ }
 {
-    file_code(reports::file::file(book, kind, receiver, id, moment, rows, file))
+    file_code(filing::file::file(book, kind, receiver, id, moment, rows, file))
 }
 
 fn kind_number(kind: Kind) -> u64

@@ -120,7 +120,7 @@ fn emit_partner(
 }
 
 // The partners of n rows.
-fn emit_partners(
+pub fn emit_partners(
     out: &mut [u8],
     m: Mark,
     kind: Kind,

@@ -3,7 +3,7 @@ use mathlib.Core.Path.{_≡_, sym, ap, _∙_}
 use Prim.Native.Nat.{ℕ, _+_, _*_, _-_, _≤_}
 use Rattle.book.specs.declared.Engagement.{Engagement}
 use Rattle.book.specs.Engagements.{engagementAt}
-use Rattle.settlement.specs.SettlingLaws.{rowCountTo, count-none, count-more, count-all}
+use Rattle.settlement.specs.PartsLaws.{rowCountTo, count-none, count-more, count-all}
 use borrow.Author.Needs.{needs}
 use Rattle.settlement.proofs.settle.count_rows.Statement.{statement}
 use Rattle.settlement.proofs.settle.count_rows.Tie as tie

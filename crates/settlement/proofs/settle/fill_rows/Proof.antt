@@ -7,21 +7,23 @@ use lib.ListN.{length}
 use lib.Seq.{sets, length-sets}
 use Rattle.book.specs.Engagements.{engagementAt}
 use Rattle.volumes.specs.Settlement.{rowWidth, rowsOf}
+use Rattle.volumes.specs.SettlementLaws.{rowsOf-length}
 use Rattle.settlement.specs.Sections.{bookIn}
-use Rattle.settlement.specs.SettlingLaws.{rowCountTo, count-none, count-more, rowsTo, filled-none, filled-more, filled-all, count-most, not-refused}
+use Rattle.settlement.specs.PartsLaws.{rowCountTo, count-none, count-more, count-most, partsTo, parts-none, parts-more}
+use Rattle.settlement.specs.SettlingLaws.{rows-all, not-refused}
 use borrow.Author.Needs.{needs}
 use native.Mathlib.Omega.{arith}
 use Rattle.settlement.proofs.settle.fill_rows.Statement.{statement}
 use Rattle.settlement.proofs.settle.fill_rows.Tie as tie
 
 abbrev Inv-loop : tie.InvT-loop
-Inv-loop c calendar pairs register readings engagements out₀ n at₀ i₀ out at i = (i ≤ n) × (at ≡ rowWidth * rowCountTo engagements i) × (out ≡ sets out₀ 0 (rowsTo (bookIn c calendar pairs register readings engagements) i))
+Inv-loop c calendar pairs register readings engagements out₀ n at₀ i₀ out at i = (i ≤ n) × (at ≡ rowWidth * rowCountTo engagements i) × (out ≡ sets out₀ 0 (partsTo (rowsOf (bookIn c calendar pairs register readings engagements)) engagements i))
 
 abbrev μ-loop : tie.MeasureT-loop
 μ-loop c calendar pairs register readings engagements out₀ n at₀ i₀ out at i = n - i
 
 loop-holds : tie.Need-loop-holds Inv-loop μ-loop
-loop-holds c = (search needs, omega (arith, count-none (c .before .before .before .before .before .args .engagements .now)), sym (filled-none _ _))
+loop-holds c = (search needs, omega (arith, count-none (c .before .before .before .before .before .args .engagements .now)), sym (parts-none _ _ _))
 
 -- the rows lent have room for one engagement's more
 room : (c : tie.In-loop Inv-loop μ-loop) → let s = c .before .before .before .before .before .before .before in
@@ -31,7 +33,7 @@ room c =
     let s = c .before .before .before .before .before .before .before in
     let l = c .before .loop in
     let engagements = s .args .engagements .now in
-    let same = ap length (l .inv .2) ∙ length-sets (s .args .out .now) 0 (rowsTo (bookIn (s .args .c) (s .args .calendar .now) (s .args .pairs .now) (s .args .register .now) (s .args .readings .now) (s .args .engagements .now)) (l .i)) in
+    let same = ap length (l .inv .2) ∙ length-sets (s .args .out .now) 0 (partsTo (rowsOf (bookIn (s .args .c) (s .args .calendar .now) (s .args .pairs .now) (s .args .register .now) (s .args .readings .now) (s .args .engagements .now))) engagements (l .i)) in
     omega (arith, same, l .inv .1, count-more engagements (l .i) (search needs), count-most engagements (l .i + 1), s .pre .2)
 
 fill-row-requires : tie.Need-fill-row-requires Inv-loop μ-loop
@@ -56,7 +58,7 @@ loop-again c =
       omega (arith, r .0, l .inv .1, more),
       r .1
           ∙ ap (λ (o : List ℤ). sets o (l .at) (rowsOf book (engagementAt (s .args .engagements .now) (l .i)))) (l .inv .2)
-          ∙ filled-more (s .pre .0) (s .args .out .now) (l .at) (l .i) (search needs) (l .inv .1),
+          ∙ parts-more (rowsOf book) (s .args .engagements .now) rowWidth (rowsOf-length book) (s .args .out .now) (l .at) (l .i) (search needs) (l .inv .1),
     )
 
 same-length : tie.Need-same-length Inv-loop μ-loop
@@ -66,7 +68,7 @@ returns : tie.Need-returns Inv-loop μ-loop
 returns c =
     let s = c .before .before .before .before .before .before .before in
     let l = c .before .loop in
-    l .inv .2 ∙ ap (sets (s .args .out .now) 0) (filled-all (s .pre .0) (l .i) (search needs))
+    l .inv .2 ∙ ap (sets (s .args .out .now) 0) (rows-all _ _ _ _ _ _ (l .i) (search needs))
 
 pub fill-rows-spec : {M : Type 1} → statement M
 fill-rows-spec =

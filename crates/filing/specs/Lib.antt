@@ -1,0 +1,14 @@
+pub mod SheetLaws
+pub mod ScanLaws
+pub mod FileCallLaws
+pub mod Volumes
+pub mod VolumesLaws
+pub mod SeriesSums
+pub mod Partners
+pub mod PartnersLaws
+pub mod SeriesSumsLaws
+pub mod SeriesSumsWritten
+pub mod SeriesSumsWrittenLaws
+pub mod PartnerRows
+pub mod LayingLaws
+pub mod PartnerRowsLaws

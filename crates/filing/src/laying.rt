@@ -1,0 +1,133 @@
+// A receiver's file laid partner by partner: the rows filled, then laid by the writer's own emitter.
+use crate::filling::fill_partner;
+use crate::partners::NO_PARTNER;
+use crate::partners::next_partner;
+use formats::Mark;
+use kinds::Kind;
+use writer::emitting::emit_file_end;
+use writer::emitting::emit_file_head;
+ghost use mathlib.Core.Path.{_≡_};
+ghost use mathlib.Core.Bool.{true, false, cond};
+ghost use mathlib.Core.List.{flatMap, List·Memᴰ};
+ghost use Prim.Native.Nat.{_≤_};
+ghost use lib.Dec.{ltb};
+ghost use lib.ListN.{length};
+ghost use Rattle.formats.specs.declared.Mark.the-variants.{At};
+ghost use Rattle.book.specs.Book.{bookOf};
+ghost use Rattle.message.specs.Bytes.{partnerBytes};
+ghost use Rattle.writer.specs.WriterLaid.{Laid, Stands};
+ghost use Rattle.reports.specs.FileRows.{partnerNumbers, partnersOf, fileText};
+ghost use Rattle.filing.specs.SeriesSums.{DeliveredIn};
+ghost use Rattle.filing.specs.Partners.{partnerIf};
+
+// What is laid: the place behind it, and how many partners it has.
+pub struct Counted {
+    pub mark: Mark,
+    pub count: u64,
+}
+
+// 1 for numbers that are filled.
+fn one(end: usize) -> u64
+    ensures { λ r. ⌜ (r ≡ cond (ltb 0 end) 1 0) × (r ≤ 1) ⌝ }
+{
+    if end == 0 {
+        return 0;
+    }
+    1
+}
+
+// A partner, if it has a series: its rows filled, then laid by the writer's emitter.
+pub fn emit_partner(
+    out: &mut [u8],
+    m: Mark,
+    book: &[u8],
+    volumes: &[u64],
+    kind: Kind,
+    receiver: u64,
+    partner: u64,
+    rows: &mut [u64],
+    live: bool,
+) -> Counted
+    requires { ⌜ DeliveredIn (now book) (now volumes) × (71424 ≤ length (now rows)) × List·Memᴰ partner (partnerNumbers (bookOf (now book)) kind receiver) × Stands (length (now out)) m ⌝ }
+    ensures { λ r. ⌜ Laid live (now (out .entry)) m (flatMap (partnerBytes kind) (partnerIf (bookOf (now (book .entry))) kind receiver partner)) (now (out .exit)) (r .mark) × (r .count ≡ length (partnerIf (bookOf (now (book .entry))) kind receiver partner)) × (r .count ≤ 1) ⌝ }
+{
+    let c = book::header::calendar_of(book);
+    let end = fill_partner(book, volumes, kind, receiver, partner, rows);
+    let mark = writer::writing::emit_partners(out, m, kind, rows, end / 6, c.year, c.month, live);
+    let count = one(end);
+    Counted { mark, count }
+}
+
+// All partners of a receiver, by rising number: laid, and counted.
+pub fn emit_partners(
+    out: &mut [u8],
+    start: Mark,
+    book: &[u8],
+    volumes: &[u64],
+    kind: Kind,
+    receiver: u64,
+    rows: &mut [u64],
+    live: bool,
+) -> Counted
+    requires { ⌜ DeliveredIn (now book) (now volumes) × (71424 ≤ length (now rows)) × Stands (length (now out)) start ⌝ }
+    ensures { λ r. ⌜ Laid live (now (out .entry)) start (flatMap (partnerBytes kind) (partnersOf (bookOf (now (book .entry))) kind receiver)) (now (out .exit)) (r .mark) × (r .count ≡ length (partnersOf (bookOf (now (book .entry))) kind receiver)) ⌝ }
+{
+    let register = settlement::sections::section(book, 2);
+    let mut mark = start;
+    let mut count: u64 = 0;
+    let mut low: u64 = 0;
+    let mut next = next_partner(register, kind, receiver, low);
+    while next < NO_PARTNER {
+        let t = emit_partner(out, mark, book, volumes, kind, receiver, next, rows, live);
+        mark = t.mark;
+        count += t.count;
+        low = next + 1;
+        next = next_partner(register, kind, receiver, low);
+    }
+    Counted { mark, count }
+}
+
+// Measures a receiver's file: the place behind it, and how many partners it has. The partners come first: only lengths count here.
+pub fn measure_file(
+    out: &mut [u8],
+    book: &[u8],
+    volumes: &[u64],
+    kind: Kind,
+    receiver: u64,
+    id: &[u8],
+    moment: &[u8],
+    rows: &mut [u64],
+) -> Counted
+    requires { ⌜ DeliveredIn (now book) (now volumes) × (71424 ≤ length (now rows)) ⌝ }
+    ensures { λ r. ⌜ Laid false (now (out .entry)) (At 0) (fileText (bookOf (now (book .entry))) kind receiver (now (id .entry)) (now (moment .entry))) (now (out .exit)) (r .mark) × (r .count ≡ length (partnersOf (bookOf (now (book .entry))) kind receiver)) ⌝ }
+{
+    let start = Mark::At(0);
+    let t = emit_partners(out, start, book, volumes, kind, receiver, rows, false);
+    let behind = t.mark;
+    let count = t.count;
+    let a = emit_file_head(out, behind, kind, id, moment, receiver, count, false);
+    let mark = emit_file_end(out, a, kind, false);
+    Counted { mark, count }
+}
+
+// Writes it, the number of its partners being known.
+pub fn write_measured(
+    out: &mut [u8],
+    book: &[u8],
+    volumes: &[u64],
+    kind: Kind,
+    receiver: u64,
+    id: &[u8],
+    moment: &[u8],
+    count: u64,
+    rows: &mut [u64],
+) -> Mark
+    requires { ⌜ DeliveredIn (now book) (now volumes) × (71424 ≤ length (now rows)) × (count ≡ length (partnersOf (bookOf (now book)) kind receiver)) ⌝ }
+    ensures { λ r. ⌜ Laid true (now (out .entry)) (At 0) (fileText (bookOf (now (book .entry))) kind receiver (now (id .entry)) (now (moment .entry))) (now (out .exit)) r ⌝ }
+{
+    let start = Mark::At(0);
+    let a = emit_file_head(out, start, kind, id, moment, receiver, count, true);
+    let t = emit_partners(out, a, book, volumes, kind, receiver, rows, true);
+    let behind = t.mark;
+    emit_file_end(out, behind, kind, true)
+}

@@ -1,0 +1,82 @@
+// The receiver of a file and its partners, by the register.
+use book::Point;
+use kinds::Kind;
+ghost use mathlib.Core.Path.{_≡_};
+ghost use mathlib.Core.List.{map};
+ghost use Rattle.volumes.specs.Series.{Told, receiverOf};
+ghost use Rattle.message.specs.Calls.{kindNumbered};
+ghost use Rattle.reports.specs.FileRows.{isTaken};
+ghost use Rattle.reports.specs.Calls.{stands};
+ghost use Rattle.filing.specs.Partners.{kindAsked, pointsIn, partnerColumn, Next};
+ghost use Rattle.filing.specs.PartnersLaws.{nearer};
+
+// Partner numbers are company numbers and EANs: all are below this one.
+pub const NO_PARTNER: u64 = 1000000000000000000;
+
+// The kind that a call asks for, if there is one.
+pub enum Asked {
+    Of(Kind),
+    Unknown,
+}
+
+pub fn kind_of(kind: u8) -> Asked
+    ensures { λ r. ⌜ kindAsked r ≡ kindNumbered kind ⌝ }
+{
+    match kind {
+        1 => Asked::Of(Kind::Toe01),
+        2 => Asked::Of(Kind::Toe02),
+        3 => Asked::Of(Kind::Toe03),
+        _ => Asked::Unknown,
+    }
+}
+
+// Whether a receiver is in its role in the register.
+pub fn in_role(register: &[u8], kind: Kind, receiver: u64) -> bool
+    ensures { λ r. ⌜ r ≡ stands receiver (map (receiverOf kind) (pointsIn (now (register .entry)))) ⌝ }
+{
+    let n = register.len() / 64;
+    let mut i = 0;
+    while i < n {
+        let point = book::register::point_at(register, i);
+        if crate::series::receiver_of(kind, point) == receiver {
+            return true;
+        }
+        i += 1;
+    }
+    false
+}
+
+// Whether a kind's files take the point, and it has the receiver.
+fn is_taken(kind: Kind, receiver: u64, point: Point) -> bool
+    requires { ⌜ Told point ⌝ }
+    ensures { λ r. ⌜ r ≡ isTaken kind receiver point ⌝ }
+{
+    let takers = point.takers;
+    crate::series::takes(kind, takers) & (crate::series::receiver_of(kind, point) == receiver)
+}
+
+// The nearer of two: a taken point's partner that is not below `low`, if it is below `next`.
+fn nearer(taken: bool, low: u64, partner: u64, next: u64) -> u64
+    ensures { λ r. ⌜ r ≡ nearer taken low partner next ⌝ }
+{
+    if taken & ((low <= partner) & (partner < next)) {
+        return partner;
+    }
+    next
+}
+
+// The least partner number from `low` on of the receiver's taken points, or one that no partner has.
+pub fn next_partner(register: &[u8], kind: Kind, receiver: u64, low: u64) -> u64
+    ensures { λ r. ⌜ Next low (partnerColumn (pointsIn (now (register .entry))) kind receiver) r ⌝ }
+{
+    let n = register.len() / 64;
+    let mut next: u64 = NO_PARTNER;
+    let mut i = 0;
+    while i < n {
+        let point = book::register::point_at(register, i);
+        let partner = crate::series::partner_of(kind, point);
+        next = nearer(is_taken(kind, receiver, point), low, partner, next);
+        i += 1;
+    }
+    next
+}
