@@ -22,7 +22,7 @@ use Rattle.volumes.specs.SoundLaws.{not-refused}
 use Rattle.volumes.specs.Series.{Kind}
 use Rattle.message.specs.Valid.{isMoment}
 use Rattle.message.specs.Calls.{kindNumbered}
-use Rattle.writer.specs.WriterLaid.{Laid, laid-over, laid-no-room}
+use Rattle.emitter.specs.Laid.{Laid, laid-over, laid-no-room}
 use Rattle.reports.specs.declared.FileAnswer.{FileAnswer}
 use Rattle.reports.specs.declared.FileAnswer.the-variants.{File, Refused}
 use Rattle.reports.specs.FileRows.{fileText}

@@ -14,8 +14,8 @@ use Rattle.book.specs.Book.{Book, bookOf}
 use Rattle.volumes.specs.QuartersLaws.{flatMap-append}
 use Rattle.volumes.specs.Series.{Kind}
 use Rattle.message.specs.Bytes.{partnerBytes}
-use Rattle.writer.specs.WriterParts.{fileHead, fileEnd}
-use Rattle.writer.specs.WriterPartsLaws.{file-parts}
+use Rattle.emitter.specs.Parts.{fileHead, fileEnd}
+use Rattle.emitter.specs.PartsLaws.{file-parts}
 use Rattle.reports.specs.FileRows.{partnersOf, fileOf, fileText}
 use Rattle.reports.specs.Registered.{Registered}
 use Rattle.filing.specs.Partners.{pointsIn, partnerColumn, noPartner, Next, partnerIf, partnersFrom}

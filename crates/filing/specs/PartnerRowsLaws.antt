@@ -16,8 +16,8 @@ use Rattle.formats.specs.declared.Mark.{Mark}
 use Rattle.message.specs.Keys.{numberKeys}
 use Rattle.message.specs.Group.{group, first-group}
 use Rattle.message.specs.Rows.{partnerOf as regroupedOne}
-use Rattle.writer.specs.WriterLaid.{Laid, ahead}
-use Rattle.writer.specs.WriterParts.{fileHead, fileEnd}
+use Rattle.emitter.specs.Laid.{Laid, ahead}
+use Rattle.emitter.specs.Parts.{fileHead, fileEnd}
 use Rattle.filing.specs.LayingLaws.{file-bytes}
 use Rattle.reports.specs.Ascending.{ascending}
 use Rattle.reports.specs.AscendingLaws.{ascending-once}

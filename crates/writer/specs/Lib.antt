@@ -9,9 +9,6 @@ pub mod CaseFWritten
 pub mod WriterSteps
 pub mod WriterRuns
 pub mod WriterRunsLaws
-pub mod WriterLaid
-pub mod WriterParts
-pub mod WriterPartsLaws
 pub mod WriterContents
 pub mod WriterContentsLaws
 pub mod WriterCalled

@@ -20,8 +20,8 @@ use Rattle.message.specs.FileLaws.{messageBytes}
 use Rattle.writer.specs.WriterOrder.{every, ordered}
 use Rattle.writer.specs.WriterRows.{isObservation, isPair, isNumber, isRow, rowBefore, ofMonth, isRows, rowsMessage, rowAt, Paired}
 use Rattle.writer.specs.WriterRuns.{PartnerRun, PairRun}
-use Rattle.writer.specs.WriterParts.{fileHead, fileEnd}
-use Rattle.writer.specs.WriterPartsLaws.{file-parts}
+use Rattle.emitter.specs.Parts.{fileHead, fileEnd}
+use Rattle.emitter.specs.PartsLaws.{file-parts}
 use Rattle.writer.specs.WriterContents.{observationsIn, seriesAt, seriesIn, partnerAt, partnersIn, Writable}
 
 -- ---- observations

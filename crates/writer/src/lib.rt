@@ -1,7 +1,5 @@
 // The writer of a file.
-pub mod emitting;
 mod judging;
-mod laying;
 pub mod round_trip;
 mod runs;
 pub mod writing;

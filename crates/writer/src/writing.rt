@@ -1,16 +1,16 @@
 // Writing a file from rows.
-use crate::emitting::emit_file_end;
-use crate::emitting::emit_file_head;
-use crate::emitting::emit_observation;
-use crate::emitting::emit_partner_end;
-use crate::emitting::emit_partner_head;
-use crate::emitting::emit_series_end;
-use crate::emitting::emit_series_head;
 use crate::judging::judge_rows;
 use crate::runs::count_partners;
 use crate::runs::count_series;
 use crate::runs::pair_run;
 use crate::runs::partner_run;
+use emitter::parts::emit_file_end;
+use emitter::parts::emit_file_head;
+use emitter::parts::emit_observation;
+use emitter::parts::emit_partner_end;
+use emitter::parts::emit_partner_head;
+use emitter::parts::emit_series_end;
+use emitter::parts::emit_series_head;
 use formats::Mark;
 use kinds::Kind;
 use message::WriteAnswer;
@@ -28,7 +28,7 @@ ghost use Rattle.message.specs.Calls.{kindNumber};
 ghost use Rattle.writer.specs.WriterRows.{isRows, rowsMessage};
 ghost use Rattle.writer.specs.WriteCalls.{WriteCalled};
 ghost use Rattle.writer.specs.WriterContents.{observationsIn, seriesAt, seriesIn, partnerAt, partnersIn, Writable};
-ghost use Rattle.writer.specs.WriterLaid.{Laid, Stands};
+ghost use Rattle.emitter.specs.Laid.{Laid, Stands};
 
 // The observations of n rows.
 fn emit_observations(out: &mut [u8], m: Mark, rows: &[u64], at: usize, n: usize, live: bool) -> Mark

@@ -9,7 +9,7 @@ use Rattle.book.specs.Book.{bookOf}
 use Rattle.volumes.specs.SettlementLaws.{passing}
 use Rattle.message.specs.Bytes.{partnerBytes}
 use Rattle.message.specs.Rows.{rowsFrom}
-use Rattle.writer.specs.WriterLaid.{laid-is}
+use Rattle.emitter.specs.Laid.{laid-is}
 use Rattle.writer.specs.WriterContents.{partnersIn}
 use Rattle.filing.specs.SeriesSumsLaws.{parts-of}
 use Rattle.filing.specs.SeriesSumsWrittenLaws.{period-of, Opened, opened}

@@ -7,7 +7,7 @@ use lib.ListN.{length}
 use Rattle.book.specs.Book.{bookOf}
 use Rattle.volumes.specs.SettlementLaws.{passing}
 use Rattle.message.specs.Bytes.{partnerBytes}
-use Rattle.writer.specs.WriterLaid.{Laying, laid-stands, laying-none, laying-then, laying-all}
+use Rattle.emitter.specs.Laid.{Laying, laid-stands, laying-none, laying-then, laying-all}
 use Rattle.reports.specs.FileRows.{partnersOf}
 use Rattle.reports.specs.RegisteredLaws.{registered}
 use Rattle.filing.specs.Partners.{partnerColumn, noPartner, Next, partnersFrom}

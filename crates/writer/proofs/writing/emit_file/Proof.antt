@@ -7,8 +7,8 @@ use Rattle.message.specs.FileLaws.{messageBytes}
 use Rattle.writer.specs.WriterContentsLaws.{partners-count, message-parts, rows-writable}
 use Rattle.writer.specs.WriterRows.{rowsMessage}
 use Rattle.writer.specs.WriterContents.{partnersIn}
-use Rattle.writer.specs.WriterParts.{fileHead}
-use Rattle.writer.specs.WriterLaid.{laid-then, laid-is, laid-stands}
+use Rattle.emitter.specs.Parts.{fileHead}
+use Rattle.emitter.specs.Laid.{laid-then, laid-is, laid-stands}
 use Rattle.writer.proofs.writing.emit_file.Statement.{statement}
 use Rattle.writer.proofs.writing.emit_file.Tie as tie
 

@@ -6,9 +6,9 @@ use borrow.Author.Needs.{needs}
 use Rattle.message.specs.Bytes.{supplyOf, partnerBytes}
 use Rattle.writer.specs.WriterContentsLaws.{series-count, series-supply, writable-first}
 use Rattle.writer.specs.WriterContents.{partnerAt}
-use Rattle.writer.specs.WriterParts.{partnerHead}
-use Rattle.writer.specs.WriterPartsLaws.{partner-parts}
-use Rattle.writer.specs.WriterLaid.{laid-then, laid-is, laid-stands}
+use Rattle.emitter.specs.Parts.{partnerHead}
+use Rattle.emitter.specs.PartsLaws.{partner-parts}
+use Rattle.emitter.specs.Laid.{laid-then, laid-is, laid-stands}
 use Rattle.writer.proofs.writing.emit_partner.Statement.{statement}
 use Rattle.writer.proofs.writing.emit_partner.Tie as tie
 

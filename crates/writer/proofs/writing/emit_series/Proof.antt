@@ -6,9 +6,9 @@ use borrow.Author.Needs.{needs}
 use Rattle.message.specs.Bytes.{seriesBytes}
 use Rattle.writer.specs.WriterContentsLaws.{writable-first, observations-length}
 use Rattle.writer.specs.WriterContents.{seriesAt}
-use Rattle.writer.specs.WriterParts.{seriesHead}
-use Rattle.writer.specs.WriterPartsLaws.{series-parts}
-use Rattle.writer.specs.WriterLaid.{laid-then, laid-is, laid-stands}
+use Rattle.emitter.specs.Parts.{seriesHead}
+use Rattle.emitter.specs.PartsLaws.{series-parts}
+use Rattle.emitter.specs.Laid.{laid-then, laid-is, laid-stands}
 use Rattle.writer.proofs.writing.emit_series.Statement.{statement}
 use Rattle.writer.proofs.writing.emit_series.Tie as tie
 

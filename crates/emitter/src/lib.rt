@@ -1,0 +1,3 @@
+// A file's bytes, laid part by part: measured, or written too.
+pub mod laying;
+pub mod parts;
