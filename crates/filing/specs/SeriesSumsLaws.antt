@@ -36,7 +36,7 @@ use Rattle.volumes.specs.Sound.{Placed}
 use Rattle.volumes.specs.SoundLaws.{sound}
 use Rattle.volumes.specs.WidthsLaws.{most, delivered-most}
 use Rattle.settlement.specs.Sections.{engagementCountIn, engagementsIn, rowCountIn}
-use Rattle.settlement.specs.SectionsLaws.{rows-counted, same-book, sectioned}
+use Rattle.settlement.specs.SectionsLaws.{rows-counted, same-book, opened}
 use Rattle.settlement.specs.EngagedLaws.{getD-made, getD-mem, engaged}
 use Rattle.settlement.specs.PartsLaws.{rowCountTo, count-more, count-most}
 use Rattle.baseline.specs.BasesLaws.{next-cell}
@@ -353,7 +353,7 @@ pub parts-of : (bytes volumes : List ℕ) → DeliveredIn bytes volumes → Part
 unfolding bookOf engagementsIn
 parts-of bytes volumes h =
     let passed = passing bytes (h .accepted) .passed in
-    let s = sectioned bytes passed in
+    let s = opened bytes passed in
     record {
       sound = sound bytes passed;
       when = refl;

@@ -75,14 +75,14 @@ pub period-of : (c : Calendar) → Ranged c → IsPeriod (c .year) (c .month)
 period-of c h = record { from = h .from; to = h .to; january = h .january; december = h .december }
 
 -- what a book that refusals 1 to 9 pass says of its calendar
-pub record Opened (bytes : List ℕ) : Type 0 where
+pub record Dated (bytes : List ℕ) : Type 0 where
   pub long : 56 ≤ length bytes
   pub ranged : Ranged (calendarOf bytes)
   pub own : calendarOf bytes ≡ bookOf bytes .calendar
   pub few : monthQuarters (bookOf bytes .calendar) ≤ 2976
 
-pub opened : (bytes volumes : List ℕ) → DeliveredIn bytes volumes → Opened bytes
-opened bytes volumes h =
+pub dated : (bytes volumes : List ℕ) → DeliveredIn bytes volumes → Dated bytes
+dated bytes volumes h =
     let p = parts-of bytes volumes h in
     let r = rw (p .when) at (p .sound .ranged) in
     record { long = bytes-long bytes (passing bytes (h .accepted) .passed); ranged = r; own = sym (p .when); few = rw (p .when) (month-most (calendarOf bytes) r) }

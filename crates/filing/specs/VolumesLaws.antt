@@ -15,7 +15,6 @@ use mir.Val.{Fits, SFits}
 use Rattle.integers.specs.Ranges.{range, length-range, range-more}
 use Rattle.integers.specs.Sums.{sumOf}
 use Rattle.integers.specs.Z.{up, dn, inside}
-use Rattle.book.specs.declared.Calendar.{Calendar}
 use Rattle.book.specs.declared.Engagement.{Engagement}
 use Rattle.book.specs.Book.{Book, bookOf}
 use Rattle.volumes.specs.Quarters.{quarterHours}
@@ -24,7 +23,7 @@ use Rattle.volumes.specs.Settlement.{delivered, rowWidth, row, rowsOf, rowCount
 use Rattle.volumes.specs.SettlementLaws.{row-length, rowsOf-length, passing}
 use Rattle.volumes.specs.SoundLaws.{sound}
 use Rattle.volumes.specs.RunningLaws.{rows-few}
-use Rattle.settlement.specs.Sections.{engagementCountIn, bookIn}
+use Rattle.settlement.specs.Sections.{engagementCountIn, bookWith}
 use Rattle.settlement.specs.EngagedLaws.{getD-made}
 use Rattle.settlement.specs.StoresLaws.{sets-append}
 use Rattle.settlement.specs.PartsLaws.{partsTo, parts-all, parts-length}
@@ -95,10 +94,9 @@ module _ (book : Book) where
       ∙ getD-made (delivered book (getD es i e)) (getD es i e .count) k 0 l)
 
 -- the volumes that are stored one engagement after the other are the book's
-pub volumes-all : (c : Calendar) (calendar pairs register readings engagements : List ℕ) (i : ℕ) → engagementCountIn engagements ≤ i
-    → partsTo (volumesOf (bookIn c calendar pairs register readings engagements)) engagements i ≡ bookVolumes (bookIn c calendar pairs register readings engagements)
-unfolding bookVolumes bookIn
-volumes-all c calendar pairs register readings engagements i h = parts-all (volumesOf (bookIn c calendar pairs register readings engagements)) engagements i h
+pub volumes-all : (bytes engagements : List ℕ) (i : ℕ) → engagementCountIn engagements ≤ i → partsTo (volumesOf (bookWith bytes engagements)) engagements i ≡ bookVolumes (bookWith bytes engagements)
+unfolding bookVolumes bookWith
+volumes-all bytes engagements i h = parts-all (volumesOf (bookWith bytes engagements)) engagements i h
 
 -- an accepted book has 512 engagements of 96 quarter-hours at most
 pub volumes-most : (bytes : List ℕ) → bookRefusal bytes ≡ none → rowCount (bookOf bytes) ≤ 49152

@@ -9,10 +9,11 @@ ghost use lib.ListN.{length, getD};
 ghost use lib.Seq.{sets};
 ghost use Rattle.integers.specs.Ranges.{range};
 ghost use Rattle.integers.specs.Z.{up, dn};
+ghost use Rattle.book.specs.Header.{calendarOf};
 ghost use Rattle.book.specs.Engagements.{engagementAt};
 ghost use Rattle.book.specs.Book.{bookOf};
 ghost use Rattle.volumes.specs.Settlement.{refusalNumber, settlementRefusal, rowWidth, rowCount, bookRefusal};
-ghost use Rattle.settlement.specs.Sections.{engagementCountIn, rowCountIn, bookIn, Sectioned};
+ghost use Rattle.settlement.specs.Sections.{engagementCountIn, rowCountIn, bookWith, Opened};
 ghost use Rattle.filing.specs.Volumes.{volumesOf, bookVolumes, volumeIn};
 use settlement::rows::ROW_WIDTH;
 
@@ -39,30 +40,17 @@ fn store_volumes(volumes: &mut [u64], at: usize, rows: &[i64], n: usize)
 // The volumes of engagement i, from `at` on; the place after them. 384 numbers hold the rows of a day.
 fn fill_engagement(
     c: Calendar,
-    calendar: &[u8],
-    pairs: &[u8],
-    register: &[u8],
-    readings: &[u8],
+    book: &[u8],
     engagements: &[u8],
     i: usize,
     volumes: &mut [u64],
     at: usize,
 ) -> usize
-    requires { ⌜ Sectioned c (now calendar) (now pairs) (now register) (now readings) (now engagements) × (i < engagementCountIn (now engagements)) × (refusalNumber (bookIn c (now calendar) (now pairs) (now register) (now readings) (now engagements)) (engagementAt (now engagements) i) ≡ none) × (at + engagementAt (now engagements) i .count ≤ length (now volumes)) ⌝ }
-    ensures { λ r. ⌜ (r ≡ at + engagementAt (now (engagements .entry)) i .count) × (now (volumes .exit) ≡ sets (now (volumes .entry)) at (volumesOf (bookIn c (now (calendar .entry)) (now (pairs .entry)) (now (register .entry)) (now (readings .entry)) (now (engagements .entry))) (engagementAt (now (engagements .entry)) i))) ⌝ }
+    requires { ⌜ Opened (now book) (now engagements) × (c ≡ calendarOf (now book)) × (i < engagementCountIn (now engagements)) × (refusalNumber (bookWith (now book) (now engagements)) (engagementAt (now engagements) i) ≡ none) × (at + engagementAt (now engagements) i .count ≤ length (now volumes)) ⌝ }
+    ensures { λ r. ⌜ (r ≡ at + engagementAt (now (engagements .entry)) i .count) × (now (volumes .exit) ≡ sets (now (volumes .entry)) at (volumesOf (bookWith (now (book .entry)) (now (engagements .entry))) (engagementAt (now (engagements .entry)) i))) ⌝ }
 {
     let mut rows = [0i64; 384];
-    settlement::settle::fill_row(
-        c,
-        calendar,
-        pairs,
-        register,
-        readings,
-        engagements,
-        i,
-        &mut rows,
-        0,
-    );
+    settlement::settle::fill_row(c, book, engagements, i, &mut rows, 0);
     let e = book::engagements::engagement_at(engagements, i);
     let n = e.count as usize;
     store_volumes(volumes, at, &rows, n);
@@ -70,33 +58,15 @@ fn fill_engagement(
 }
 
 // The volumes of all engagements, of a book that is not refused.
-fn fill_engagements(
-    c: Calendar,
-    calendar: &[u8],
-    pairs: &[u8],
-    register: &[u8],
-    readings: &[u8],
-    engagements: &[u8],
-    volumes: &mut [u64],
-)
-    requires { ⌜ Sectioned c (now calendar) (now pairs) (now register) (now readings) (now engagements) × (settlementRefusal (bookIn c (now calendar) (now pairs) (now register) (now readings) (now engagements)) ≡ none) × (rowCountIn (now engagements) ≤ length (now volumes)) ⌝ }
-    ensures { λ r. ⌜ now (volumes .exit) ≡ sets (now (volumes .entry)) 0 (bookVolumes (bookIn c (now (calendar .entry)) (now (pairs .entry)) (now (register .entry)) (now (readings .entry)) (now (engagements .entry)))) ⌝ }
+fn fill_engagements(c: Calendar, book: &[u8], engagements: &[u8], volumes: &mut [u64])
+    requires { ⌜ Opened (now book) (now engagements) × (c ≡ calendarOf (now book)) × (settlementRefusal (bookWith (now book) (now engagements)) ≡ none) × (rowCountIn (now engagements) ≤ length (now volumes)) ⌝ }
+    ensures { λ r. ⌜ now (volumes .exit) ≡ sets (now (volumes .entry)) 0 (bookVolumes (bookWith (now (book .entry)) (now (engagements .entry)))) ⌝ }
 {
     let n = engagements.len() / 16;
     let mut at = 0;
     let mut i = 0;
     while i < n {
-        at = fill_engagement(
-            c,
-            calendar,
-            pairs,
-            register,
-            readings,
-            engagements,
-            i,
-            volumes,
-            at,
-        );
+        at = fill_engagement(c, book, engagements, i, volumes, at);
         i += 1;
     }
 }
@@ -106,11 +76,6 @@ pub fn fill_volumes(book: &[u8], volumes: &mut [u64])
     requires { ⌜ (bookRefusal (now book) ≡ none) × (rowCount (bookOf (now book)) ≤ length (now volumes)) ⌝ }
     ensures { λ r. ⌜ now (volumes .exit) ≡ sets (now (volumes .entry)) 0 (bookVolumes (bookOf (now (book .entry)))) ⌝ }
 {
-    let calendar = settlement::sections::section(book, 0);
-    let pairs = settlement::sections::section(book, 1);
-    let register = settlement::sections::section(book, 2);
-    let readings = settlement::sections::section(book, 3);
     let engagements = settlement::sections::section(book, 4);
-    let c = book::header::calendar_of(book);
-    fill_engagements(c, calendar, pairs, register, readings, engagements, volumes);
+    fill_engagements(book::header::calendar_of(book), book, engagements, volumes);
 }

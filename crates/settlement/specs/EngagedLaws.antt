@@ -1,5 +1,5 @@
--- From the sections of a book that passes refusals 1 to 7 each of its engagements can be judged and settled.
-use mathlib.Core.Path.{_≡_, refl, sym, ap, subst, _∙_}
+-- Each engagement of an opened book can be judged and settled from the sections of its bytes.
+use mathlib.Core.Path.{_≡_, refl, ap, _∙_}
 use mathlib.Core.Bool.{Bool, true, false}
 use mathlib.Core.List.{List, [], _∷_, map, List·Memᴰ, List·Memᴰ·head, List·Memᴰ·tail}
 use mathlib.Core.Option.{none}
@@ -13,16 +13,20 @@ use Rattle.integers.specs.Ranges.{range, length-range}
 use Rattle.book.specs.declared.Calendar.{Calendar}
 use Rattle.book.specs.declared.Engagement.{Engagement}
 use Rattle.book.specs.Calendars.{quartersOf}
+use Rattle.book.specs.Header.{calendarOf, pointCount, sectionOf, calendarSection, pairSection, registerSection, readingSection}
+use Rattle.book.specs.HeaderLaws.{headed}
 use Rattle.book.specs.Tables.{categoryAt, xAt, yAt}
 use Rattle.book.specs.Register.{pointAt}
 use Rattle.book.specs.Engagements.{engagementAt}
+use Rattle.book.specs.Book.{Book}
 use Rattle.volumes.specs.Baseline.{pointOf, noPoint, xOf, yOf}
 use Rattle.volumes.specs.Settlement.{refusalNumber, rowRefusal}
 use Rattle.volumes.specs.Sound.{Paired, Placed}
-use Rattle.volumes.specs.SoundLaws.{sound}
+use Rattle.volumes.specs.SoundLaws.{passes}
 use Rattle.volumes.specs.SettlementLaws.{refusalAt, refusal-next, refusal-end}
 use Rattle.baseline.specs.Shown.{Shows, Fits}
-use Rattle.settlement.specs.Sections.{pointCountIn, engagementCountIn, engagementsIn, bookIn, Sectioned}
+use Rattle.settlement.specs.Sections.{engagementCountIn, engagementsIn, bookWith, Opened}
+use Rattle.settlement.specs.SectionsLaws.{all-held}
 
 -- the i-th of the values of a function at numbers in a row; an element is a member
 made-from : {A : Type 0} (f : ℕ → A) (a n i : ℕ) (d : A) → i < n → getD (map f (range a n)) i d ≡ f (a + i)
@@ -39,66 +43,71 @@ getD-mem [] i d h = absurd (omega arith)
 getD-mem (a ∷ l) zero d h = List·Memᴰ·head refl
 getD-mem (a ∷ l) (suc i) d h = List·Memᴰ·tail (getD-mem l i d (omega arith))
 
--- engagement i of the book, all that judging and settling it ask
-pub record Engaged (c : Calendar) (calendar pairs register readings engagements : List ℕ) (i : ℕ) (e : Engagement) : Type 0 where
+-- a calendar and sections that show engagement e of a book: all that judging and settling it ask
+pub record Engaged (c : Calendar) (calendar pairs register readings : List ℕ) (e : Engagement) (book : Book) : Type 0 where
   pub registered : 64 * e .point + 64 ≤ length register
   pub category : 2 * categoryAt calendar (e .day) + 2 ≤ length pairs
   pub paired : Paired (xAt pairs (categoryAt calendar (e .day))) (yAt pairs (categoryAt calendar (e .day)))
-  pub x : xOf (bookIn c calendar pairs register readings engagements) e ≡ xAt pairs (categoryAt calendar (e .day))
-  pub y : yOf (bookIn c calendar pairs register readings engagements) e ≡ yAt pairs (categoryAt calendar (e .day))
+  pub x : xOf book e ≡ xAt pairs (categoryAt calendar (e .day))
+  pub y : yOf book e ≡ yAt pairs (categoryAt calendar (e .day))
   pub fits : Fits c calendar readings e
-  pub shows : Shows c calendar readings (pointAt register (e .point)) e (bookIn c calendar pairs register readings engagements)
+  pub shows : Shows c calendar readings (pointAt register (e .point)) e book
 
-module _ {c : Calendar} {calendar pairs register readings engagements : List ℕ} (s : Sectioned c calendar pairs register readings engagements) where
-  -- the points and the engagements are as many as the lengths say
-  point-count : length (bookIn c calendar pairs register readings engagements .points) ≡ pointCountIn register
-  unfolding bookIn
+module _ {bytes engagements : List ℕ} (s : Opened bytes engagements) where
+  -- the points are as many as the header says, the engagements as the length says
+  point-count : length (bookWith bytes engagements .points) ≡ pointCount bytes
+  unfolding bookWith
   point-count = rw (length-map, length-range)
 
-  pub row-count : length (bookIn c calendar pairs register readings engagements .engagements) ≡ engagementCountIn engagements
-  unfolding bookIn engagementsIn
+  pub row-count : length (bookWith bytes engagements .engagements) ≡ engagementCountIn engagements
+  unfolding bookWith engagementsIn
   row-count = rw (length-map, length-range)
 
-  pub row-named : (i : ℕ) (d : Engagement) → i < engagementCountIn engagements → getD (bookIn c calendar pairs register readings engagements .engagements) i d ≡ engagementAt engagements i
-  unfolding bookIn engagementsIn
+  pub row-named : (i : ℕ) (d : Engagement) → i < engagementCountIn engagements → getD (bookWith bytes engagements .engagements) i d ≡ engagementAt engagements i
+  unfolding bookWith engagementsIn
   row-named i d h = getD-made (engagementAt engagements) (engagementCountIn engagements) i d h
 
-  owner : (e : Engagement) → e .point < pointCountIn register → pointOf (bookIn c calendar pairs register readings engagements) e ≡ pointAt register (e .point)
-  unfolding bookIn pointOf
-  owner e h = getD-made (pointAt register) (pointCountIn register) (e .point) noPoint h
+  owner : (e : Engagement) → e .point < pointCount bytes → pointOf (bookWith bytes engagements) e ≡ pointAt (registerSection bytes) (e .point)
+  unfolding bookWith pointOf
+  owner e h = getD-made (pointAt (registerSection bytes)) (pointCount bytes) (e .point) noPoint h
 
-  pairs-of : (d : ℕ) → Paired (xAt pairs (categoryAt calendar d)) (yAt pairs (categoryAt calendar d))
-  unfolding bookIn
+  pairs-of : (d : ℕ) → Paired (xAt (pairSection bytes) (categoryAt (calendarSection bytes) d)) (yAt (pairSection bytes) (categoryAt (calendarSection bytes) d))
+  unfolding bookWith
   pairs-of d = s .sound .pairs d
 
   -- X is 1 or more, so it stands in the section
-  category-in : (d : ℕ) → 2 * categoryAt calendar d + 2 ≤ length pairs
-  category-in d = go (ltb (2 * categoryAt calendar d) (length pairs)) refl
+  category-in : (d : ℕ) → 2 * categoryAt (calendarSection bytes) d + 2 ≤ length (pairSection bytes)
+  category-in d = go (ltb (2 * categoryAt (calendarSection bytes) d) (length pairs)) refl
     where
-      go : (t : Bool) → ltb (2 * categoryAt calendar d) (length pairs) ≡ t → 2 * categoryAt calendar d + 2 ≤ length pairs
-      go true p = omega (arith, s .four, ltb-true (2 * categoryAt calendar d) (length pairs) p)
-      go false p = absurd (omega (arith, pairs-of d .one, List·getD-eq-default pairs 0 (ltb-false (2 * categoryAt calendar d) (length pairs) p)))
+      pairs : List ℕ
+      pairs = pairSection bytes
 
-  pub member : (i : ℕ) → i < engagementCountIn engagements → List·Memᴰ (engagementAt engagements i) (bookIn c calendar pairs register readings engagements .engagements)
+      go : (t : Bool) → ltb (2 * categoryAt (calendarSection bytes) d) (length pairs) ≡ t → 2 * categoryAt (calendarSection bytes) d + 2 ≤ length pairs
+      go true p = omega (arith, all-held bytes (s .passed) .pairs .size, ltb-true (2 * categoryAt (calendarSection bytes) d) (length pairs) p)
+      go false p = absurd (omega (arith, pairs-of d .one, List·getD-eq-default pairs 0 (ltb-false (2 * categoryAt (calendarSection bytes) d) (length pairs) p)))
+
+  pub member : (i : ℕ) → i < engagementCountIn engagements → List·Memᴰ (engagementAt engagements i) (bookWith bytes engagements .engagements)
   member i h = let d = engagementAt engagements 0 in
-      rw (← row-named i d h) (getD-mem (bookIn c calendar pairs register readings engagements .engagements) i d (omega (arith, row-count)))
+      rw (← row-named i d h) (getD-mem (bookWith bytes engagements .engagements) i d (omega (arith, row-count)))
 
-  placed : (i : ℕ) → i < engagementCountIn engagements → Placed c (pointCountIn register) (engagementAt engagements i)
-  unfolding bookIn
+  placed : (i : ℕ) → i < engagementCountIn engagements → Placed (calendarOf bytes) (pointCount bytes) (engagementAt engagements i)
+  unfolding bookWith
   placed i h = rw (← point-count) (s .sound .engagements (engagementAt engagements i) (member i h))
 
-  readings-room : (p : ℕ) → p < pointCountIn register → 4 * (quartersOf c * p + quartersOf c) ≤ length readings
+  readings-room : (p : ℕ) → p < pointCount bytes → 4 * (quartersOf (calendarOf bytes) * p + quartersOf (calendarOf bytes)) ≤ length (readingSection bytes)
   readings-room p h =
-      let q = quartersOf c in
-      omega (arith, s .metered, mul-le-mul-left {m = suc p} {n = pointCountIn register} (4 * q) (omega arith), mul-assoc 4 q (suc p), mul-suc q p)
+      let q = quartersOf (calendarOf bytes) in
+      omega (arith, all-held bytes (s .passed) .readings .size, mul-le-mul-left {m = suc p} {n = pointCount bytes} (4 * q) (omega arith), mul-assoc 4 q (suc p), mul-suc q p)
 
-  pub engaged : (i : ℕ) → i < engagementCountIn engagements → Engaged c calendar pairs register readings engagements i (engagementAt engagements i)
-  unfolding bookIn
+  pub engaged : (i : ℕ) → i < engagementCountIn engagements
+      → Engaged (calendarOf bytes) (calendarSection bytes) (pairSection bytes) (registerSection bytes) (readingSection bytes) (engagementAt engagements i) (bookWith bytes engagements)
+  unfolding bookWith
   engaged i h =
       let e = engagementAt engagements i in
       let at = placed i h in
+      let held = all-held bytes (s .passed) in
       record {
-        registered = omega (arith, at .point);
+        registered = omega (arith, at .point, held .register .size);
         category = category-in (e .day);
         paired = pairs-of (e .day);
         x = refl;
@@ -106,28 +115,30 @@ module _ {c : Calendar} {calendar pairs register readings engagements : List ℕ
         fits =
             record {
               ranged = s .sound .ranged;
-              days = s .days;
+              days = held .calendar .size;
               day = at .inside;
               quarter = at .ends;
               some = at .some;
               soon = s .sound .terms e (member i h) .notice;
-              few = omega (arith, at .point, s .few);
+              few = omega (arith, at .point, headed bytes (passes bytes (s .passed) .header) .points);
               room = readings-room (e .point) (at .point);
             };
         shows = record { when = refl; category = λ d. refl; reading = λ p k. refl; owner = owner e (at .point) };
       }
 
-  -- the same of an engagement that was read
-  pub engaged-as : (i : ℕ) {e : Engagement} → i < engagementCountIn engagements → e ≡ engagementAt engagements i → Engaged c calendar pairs register readings engagements i e
-  engaged-as i h q = subst (Engaged c calendar pairs register readings engagements i) (sym q) (engaged i h)
+  -- the same of sections that were cut and an engagement that was read
+  pub engaged-as : (i : ℕ) {c : Calendar} {calendar pairs register readings : List ℕ} {e : Engagement} → i < engagementCountIn engagements
+      → c ≡ calendarOf bytes → calendar ≡ sectionOf bytes 0 → pairs ≡ sectionOf bytes 1 → register ≡ sectionOf bytes 2 → readings ≡ sectionOf bytes 3 → e ≡ engagementAt engagements i
+      → Engaged c calendar pairs register readings e (bookWith bytes engagements)
+  engaged-as i h c calendar pairs register readings e = rw (c, calendar, pairs, register, readings, e) (engaged i h)
 
   -- the refusals from row i on: that of row i, or of those after it
-  pub refusal-row : (i : ℕ) → i < engagementCountIn engagements → refusalAt (bookIn c calendar pairs register readings engagements) i ≡ rowRefusal i (refusalNumber (bookIn c calendar pairs register readings engagements) (engagementAt engagements i)) (refusalAt (bookIn c calendar pairs register readings engagements) (i + 1))
+  pub refusal-row : (i : ℕ) → i < engagementCountIn engagements → refusalAt (bookWith bytes engagements) i ≡ rowRefusal i (refusalNumber (bookWith bytes engagements) (engagementAt engagements i)) (refusalAt (bookWith bytes engagements) (i + 1))
   refusal-row i h =
-      let book = bookIn c calendar pairs register readings engagements in
+      let book = bookWith bytes engagements in
       let d = engagementAt engagements i in
       refusal-next book i (i + 1) d refl (omega (arith, row-count))
       ∙ ap (λ (e : Engagement). rowRefusal i (refusalNumber book e) (refusalAt book (i + 1))) (row-named i d h)
 
-  pub refusal-last : (i : ℕ) → engagementCountIn engagements ≤ i → refusalAt (bookIn c calendar pairs register readings engagements) i ≡ none
-  refusal-last i h = refusal-end (bookIn c calendar pairs register readings engagements) i (omega (arith, row-count))
+  pub refusal-last : (i : ℕ) → engagementCountIn engagements ≤ i → refusalAt (bookWith bytes engagements) i ≡ none
+  refusal-last i h = refusal-end (bookWith bytes engagements) i (omega (arith, row-count))

@@ -1,19 +1,19 @@
--- A book as its sections make it: each is a part of its own, whose length says how many rows it has.
+-- The book of a book's bytes with given engagements: rows of a section, whose length says how many they are.
 use mathlib.Core.Path.{_≡_}
 use mathlib.Core.List.{List, map}
-use Prim.Native.Nat.{ℕ, _*_, _/_, _≤_}
+use mathlib.Core.Option.{none}
+use Prim.Native.Nat.{ℕ, _/_}
 use lib.ListN.{length}
 use Rattle.integers.specs.Ranges.{range}
 use Rattle.integers.specs.Sums.{sumOf}
-use Rattle.book.specs.declared.Calendar.{Calendar}
 use Rattle.book.specs.declared.Engagement.{Engagement}
-use Rattle.book.specs.Calendars.{daysOf, quartersOf}
-use Rattle.book.specs.Header.{pointWidth, engagementWidth}
+use Rattle.book.specs.Header.{calendarOf, pointCount, pointWidth, engagementWidth, calendarSection, pairSection, registerSection, readingSection}
 use Rattle.book.specs.Tables.{categoryAt, xAt, yAt}
 use Rattle.book.specs.Register.{pointAt}
 use Rattle.book.specs.Metering.{meterAt}
 use Rattle.book.specs.Engagements.{engagementAt}
 use Rattle.book.specs.Book.{Book}
+use Rattle.book.specs.Judged.{refusalOf}
 use Rattle.volumes.specs.Sound.{Sound}
 
 -- "Register, P rows of 64 bytes", "Engagements, 16 bytes"
@@ -30,23 +30,20 @@ engagementsIn engagements = map (engagementAt engagements) (range 0 (engagementC
 unfoldable pub rowCountIn : List ℕ → ℕ
 rowCountIn engagements = sumOf (λ e. e .count) (engagementsIn engagements)
 
--- calendar, pairs X and Y, register, readings, engagements
-unfoldable pub bookIn : Calendar → List ℕ → List ℕ → List ℕ → List ℕ → List ℕ → Book
-bookIn c calendar pairs register readings engagements =
+-- what the bytes say, with these engagements for their own
+unfoldable pub bookWith : List ℕ → List ℕ → Book
+bookWith bytes engagements =
     record {
-      calendar = c;
-      category = categoryAt calendar;
-      x = xAt pairs;
-      y = yAt pairs;
-      points = map (pointAt register) (range 0 (pointCountIn register));
-      reading = meterAt c readings;
+      calendar = calendarOf bytes;
+      category = categoryAt (calendarSection bytes);
+      x = xAt (pairSection bytes);
+      y = yAt (pairSection bytes);
+      points = map (pointAt (registerSection bytes)) (range 0 (pointCount bytes));
+      reading = meterAt (calendarOf bytes) (readingSection bytes);
       engagements = engagementsIn engagements;
     }
 
--- sections of a book that passes refusals 1 to 7: it is sound, and the sections have their lengths
-pub record Sectioned (c : Calendar) (calendar pairs register readings engagements : List ℕ) : Type 0 where
-  pub sound : Sound (bookIn c calendar pairs register readings engagements)
-  pub days : length calendar ≡ daysOf c
-  pub four : length pairs ≡ 8
-  pub few : pointCountIn register ≤ 256
-  pub metered : length readings ≡ 4 * quartersOf c * pointCountIn register
+-- the bytes pass refusals 1 to 7, and with these engagements too they are a sound book
+pub record Opened (bytes engagements : List ℕ) : Type 0 where
+  pub passed : refusalOf bytes ≡ none
+  pub sound : Sound (bookWith bytes engagements)

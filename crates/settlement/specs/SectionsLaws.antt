@@ -1,5 +1,5 @@
--- The sections of a book that passes refusals 1 to 7 are parts of its bytes, and make that book.
-use mathlib.Core.Path.{_≡_, refl, sym, ap, _∙_}
+-- The sections of a book that passes refusals 1 to 7 are parts of its bytes; with its own engagements it is itself.
+use mathlib.Core.Path.{_≡_, refl, ap, _∙_}
 use mathlib.Core.Bool.{true}
 use mathlib.Core.List.{List, [], _∷_}
 use mathlib.Core.Option.{none}
@@ -8,17 +8,16 @@ use native.Mathlib.Omega.{arith}
 use lib.Dec.{eqb}
 use lib.ListN.{length, length-take, length-drop}
 use borrow.Author.Tests.{eqb-true}
-use Rattle.book.specs.declared.Calendar.{Calendar}
 use Rattle.book.specs.Calendars.{daysOf, quartersOf}
-use Rattle.book.specs.Header.{calendarOf, pointCount, engagementCount, pointWidth, engagementWidth, offsetOf, lengthOf, isPair, layoutGood, sectionOf, calendarSection, pairSection, registerSection, readingSection, engagementSection}
+use Rattle.book.specs.Header.{calendarOf, pointCount, engagementCount, pointWidth, engagementWidth, offsetOf, lengthOf, isPair, layoutGood, sectionOf, registerSection, engagementSection}
 use Rattle.book.specs.HeaderLaws.{adjoins, headed}
-use Rattle.book.specs.Book.{Book, bookOf}
+use Rattle.book.specs.Book.{bookOf}
 use Rattle.book.specs.Judged.{refusalOf}
 use Rattle.volumes.specs.Settlement.{settlementRefusal, rowCount, bookRefusal}
 use Rattle.volumes.specs.SoundLaws.{passes, sound}
 use Rattle.volumes.specs.SettlementLaws.{passing}
 use Rattle.settlement.specs.RaisedLaws.{both}
-use Rattle.settlement.specs.Sections.{pointCountIn, engagementCountIn, engagementsIn, rowCountIn, bookIn, Sectioned}
+use Rattle.settlement.specs.Sections.{pointCountIn, engagementCountIn, engagementsIn, rowCountIn, bookWith, Opened}
 
 -- pair k names a part of the book, of n bytes
 pub record Held (bytes : List ℕ) (k n : ℕ) : Type 0 where
@@ -88,37 +87,24 @@ points-counted bytes e = omega (arith, all-held bytes e .register .size)
 pub rows-counted : (bytes : List ℕ) → refusalOf bytes ≡ none → engagementCountIn (engagementSection bytes) ≡ engagementCount bytes
 rows-counted bytes e = omega (arith, all-held bytes e .engagements .size)
 
--- the book of the bytes, as its sections make it
-abbrev pub bookCut : List ℕ → Book
-bookCut bytes = bookIn (calendarOf bytes) (calendarSection bytes) (pairSection bytes) (registerSection bytes) (readingSection bytes) (engagementSection bytes)
+-- with its own engagements a book is itself, opened, and has the rows that their section has
+pub same-book : (bytes : List ℕ) → refusalOf bytes ≡ none → bookWith bytes (engagementSection bytes) ≡ bookOf bytes
+unfolding bookWith bookOf engagementsIn
+same-book bytes e = rw (rows-counted bytes e)
 
-pub same-book : (bytes : List ℕ) → refusalOf bytes ≡ none → bookCut bytes ≡ bookOf bytes
-unfolding bookIn bookOf engagementsIn
-same-book bytes e = rw (points-counted bytes e, rows-counted bytes e)
+pub opened : (bytes : List ℕ) → refusalOf bytes ≡ none → Opened bytes (engagementSection bytes)
+opened bytes e = record { passed = e; sound = rw (same-book bytes e) (sound bytes e) }
 
-pub sectioned : (bytes : List ℕ) → refusalOf bytes ≡ none → Sectioned (calendarOf bytes) (calendarSection bytes) (pairSection bytes) (registerSection bytes) (readingSection bytes) (engagementSection bytes)
-sectioned bytes e =
-    let l = all-held bytes e in
-    let p = points-counted bytes e in
-    record {
-      sound = rw (same-book bytes e) (sound bytes e);
-      days = l .calendar .size;
-      four = l .pairs .size;
-      few = omega (arith, headed bytes (passes bytes e .header) .points);
-      metered = l .readings .size ∙ ap (λ (n : ℕ). 4 * quartersOf (calendarOf bytes) * n) (sym p);
-    }
-
--- and the rows that the engagements' section has are the book's
-pub count-in : (c : Calendar) (calendar pairs register readings engagements : List ℕ) → rowCountIn engagements ≡ rowCount (bookIn c calendar pairs register readings engagements)
-unfolding rowCountIn rowCount bookIn
-count-in c calendar pairs register readings engagements = refl
+count-with : (bytes engagements : List ℕ) → rowCountIn engagements ≡ rowCount (bookWith bytes engagements)
+unfolding rowCountIn rowCount bookWith
+count-with bytes engagements = refl
 
 pub count-book : (bytes : List ℕ) → refusalOf bytes ≡ none → rowCountIn (engagementSection bytes) ≡ rowCount (bookOf bytes)
-count-book bytes e = count-in (calendarOf bytes) (calendarSection bytes) (pairSection bytes) (registerSection bytes) (readingSection bytes) (engagementSection bytes) ∙ ap rowCount (same-book bytes e)
+count-book bytes e = count-with bytes (engagementSection bytes) ∙ ap rowCount (same-book bytes e)
 
 pub rows-few : (bytes : List ℕ) → refusalOf bytes ≡ none → engagementCountIn (engagementSection bytes) ≤ 512
 rows-few bytes e = omega (arith, rows-counted bytes e, headed bytes (passes bytes e .header) .rows)
 
--- nor are the engagements refused that the sections make, where the book's are not
-pub cut-settled : (bytes : List ℕ) → bookRefusal bytes ≡ none → settlementRefusal (bookCut bytes) ≡ none
-cut-settled bytes e = let a = passing bytes e in ap settlementRefusal (same-book bytes (a .passed)) ∙ a .settled
+-- nor are its engagements refused, where the book is not
+pub own-settled : (bytes : List ℕ) → bookRefusal bytes ≡ none → settlementRefusal (bookWith bytes (engagementSection bytes)) ≡ none
+own-settled bytes e = let a = passing bytes e in ap settlementRefusal (same-book bytes (a .passed)) ∙ a .settled

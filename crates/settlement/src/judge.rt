@@ -4,11 +4,12 @@ use book::Calendar;
 use book::Judged;
 ghost use mathlib.Core.Path.{_≡_};
 ghost use Prim.Native.Nat.{_<_};
+ghost use Rattle.book.specs.Header.{calendarOf};
 ghost use Rattle.book.specs.Engagements.{engagementAt};
 ghost use Rattle.book.specs.Judged.{sentBack};
 ghost use Rattle.volumes.specs.Settlement.{refusalNumber, settlementRefusal, bookRefusal};
 ghost use Rattle.baseline.specs.Needs.{numberOf};
-ghost use Rattle.settlement.specs.Sections.{engagementCountIn, bookIn, Sectioned};
+ghost use Rattle.settlement.specs.Sections.{engagementCountIn, bookWith, Opened};
 ghost use Rattle.settlement.specs.Verdicts.{refusalIn};
 
 // Passed, or refused with a number and its item.
@@ -34,18 +35,14 @@ fn verdict_of(judged: Judged) -> Verdict
 }
 
 // What engagement i lacks.
-fn judge_row(
-    c: Calendar,
-    calendar: &[u8],
-    pairs: &[u8],
-    register: &[u8],
-    readings: &[u8],
-    engagements: &[u8],
-    i: usize,
-) -> Lack
-    requires { ⌜ Sectioned c (now calendar) (now pairs) (now register) (now readings) (now engagements) × (i < engagementCountIn (now engagements)) ⌝ }
-    ensures { λ r. ⌜ numberOf r ≡ refusalNumber (bookIn c (now (calendar .entry)) (now (pairs .entry)) (now (register .entry)) (now (readings .entry)) (now (engagements .entry))) (engagementAt (now (engagements .entry)) i) ⌝ }
+fn judge_row(c: Calendar, book: &[u8], engagements: &[u8], i: usize) -> Lack
+    requires { ⌜ Opened (now book) (now engagements) × (c ≡ calendarOf (now book)) × (i < engagementCountIn (now engagements)) ⌝ }
+    ensures { λ r. ⌜ numberOf r ≡ refusalNumber (bookWith (now (book .entry)) (now (engagements .entry))) (engagementAt (now (engagements .entry)) i) ⌝ }
 {
+    let calendar = crate::sections::section(book, 0);
+    let pairs = crate::sections::section(book, 1);
+    let register = crate::sections::section(book, 2);
+    let readings = crate::sections::section(book, 3);
     let e = book::engagements::engagement_at(engagements, i);
     let point = book::register::point_at(register, e.point as usize);
     let category = book::tables::category(calendar, e.day as usize);
@@ -54,21 +51,14 @@ fn judge_row(
 }
 
 // Refusals 8 and 9, by engagement.
-pub fn judge_rows(
-    c: Calendar,
-    calendar: &[u8],
-    pairs: &[u8],
-    register: &[u8],
-    readings: &[u8],
-    engagements: &[u8],
-) -> Verdict
-    requires { ⌜ Sectioned c (now calendar) (now pairs) (now register) (now readings) (now engagements) ⌝ }
-    ensures { λ r. ⌜ refusalIn r ≡ settlementRefusal (bookIn c (now (calendar .entry)) (now (pairs .entry)) (now (register .entry)) (now (readings .entry)) (now (engagements .entry))) ⌝ }
+pub fn judge_rows(c: Calendar, book: &[u8], engagements: &[u8]) -> Verdict
+    requires { ⌜ Opened (now book) (now engagements) × (c ≡ calendarOf (now book)) ⌝ }
+    ensures { λ r. ⌜ refusalIn r ≡ settlementRefusal (bookWith (now (book .entry)) (now (engagements .entry))) ⌝ }
 {
     let n = engagements.len() / 16;
     let mut i = 0;
     while i < n {
-        let lack = judge_row(c, calendar, pairs, register, readings, engagements, i);
+        let lack = judge_row(c, book, engagements, i);
         match lack {
             Lack::Nothing => {}
             Lack::Reading => return Verdict::Refused(8, i),
@@ -87,11 +77,6 @@ pub fn judge_settlement(book: &[u8]) -> Verdict
     if let Verdict::Refused(number, item) = verdict {
         return Verdict::Refused(number, item);
     }
-    let calendar = crate::sections::section(book, 0);
-    let pairs = crate::sections::section(book, 1);
-    let register = crate::sections::section(book, 2);
-    let readings = crate::sections::section(book, 3);
     let engagements = crate::sections::section(book, 4);
-    let c = book::header::calendar_of(book);
-    judge_rows(c, calendar, pairs, register, readings, engagements)
+    judge_rows(book::header::calendar_of(book), book, engagements)
 }

@@ -7,11 +7,12 @@ ghost use mathlib.Core.Option.{none};
 ghost use Prim.Native.Nat.{_+_, _*_, _≤_, _<_};
 ghost use lib.ListN.{length};
 ghost use lib.Seq.{sets};
+ghost use Rattle.book.specs.Header.{calendarOf};
 ghost use Rattle.book.specs.Engagements.{engagementAt};
 ghost use Rattle.book.specs.Judged.{refusalOf};
 ghost use Rattle.book.specs.Book.{bookOf};
 ghost use Rattle.volumes.specs.Settlement.{refusalNumber, settlementRefusal, rowWidth, rowsOf, rows, rowCount, bookRefusal};
-ghost use Rattle.settlement.specs.Sections.{engagementCountIn, rowCountIn, bookIn, Sectioned};
+ghost use Rattle.settlement.specs.Sections.{engagementCountIn, rowCountIn, bookWith, Opened};
 ghost use Rattle.settlement.specs.Settling.{SettleCall};
 
 // The number of rows, or a refusal with its item.
@@ -47,18 +48,19 @@ pub fn row_count(book: &[u8]) -> usize
 // The rows of engagement i, from `at` on; the place after them.
 pub fn fill_row(
     c: Calendar,
-    calendar: &[u8],
-    pairs: &[u8],
-    register: &[u8],
-    readings: &[u8],
+    book: &[u8],
     engagements: &[u8],
     i: usize,
     out: &mut [i64],
     at: usize,
 ) -> usize
-    requires { ⌜ Sectioned c (now calendar) (now pairs) (now register) (now readings) (now engagements) × (i < engagementCountIn (now engagements)) × (refusalNumber (bookIn c (now calendar) (now pairs) (now register) (now readings) (now engagements)) (engagementAt (now engagements) i) ≡ none) × (at + rowWidth * engagementAt (now engagements) i .count ≤ length (now out)) ⌝ }
-    ensures { λ r. ⌜ (r ≡ at + rowWidth * engagementAt (now (engagements .entry)) i .count) × (now (out .exit) ≡ sets (now (out .entry)) at (rowsOf (bookIn c (now (calendar .entry)) (now (pairs .entry)) (now (register .entry)) (now (readings .entry)) (now (engagements .entry))) (engagementAt (now (engagements .entry)) i))) ⌝ }
+    requires { ⌜ Opened (now book) (now engagements) × (c ≡ calendarOf (now book)) × (i < engagementCountIn (now engagements)) × (refusalNumber (bookWith (now book) (now engagements)) (engagementAt (now engagements) i) ≡ none) × (at + rowWidth * engagementAt (now engagements) i .count ≤ length (now out)) ⌝ }
+    ensures { λ r. ⌜ (r ≡ at + rowWidth * engagementAt (now (engagements .entry)) i .count) × (now (out .exit) ≡ sets (now (out .entry)) at (rowsOf (bookWith (now (book .entry)) (now (engagements .entry))) (engagementAt (now (engagements .entry)) i))) ⌝ }
 {
+    let calendar = crate::sections::section(book, 0);
+    let pairs = crate::sections::section(book, 1);
+    let register = crate::sections::section(book, 2);
+    let readings = crate::sections::section(book, 3);
     let e = book::engagements::engagement_at(engagements, i);
     let point = book::register::point_at(register, e.point as usize);
     let category = book::tables::category(calendar, e.day as usize) as usize;
@@ -69,33 +71,15 @@ pub fn fill_row(
 }
 
 // The rows of all engagements, of a book that is not refused.
-pub fn fill_rows(
-    c: Calendar,
-    calendar: &[u8],
-    pairs: &[u8],
-    register: &[u8],
-    readings: &[u8],
-    engagements: &[u8],
-    out: &mut [i64],
-)
-    requires { ⌜ Sectioned c (now calendar) (now pairs) (now register) (now readings) (now engagements) × (settlementRefusal (bookIn c (now calendar) (now pairs) (now register) (now readings) (now engagements)) ≡ none) × (rowWidth * rowCountIn (now engagements) ≤ length (now out)) ⌝ }
-    ensures { λ r. ⌜ now (out .exit) ≡ sets (now (out .entry)) 0 (rows (bookIn c (now (calendar .entry)) (now (pairs .entry)) (now (register .entry)) (now (readings .entry)) (now (engagements .entry)))) ⌝ }
+pub fn fill_rows(c: Calendar, book: &[u8], engagements: &[u8], out: &mut [i64])
+    requires { ⌜ Opened (now book) (now engagements) × (c ≡ calendarOf (now book)) × (settlementRefusal (bookWith (now book) (now engagements)) ≡ none) × (rowWidth * rowCountIn (now engagements) ≤ length (now out)) ⌝ }
+    ensures { λ r. ⌜ now (out .exit) ≡ sets (now (out .entry)) 0 (rows (bookWith (now (book .entry)) (now (engagements .entry)))) ⌝ }
 {
     let n = engagements.len() / 16;
     let mut at = 0;
     let mut i = 0;
     while i < n {
-        at = fill_row(
-            c,
-            calendar,
-            pairs,
-            register,
-            readings,
-            engagements,
-            i,
-            out,
-            at,
-        );
+        at = fill_row(c, book, engagements, i, out, at);
         i += 1;
     }
 }
@@ -105,13 +89,8 @@ pub fn fill_book(book: &[u8], out: &mut [i64])
     requires { ⌜ (bookRefusal (now book) ≡ none) × (rowWidth * rowCount (bookOf (now book)) ≤ length (now out)) ⌝ }
     ensures { λ r. ⌜ now (out .exit) ≡ sets (now (out .entry)) 0 (rows (bookOf (now (book .entry)))) ⌝ }
 {
-    let calendar = crate::sections::section(book, 0);
-    let pairs = crate::sections::section(book, 1);
-    let register = crate::sections::section(book, 2);
-    let readings = crate::sections::section(book, 3);
     let engagements = crate::sections::section(book, 4);
-    let c = book::header::calendar_of(book);
-    fill_rows(c, calendar, pairs, register, readings, engagements, out);
+    fill_rows(book::header::calendar_of(book), book, engagements, out);
 }
 
 // Settles a book: fills its rows, or changes nothing and says why.

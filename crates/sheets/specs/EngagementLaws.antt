@@ -1,4 +1,4 @@
--- An engagement of a book's sections: where its cells are, and that the rows filled for it give its corrections.
+-- An engagement of an opened book: where its cells are, and that the rows filled for it give its corrections.
 use mathlib.Core.Path.{_≡_, ap₂, _∙_}
 use mathlib.Core.List.{List, _++_}
 use Prim.Native.Nat.{ℕ, _+_, _*_, _≤_, _<_}
@@ -11,13 +11,14 @@ use Rattle.book.specs.declared.Engagement.{Engagement}
 use Rattle.book.specs.declared.Point.{Point}
 use Rattle.book.specs.Calendars.{Ranged}
 use Rattle.book.specs.CalendarsLaws.{days-few}
+use Rattle.book.specs.Header.{calendarOf, registerSection}
 use Rattle.book.specs.Register.{pointAt}
 use Rattle.book.specs.Engagements.{engagementAt}
 use Rattle.volumes.specs.Quarters.{monthQuarters}
 use Rattle.volumes.specs.QuartersLaws.{quarters-most}
 use Rattle.volumes.specs.Settlement.{rowWidth, rowsOf}
 use Rattle.volumes.specs.Sheets.{sheet}
-use Rattle.settlement.specs.Sections.{engagementCountIn, bookIn, Sectioned}
+use Rattle.settlement.specs.Sections.{engagementCountIn, bookWith, Opened}
 use Rattle.settlement.specs.EngagedLaws.{member, row-count, row-named, engaged}
 use Rattle.sheets.specs.Adds.{adds, Addable}
 use Rattle.sheets.specs.Shares.{getsOf, Both, correctionsFor, firstCell}
@@ -31,66 +32,67 @@ pub record Placing (c : Calendar) (e : Engagement) : Type 0 where
   pub settled : c .lead ≤ e .day
   pub few : rowWidth * e .count ≤ 384
 
-module _ {c : Calendar} {calendar pairs register readings engagements : List ℕ} (s : Sectioned c calendar pairs register readings engagements) (i : ℕ) (h : i < engagementCountIn engagements) where
-  pub engagement-placed : Placing c (engagementAt engagements i)
-  unfolding bookIn
+module _ {bytes engagements : List ℕ} (s : Opened bytes engagements) (i : ℕ) (h : i < engagementCountIn engagements) where
+  pub engagement-placed : Placing (calendarOf bytes) (engagementAt engagements i)
+  unfolding bookWith
   engagement-placed =
       let p = s .sound .engagements (engagementAt engagements i) (member s i h) in
       record {
-        day = omega (arith, p .inside, days-few c (s .sound .ranged));
+        day = omega (arith, p .inside, days-few (calendarOf bytes) (s .sound .ranged));
         settled = p .settled;
-        few = omega (arith, p .ends, quarters-most c (engagementAt engagements i .day));
+        few = omega (arith, p .ends, quarters-most (calendarOf bytes) (engagementAt engagements i .day));
       }
 
   -- the point and the rows that were read and filled
-  module _ (l : List ℤ) (room : 384 ≤ length l) {e : Engagement} {point : Point} {rows : List ℤ} (is : e ≡ engagementAt engagements i) (at : point ≡ pointAt register (e .point)) (filled : rows ≡ sets l 0 (rowsOf (bookIn c calendar pairs register readings engagements) (engagementAt engagements i))) where
+  module _ (l : List ℤ) (room : 384 ≤ length l) {e : Engagement} {point : Point} {register : List ℕ} {rows : List ℤ} (is : e ≡ engagementAt engagements i) (at : point ≡ pointAt register (e .point)) (cut : register ≡ registerSection bytes) (filled : rows ≡ sets l 0 (rowsOf (bookWith bytes engagements) (engagementAt engagements i))) where
     enough : rowWidth * engagementAt engagements i .count ≤ length l
     enough = omega (arith, engagement-placed .few)
 
-    pub engagement-gets : (party : ℕ) → getsOf party point rows (e .count) ≡ correctionsFor (bookIn c calendar pairs register readings engagements) party (engagementAt engagements i)
+    pub engagement-gets : (party : ℕ) → getsOf party point rows (e .count) ≡ correctionsFor (bookWith bytes engagements) party (engagementAt engagements i)
     engagement-gets party =
-        rw (at, is, filled, ← engaged s i h .shows .owner)
-        (rows-get (bookIn c calendar pairs register readings engagements) (engagementAt engagements i) l enough party)
+        rw (at, cut, is, filled, ← engaged s i h .shows .owner)
+        (rows-get (bookWith bytes engagements) (engagementAt engagements i) l enough party)
 
     pub engagement-both : Both rows (e .count)
     engagement-both =
-        let book = bookIn c calendar pairs register readings engagements in
+        let book = bookWith bytes engagements in
         let f = engagementAt engagements i in
         rw (is, filled) (rows-both book f l enough (s .sound) (s .sound .terms f (member s i h)))
 
   -- one engagement more
-  pub engagement-more : (party : ℕ) (rest : List ℤ) → let book = bookIn c calendar pairs register readings engagements in
-      let e = engagementAt engagements i in
-      adds (sheetTo book party i ++ rest) (firstCell c e) (correctionsFor book party e) ≡ sheetTo book party (i + 1) ++ rest
-  unfolding bookIn
-  engagement-more party rest =
-      let book = bookIn c calendar pairs register readings engagements in
-      let e = engagementAt engagements i in
-      sheet-more book party i e (omega (arith, row-count s)) (row-named s i e h) (s .sound .engagements e (member s i h)) rest
+  module _ {c : Calendar} (k : c ≡ calendarOf bytes) (party : ℕ) (rest : List ℤ) where
+    pub engagement-more : let book = bookWith bytes engagements in
+        let e = engagementAt engagements i in
+        adds (sheetTo book party i ++ rest) (firstCell c e) (correctionsFor book party e) ≡ sheetTo book party (i + 1) ++ rest
+    unfolding bookWith
+    engagement-more =
+        let book = bookWith bytes engagements in
+        let e = engagementAt engagements i in
+        rw k (sheet-more book party i e (omega (arith, row-count s)) (row-named s i e h) (s .sound .engagements e (member s i h)) rest)
 
-  pub engagement-addable : (party : ℕ) (rest : List ℤ) → let book = bookIn c calendar pairs register readings engagements in
-      let e = engagementAt engagements i in
-      Addable (sheetTo book party i ++ rest) (firstCell c e) (correctionsFor book party e)
-  unfolding bookIn
-  engagement-addable party rest =
-      let book = bookIn c calendar pairs register readings engagements in
-      let e = engagementAt engagements i in
-      sheet-addable book party i e (omega (arith, row-count s)) (row-named s i e h) (s .sound .engagements e (member s i h)) rest (s .sound)
+    pub engagement-addable : let book = bookWith bytes engagements in
+        let e = engagementAt engagements i in
+        Addable (sheetTo book party i ++ rest) (firstCell c e) (correctionsFor book party e)
+    unfolding bookWith
+    engagement-addable =
+        let book = bookWith bytes engagements in
+        let e = engagementAt engagements i in
+        rw k (sheet-addable book party i e (omega (arith, row-count s)) (row-named s i e h) (s .sound .engagements e (member s i h)) rest (s .sound))
 
--- the calendar is one that a header may have
-pub section-ranged : {c : Calendar} {calendar pairs register readings engagements : List ℕ} → Sectioned c calendar pairs register readings engagements → Ranged c
-unfolding bookIn
-section-ranged s = s .sound .ranged
+module _ {c : Calendar} {bytes engagements : List ℕ} (s : Opened bytes engagements) (k : c ≡ calendarOf bytes) where
+  -- the calendar is one that a header may have
+  pub calendar-ranged : Ranged c
+  unfolding bookWith
+  calendar-ranged = rw k (s .sound .ranged)
 
--- from a sheet of zeros to that of all engagements; what stands behind is left
-module _ {c : Calendar} {calendar pairs register readings engagements : List ℕ} (s : Sectioned c calendar pairs register readings engagements) (party n : ℕ) (before cleared : List ℤ) (long : n ≡ monthQuarters c) (zeros : cleared ≡ replicate n (pos 0) ++ drop n before) where
-  left : drop (monthQuarters c) cleared ≡ drop (monthQuarters c) before
-  left = rw (← long, zeros) (drop-at (replicate n (pos 0)) (drop n before) n (length-replicate n (pos 0)))
+  -- from a sheet of zeros to that of all engagements; what stands behind is left
+  module _ (party n : ℕ) (before cleared : List ℤ) (long : n ≡ monthQuarters c) (zeros : cleared ≡ replicate n (pos 0) ++ drop n before) where
+    left : drop (monthQuarters c) cleared ≡ drop (monthQuarters c) before
+    left = rw (← long, zeros) (drop-at (replicate n (pos 0)) (drop n before) n (length-replicate n (pos 0)))
 
-  pub cells-begun : cleared ≡ sheetTo (bookIn c calendar pairs register readings engagements) party 0 ++ drop (monthQuarters c) cleared
-  unfolding bookIn
-  cells-begun = zeros ∙ rw (sheet-none (bookIn c calendar pairs register readings engagements) party, left, long)
+    pub cells-begun : cleared ≡ sheetTo (bookWith bytes engagements) party 0 ++ drop (monthQuarters c) cleared
+    unfolding bookWith
+    cells-begun = zeros ∙ rw (sheet-none (bookWith bytes engagements) party, left, long, k)
 
-  pub cells-ended : {after : List ℤ} (i : ℕ) → engagementCountIn engagements ≤ i → after ≡ sheetTo (bookIn c calendar pairs register readings engagements) party i ++ drop (monthQuarters c) cleared → after ≡ sheet (bookIn c calendar pairs register readings engagements) party ++ drop (monthQuarters c) before
-  cells-ended i h e = let book = bookIn c calendar pairs register readings engagements in
-      e ∙ ap₂ _++_ (sheet-all book party i (omega (arith, row-count s))) left
+    pub cells-ended : {after : List ℤ} (i : ℕ) → engagementCountIn engagements ≤ i → after ≡ sheetTo (bookWith bytes engagements) party i ++ drop (monthQuarters c) cleared → after ≡ sheet (bookWith bytes engagements) party ++ drop (monthQuarters c) before
+    cells-ended i h e = e ∙ ap₂ _++_ (sheet-all (bookWith bytes engagements) party i (omega (arith, row-count s))) left

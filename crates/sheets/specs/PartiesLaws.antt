@@ -11,16 +11,15 @@ use native.Mathlib.Omega.{arith}
 use borrow.Author.Tests.{ne-eqb, leb-true, leb-false, le-leb, lt-leb}
 use Rattle.integers.specs.Counts.{times, times-append, mem-times}
 use Rattle.integers.specs.Ranges.{range, range-more}
-use Rattle.book.specs.declared.Calendar.{Calendar}
 use Rattle.book.specs.declared.Point.{Point}
 use Rattle.book.specs.Register.{pointAt}
 use Rattle.book.specs.Book.{bookOf}
-use Rattle.book.specs.Header.{calendarOf, calendarSection, pairSection, registerSection, readingSection, engagementSection}
+use Rattle.book.specs.Header.{registerSection}
 use Rattle.book.specs.Judged.{refusalOf}
 use Rattle.volumes.specs.QuartersLaws.{flatMap-append}
 use Rattle.volumes.specs.Sheets.{partiesOf, parties}
-use Rattle.settlement.specs.Sections.{pointCountIn, bookIn}
-use Rattle.settlement.specs.SectionsLaws.{same-book}
+use Rattle.settlement.specs.Sections.{pointCountIn}
+use Rattle.settlement.specs.SectionsLaws.{points-counted}
 use Rattle.sheets.specs.Parties.{stands, partiesTo, partiesIn}
 
 -- in the columns of one point
@@ -79,11 +78,6 @@ module _ (register : List ℕ) where
   party-here party i h p = le-leb 1 _ (in-row party i (pointCountIn register) h (leb-true 1 (times party (partiesOf (pointAt register i))) p))
 
 -- the parties of the register of a book that passes refusals 1 to 7
-in-book : (c : Calendar) (calendar pairs register readings engagements : List ℕ) → parties (bookIn c calendar pairs register readings engagements) ≡ partiesIn register
-unfolding parties bookIn partiesTo
-in-book c calendar pairs register readings engagements = refl
-
 pub parties-are : (bytes : List ℕ) → refusalOf bytes ≡ none → partiesIn (registerSection bytes) ≡ parties (bookOf bytes)
-parties-are bytes h =
-    sym (in-book (calendarOf bytes) (calendarSection bytes) (pairSection bytes) (registerSection bytes) (readingSection bytes) (engagementSection bytes))
-    ∙ ap parties (same-book bytes h)
+unfolding parties bookOf partiesTo
+parties-are bytes h = rw (points-counted bytes h)

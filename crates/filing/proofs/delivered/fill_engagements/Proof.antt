@@ -7,7 +7,7 @@ use lib.Seq.{sets, length-sets}
 use native.Mathlib.Omega.{arith}
 use borrow.Author.Needs.{needs}
 use Rattle.book.specs.Engagements.{engagementAt}
-use Rattle.settlement.specs.Sections.{bookIn}
+use Rattle.settlement.specs.Sections.{bookWith}
 use Rattle.settlement.specs.PartsLaws.{rowCountTo, count-none, count-more, count-most, partsTo, parts-none, parts-more}
 use Rattle.settlement.specs.SettlingLaws.{not-refused}
 use Rattle.filing.specs.Volumes.{volumesOf}
@@ -16,31 +16,31 @@ use Rattle.filing.proofs.delivered.fill_engagements.Statement.{statemen
 use Rattle.filing.proofs.delivered.fill_engagements.Tie as tie
 
 abbrev Inv-loop : tie.InvT-loop
-Inv-loop c calendar pairs register readings engagements volumes₀ n at₀ i₀ volumes at i =
-    (i ≤ n) × (at ≡ rowCountTo engagements i) × (volumes ≡ sets volumes₀ 0 (partsTo (volumesOf (bookIn c calendar pairs register readings engagements)) engagements i))
+Inv-loop c book engagements volumes₀ n at₀ i₀ volumes at i =
+    (i ≤ n) × (at ≡ rowCountTo engagements i) × (volumes ≡ sets volumes₀ 0 (partsTo (volumesOf (bookWith book engagements)) engagements i))
 
 abbrev μ-loop : tie.MeasureT-loop
-μ-loop c calendar pairs register readings engagements volumes₀ n at₀ i₀ volumes at i = n - i
+μ-loop c book engagements volumes₀ n at₀ i₀ volumes at i = n - i
 
 loop-holds : tie.Need-loop-holds Inv-loop μ-loop
-loop-holds c = (search needs, omega (arith, count-none (c .before .before .before .before .before .before .args .engagements .now)), sym (parts-none _ _ _))
+loop-holds c = (search needs, omega (arith, count-none (c .before .before .before .args .engagements .now)), sym (parts-none _ _ _))
 
 -- the volumes lent have room for one engagement's more
-room : (c : tie.In-loop Inv-loop μ-loop) → let s = c .before .before .before .before .before .before .before .before in
+room : (c : tie.In-loop Inv-loop μ-loop) → let s = c .before .before .before .before .before in
     let l = c .before .loop in
     l .at + engagementAt (s .args .engagements .now) (l .i) .count ≤ length (l .volumes)
 room c =
-    let s = c .before .before .before .before .before .before .before .before in
+    let s = c .before .before .before .before .before in
     let l = c .before .loop in
     let a = s .args in
     let engagements = a .engagements .now in
-    let same = ap length (l .inv .2) ∙ length-sets (a .volumes .now) 0 (partsTo (volumesOf (bookIn (a .c) (a .calendar .now) (a .pairs .now) (a .register .now) (a .readings .now) engagements)) engagements (l .i)) in
-    omega (arith, same, l .inv .1, count-more engagements (l .i) (search needs), count-most engagements (l .i + 1), s .pre .2)
+    let same = ap length (l .inv .2) ∙ length-sets (a .volumes .now) 0 (partsTo (volumesOf (bookWith (a .book .now) engagements)) engagements (l .i)) in
+    omega (arith, same, l .inv .1, count-more engagements (l .i) (search needs), count-most engagements (l .i + 1), s .pre .3)
 
 fill-engagement-requires : tie.Need-fill-engagement-requires Inv-loop μ-loop
 fill-engagement-requires c κs =
-    let s = c .before .before .before .before .before .before .before .before .before in
-    (s .pre .0, search needs, not-refused (s .pre .0) (s .pre .1) (c .before .before .loop .i) (search needs), room (c .before))
+    let s = c .before .before .before .before .before .before in
+    (s .pre .0, s .pre .1, search needs, not-refused (s .pre .0) (s .pre .2) (c .before .before .loop .i) (search needs), room (c .before))
 
 add-i : tie.Need-add-i Inv-loop μ-loop
 add-i c = search needs
@@ -50,10 +50,10 @@ loop-less c = search needs
 
 loop-again : tie.Need-loop-again Inv-loop μ-loop
 loop-again c =
-    let s = c .before .before .before .before .before .before .before .before .before .before .before .before in
+    let s = c .before .before .before .before .before .before .before .before .before in
     let l = c .before .before .before .before .before .loop in
     let a = s .args in
-    let book = bookIn (a .c) (a .calendar .now) (a .pairs .now) (a .register .now) (a .readings .now) (a .engagements .now) in
+    let book = bookWith (a .book .now) (a .engagements .now) in
     let r = c .before .before .fill-engagement .ensures in
     let place : l .at ≡ 1 * rowCountTo (a .engagements .now) (l .i) = omega (arith, l .inv .1) in (
       search needs,
@@ -68,9 +68,9 @@ same-length c = ap length (c .before .loop .inv .2) ∙ simp length-sets
 
 returns : tie.Need-returns Inv-loop μ-loop
 returns c =
-    let s = c .before .before .before .before .before .before .before .before in
+    let s = c .before .before .before .before .before in
     let l = c .before .loop in
-    l .inv .2 ∙ ap (sets (s .args .volumes .now) 0) (volumes-all _ _ _ _ _ _ (l .i) (search needs))
+    l .inv .2 ∙ ap (sets (s .args .volumes .now) 0) (volumes-all _ _ (l .i) (search needs))
 
 pub fill-engagements-spec : {M : Type 1} → statement M
 fill-engagements-spec =

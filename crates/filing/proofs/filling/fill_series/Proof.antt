@@ -6,7 +6,7 @@ use Rattle.volumes.specs.Quarters.{monthQuarters}
 use Rattle.volumes.specs.SeriesLaws.{seriesOf}
 use Rattle.reports.specs.FileRows.{observationsOf}
 use Rattle.filing.specs.SeriesSumsWritten.{observationsIn}
-use Rattle.filing.specs.SeriesSumsWrittenLaws.{observations-are, Opened, opened}
+use Rattle.filing.specs.SeriesSumsWrittenLaws.{observations-are, Dated, dated}
 use Rattle.filing.specs.PartnerRowsLaws.{filled-is, positions-few, series-rows-are}
 use native.Mathlib.Omega.{arith}
 use borrow.Author.Needs.{needs}
@@ -14,8 +14,8 @@ use Rattle.filing.proofs.filling.fill_series.Statement.{statement}
 use Rattle.filing.proofs.filling.fill_series.Tie as tie
 
 -- the book's calendar, and the positions of its month, which the array has
-calendar : (c : tie.Start) → Opened (c .args .book .now)
-calendar c = opened (c .args .book .now) (c .args .volumes .now) (c .pre .0)
+calendar : (c : tie.Start) → Dated (c .args .book .now)
+calendar c = dated (c .args .book .now) (c .args .volumes .now) (c .pre .0)
 
 month : (c : tie.After-month-quarters) → c .month-quarters .result ≡ monthQuarters (bookOf (c .before .before .before .before .before .before .before .before .args .book .now) .calendar)
 month c = c .month-quarters .ensures ∙ ap monthQuarters (c .before .calendar-of .ensures ∙ calendar (c .before .before .before .before .before .before .before .before) .own)

@@ -12,7 +12,7 @@ use Rattle.message.specs.Rows.{rowsFrom}
 use Rattle.emitter.specs.Laid.{laid-is}
 use Rattle.writer.specs.WriterContents.{partnersIn}
 use Rattle.filing.specs.SeriesSumsLaws.{parts-of}
-use Rattle.filing.specs.SeriesSumsWrittenLaws.{period-of, Opened, opened}
+use Rattle.filing.specs.SeriesSumsWrittenLaws.{period-of, Dated, dated}
 use Rattle.reports.specs.RegisteredLaws.{registered}
 use Rattle.filing.specs.PartnerRows.{partnerRowsOf}
 use Rattle.filing.specs.PartnerRowsLaws.{filled-stand, filled-length, partner-writable, partner-bytes, partner-count}
@@ -21,8 +21,8 @@ use borrow.Author.Needs.{needs}
 use Rattle.filing.proofs.laying.emit_partner.Statement.{statement}
 use Rattle.filing.proofs.laying.emit_partner.Tie as tie
 
-calendar : (c : tie.Start) → Opened (c .args .book .now)
-calendar c = opened (c .args .book .now) (c .args .volumes .now) (c .pre .0)
+calendar : (c : tie.Start) → Dated (c .args .book .now)
+calendar c = dated (c .args .book .now) (c .args .volumes .now) (c .pre .0)
 
 stood : (c : tie.After-fill-partner) → let a = c .before .before .before .before .before .before .before .args in
     rowsFrom (c .fill-partner .last .1 .1 .1 .1 .1 .0) 0 (c .fill-partner .result / 6) ≡ partnerRowsOf (bookOf (a .book .now)) (a .kind) (a .receiver) (a .partner)

@@ -5,17 +5,17 @@ use Prim.Native.Nat.{ℕ, _+_, _-_, _≤_}
 use Rattle.volumes.specs.Settlement.{settlementRefusal, rowRefusal}
 use Rattle.volumes.specs.SettlementLaws.{refusalAt, refusal-all}
 use Rattle.baseline.specs.Needs.{numberOf}
-use Rattle.settlement.specs.Sections.{bookIn}
+use Rattle.settlement.specs.Sections.{bookWith}
 use Rattle.settlement.specs.EngagedLaws.{refusal-row, refusal-last}
 use borrow.Author.Needs.{needs}
 use Rattle.settlement.proofs.judge.judge_rows.Statement.{statement}
 use Rattle.settlement.proofs.judge.judge_rows.Tie as tie
 
 abbrev Inv-loop : tie.InvT-loop
-Inv-loop c calendar pairs register readings engagements n i₀ i = (i ≤ n) × (settlementRefusal (bookIn c calendar pairs register readings engagements) ≡ refusalAt (bookIn c calendar pairs register readings engagements) i)
+Inv-loop c book engagements n i₀ i = (i ≤ n) × (settlementRefusal (bookWith book engagements) ≡ refusalAt (bookWith book engagements) i)
 
 abbrev μ-loop : tie.MeasureT-loop
-μ-loop c calendar pairs register readings engagements n i₀ i = n - i
+μ-loop c book engagements n i₀ i = n - i
 
 loop-holds : tie.Need-loop-holds Inv-loop μ-loop
 loop-holds c = (search needs, refusal-all _)
@@ -24,14 +24,14 @@ judge-row-requires : tie.Need-judge-row-requires Inv-loop μ-loop
 judge-row-requires c κs = search needs
 
 -- what is known of the present engagement, by what it lacks
-judged : (c : tie.After-judge-row Inv-loop μ-loop) → let s = c .before .before .before .before .before .before .before .before in
+judged : (c : tie.After-judge-row Inv-loop μ-loop) → let s = c .before .before .before .before .before in
     let i = c .before .before .loop .i in
-    let book = bookIn (s .args .c) (s .args .calendar .now) (s .args .pairs .now) (s .args .register .now) (s .args .readings .now) (s .args .engagements .now) in settlementRefusal book ≡ rowRefusal i (numberOf (c .judge-row .result)) (refusalAt book (i + 1))
-judged c = let s = c .before .before .before .before .before .before .before .before in
+    let book = bookWith (s .args .book .now) (s .args .engagements .now) in settlementRefusal book ≡ rowRefusal i (numberOf (c .judge-row .result)) (refusalAt book (i + 1))
+judged c = let s = c .before .before .before .before .before in
     let l = c .before .before .loop in
-    let book = bookIn (s .args .c) (s .args .calendar .now) (s .args .pairs .now) (s .args .register .now) (s .args .readings .now) (s .args .engagements .now) in
+    let book = bookWith (s .args .book .now) (s .args .engagements .now) in
     l .inv .1
-    ∙ refusal-row (s .pre) (l .i) (search needs)
+    ∙ refusal-row (s .pre .0) (l .i) (search needs)
     ∙ ap (λ (o : Option ℕ). rowRefusal (l .i) o (refusalAt book (l .i + 1))) (sym (c .judge-row .ensures))
 
 enum-told : tie.Need-enum-told Inv-loop μ-loop
@@ -63,7 +63,7 @@ loop-again c = (search needs, judged (c .before .before) ∙ rw (c .enum-told .g
 
 returns-3 : tie.Need-returns-3 Inv-loop μ-loop
 returns-3 c = let l = c .before in
-    sym (l .loop .inv .1 ∙ refusal-last (c .before .before .before .before .before .before .before .pre) (l .loop .i) (search needs))
+    sym (l .loop .inv .1 ∙ refusal-last (c .before .before .before .before .pre .0) (l .loop .i) (search needs))
 
 pub judge-rows-spec : {M : Type 1} → statement M
 judge-rows-spec =

@@ -1,10 +1,12 @@
--- The book's own refusal comes first; then the sections are cut out of it, and they make the book that the bytes say.
+-- The book's own refusal comes first, then those of its engagements: with them it is the book that the bytes say.
 use mathlib.Core.Path.{_≡_, sym, ap, _∙_}
+use mathlib.Core.List.{List}
 use mathlib.Core.Option.{none}
+use Prim.Native.Nat.{ℕ}
 use Rattle.book.specs.Judged.{refusalOf}
 use Rattle.volumes.specs.Settlement.{settlementRefusal}
-use Rattle.settlement.specs.Sections.{bookIn}
-use Rattle.settlement.specs.SectionsLaws.{bytes-long, same-book, sectioned}
+use Rattle.settlement.specs.Sections.{bookWith}
+use Rattle.settlement.specs.SectionsLaws.{bytes-long, same-book, opened}
 use Rattle.settlement.specs.Verdicts.{refusalIn}
 use Rattle.settlement.specs.VerdictsLaws.{book-refused, book-passed}
 use borrow.Author.Needs.{needs}
@@ -33,34 +35,21 @@ passed c = let k = c .before .before in
     sym (k .before .judge-book .ensures) ∙ sym (k .verdict-of .ensures) ∙ ap refusalIn (c .enum-told .given .1)
 
 section-requires : tie.Need-section-requires
-section-requires c κs = (passed (c), search needs)
-
-section-requires-2 : tie.Need-section-requires-2
-section-requires-2 c κs = (passed (c .before), search needs)
-
-section-requires-3 : tie.Need-section-requires-3
-section-requires-3 c κs = (passed (c .before .before), search needs)
-
-section-requires-4 : tie.Need-section-requires-4
-section-requires-4 c κs = (passed (c .before .before .before), search needs)
-
-section-requires-5 : tie.Need-section-requires-5
-section-requires-5 c κs = (passed (c .before .before .before .before), search needs)
+section-requires c κs = (passed c, search needs)
 
 calendar-of-requires : tie.Need-calendar-of-requires
-calendar-of-requires c κs = bytes-long (c .before .before .before .before .before .before .before .before .before .before .args .book .now) (passed (c .before .before .before .before .before))
+calendar-of-requires c κs = bytes-long (c .before .before .before .before .before .before .args .book .now) (passed (c .before))
 
 judge-rows-requires : tie.Need-judge-rows-requires
 judge-rows-requires c κs =
-    rw (c .calendar-of .ensures, c .before .before .before .before .before .section .ensures, c .before .before .before .before .section2 .ensures, c .before .before .before .section3 .ensures, c .before .before .section4 .ensures, c .before .section5 .ensures)
-    (sectioned (c .before .before .before .before .before .before .before .before .before .before .before .args .book .now) (passed (c .before .before .before .before .before .before)))
+    (rw (c .before .section .ensures) (opened (c .before .before .before .before .before .before .before .args .book .now) (passed (c .before .before))), c .calendar-of .ensures)
 
 returns-2 : tie.Need-returns-2
 returns-2 c =
-    let bytes = c .before .before .before .before .before .before .before .before .before .before .before .before .args .book .now in
-    let h = passed (c .before .before .before .before .before .before .before) in
+    let bytes = c .before .before .before .before .before .before .before .before .args .book .now in
+    let h = passed (c .before .before .before) in
     c .judge-rows .ensures
-    ∙ (λ i. settlementRefusal (bookIn (c .before .calendar-of .ensures i) (c .before .before .before .before .before .before .section .ensures i) (c .before .before .before .before .before .section2 .ensures i) (c .before .before .before .before .section3 .ensures i) (c .before .before .before .section4 .ensures i) (c .before .before .section5 .ensures i)))
+    ∙ ap (λ (l : List ℕ). settlementRefusal (bookWith bytes l)) (c .before .before .section .ensures)
     ∙ ap settlementRefusal (same-book bytes h)
     ∙ book-passed bytes h
 
@@ -74,10 +63,6 @@ judge-settlement-spec =
     returns
     enum-told
     section-requires
-    section-requires-2
-    section-requires-3
-    section-requires-4
-    section-requires-5
     calendar-of-requires
     judge-rows-requires
     returns-2)

@@ -8,7 +8,7 @@ use lib.Seq.{sets, length-sets}
 use Rattle.book.specs.Engagements.{engagementAt}
 use Rattle.volumes.specs.Settlement.{rowWidth, rowsOf}
 use Rattle.volumes.specs.SettlementLaws.{rowsOf-length}
-use Rattle.settlement.specs.Sections.{bookIn}
+use Rattle.settlement.specs.Sections.{bookWith}
 use Rattle.settlement.specs.PartsLaws.{rowCountTo, count-none, count-more, count-most, partsTo, parts-none, parts-more}
 use Rattle.settlement.specs.SettlingLaws.{rows-all, not-refused}
 use borrow.Author.Needs.{needs}
@@ -17,29 +17,29 @@ use Rattle.settlement.proofs.settle.fill_rows.Statement.{statement}
 use Rattle.settlement.proofs.settle.fill_rows.Tie as tie
 
 abbrev Inv-loop : tie.InvT-loop
-Inv-loop c calendar pairs register readings engagements out₀ n at₀ i₀ out at i = (i ≤ n) × (at ≡ rowWidth * rowCountTo engagements i) × (out ≡ sets out₀ 0 (partsTo (rowsOf (bookIn c calendar pairs register readings engagements)) engagements i))
+Inv-loop c book engagements out₀ n at₀ i₀ out at i = (i ≤ n) × (at ≡ rowWidth * rowCountTo engagements i) × (out ≡ sets out₀ 0 (partsTo (rowsOf (bookWith book engagements)) engagements i))
 
 abbrev μ-loop : tie.MeasureT-loop
-μ-loop c calendar pairs register readings engagements out₀ n at₀ i₀ out at i = n - i
+μ-loop c book engagements out₀ n at₀ i₀ out at i = n - i
 
 loop-holds : tie.Need-loop-holds Inv-loop μ-loop
-loop-holds c = (search needs, omega (arith, count-none (c .before .before .before .before .before .args .engagements .now)), sym (parts-none _ _ _))
+loop-holds c = (search needs, omega (arith, count-none (c .before .before .args .engagements .now)), sym (parts-none _ _ _))
 
 -- the rows lent have room for one engagement's more
-room : (c : tie.In-loop Inv-loop μ-loop) → let s = c .before .before .before .before .before .before .before in
+room : (c : tie.In-loop Inv-loop μ-loop) → let s = c .before .before .before .before in
     let l = c .before .loop in
     l .at + rowWidth * engagementAt (s .args .engagements .now) (l .i) .count ≤ length (l .out)
 room c =
-    let s = c .before .before .before .before .before .before .before in
+    let s = c .before .before .before .before in
     let l = c .before .loop in
     let engagements = s .args .engagements .now in
-    let same = ap length (l .inv .2) ∙ length-sets (s .args .out .now) 0 (partsTo (rowsOf (bookIn (s .args .c) (s .args .calendar .now) (s .args .pairs .now) (s .args .register .now) (s .args .readings .now) (s .args .engagements .now))) engagements (l .i)) in
-    omega (arith, same, l .inv .1, count-more engagements (l .i) (search needs), count-most engagements (l .i + 1), s .pre .2)
+    let same = ap length (l .inv .2) ∙ length-sets (s .args .out .now) 0 (partsTo (rowsOf (bookWith (s .args .book .now) (s .args .engagements .now))) engagements (l .i)) in
+    omega (arith, same, l .inv .1, count-more engagements (l .i) (search needs), count-most engagements (l .i + 1), s .pre .3)
 
 fill-row-requires : tie.Need-fill-row-requires Inv-loop μ-loop
 fill-row-requires c κs =
-    let s = c .before .before .before .before .before .before .before .before in
-    (s .pre .0, search needs, not-refused (s .pre .0) (s .pre .1) (c .before .before .loop .i) (search needs), room (c .before))
+    let s = c .before .before .before .before .before in
+    (s .pre .0, s .pre .1, search needs, not-refused (s .pre .0) (s .pre .2) (c .before .before .loop .i) (search needs), room (c .before))
 
 add-i : tie.Need-add-i Inv-loop μ-loop
 add-i c = search needs
@@ -49,9 +49,9 @@ loop-less c = search needs
 
 loop-again : tie.Need-loop-again Inv-loop μ-loop
 loop-again c =
-    let s = c .before .before .before .before .before .before .before .before .before .before in
+    let s = c .before .before .before .before .before .before .before in
     let l = c .before .before .before .before .loop in
-    let book = bookIn (s .args .c) (s .args .calendar .now) (s .args .pairs .now) (s .args .register .now) (s .args .readings .now) (s .args .engagements .now) in
+    let book = bookWith (s .args .book .now) (s .args .engagements .now) in
     let r = c .before .fill-row .ensures in
     let more = count-more (s .args .engagements .now) (l .i) (search needs) in (
       search needs,
@@ -66,9 +66,9 @@ same-length c = ap length (c .before .loop .inv .2) ∙ simp length-sets
 
 returns : tie.Need-returns Inv-loop μ-loop
 returns c =
-    let s = c .before .before .before .before .before .before .before in
+    let s = c .before .before .before .before in
     let l = c .before .loop in
-    l .inv .2 ∙ ap (sets (s .args .out .now) 0) (rows-all _ _ _ _ _ _ (l .i) (search needs))
+    l .inv .2 ∙ ap (sets (s .args .out .now) 0) (rows-all _ _ (l .i) (search needs))
 
 pub fill-rows-spec : {M : Type 1} → statement M
 fill-rows-spec =

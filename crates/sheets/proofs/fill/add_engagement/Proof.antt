@@ -6,41 +6,42 @@ use lib.IntN.{pos}
 use lib.ListN.{replicate, length-replicate}
 use Rattle.book.specs.declared.Engagement.{Engagement}
 use Rattle.book.specs.Engagements.{engagementAt}
-use Rattle.settlement.specs.Sections.{bookIn}
-use Rattle.settlement.specs.EngagedLaws.{engaged-as}
+use Rattle.settlement.specs.Sections.{bookWith}
+use Rattle.settlement.specs.EngagedLaws.{engaged}
 use Rattle.sheets.specs.Adds.{adds}
 use Rattle.sheets.specs.Shares.{getsOf, Both, correctionsFor, firstCell}
 use Rattle.sheets.specs.EngagementLaws.{Placing, engagement-placed, engagement-gets, engagement-both}
 use Rattle.sheets.proofs.fill.add_engagement.Statement.{statement}
 use Rattle.sheets.proofs.fill.add_engagement.Tie as tie
 
+section-requires : tie.Need-section-requires
+section-requires c κs = (c .before .before .pre .0 .passed, search needs)
+
 engagement-at-requires : tie.Need-engagement-at-requires
 engagement-at-requires c κs = search needs
+
+-- where the engagement stands
+placed : (s : tie.Start) → Placing (s .args .c) (engagementAt (s .args .engagements .now) (s .args .i))
+placed s = rw (s .pre .1) (engagement-placed (s .pre .0) (s .args .i) (s .pre .2))
 
 cast-point-at : tie.Need-cast-point-at
 cast-point-at c = search needs
 
 point-at-requires : tie.Need-point-at-requires
 point-at-requires c κs =
-    let s = c .before .before .before .before .before .before .before in
-    engaged-as (s .pre .0) (s .args .i) (s .pre .1) (c .before .engagement-at .ensures) .registered
-
--- where the engagement stands
-placed : (s : tie.Start) → Placing (s .args .c) (engagementAt (s .args .engagements .now) (s .args .i))
-placed s = engagement-placed (s .pre .0) (s .args .i) (s .pre .1)
+    let s = c .before .before .before .before .before in
+    rw (c .before .before .section .ensures, c .before .engagement-at .ensures) (engaged (s .pre .0) (s .args .i) (s .pre .2) .registered)
 
 first-cell-requires : tie.Need-first-cell-requires
-first-cell-requires c κs =
-    let p = placed (c .before .before .before .before .before .before .before .before) in
-    rw (c .before .before .engagement-at .ensures) (p .day, p .settled)
+first-cell-requires c κs = let p = placed (c .before .before .before .before .before .before) in rw (c .before .before .engagement-at .ensures) (p .day, p .settled)
 
 slice-aggregate-fill-row : tie.Need-slice-aggregate-fill-row
 slice-aggregate-fill-row c = search needs
 
 fill-row-requires : tie.Need-fill-row-requires
 fill-row-requires c κs =
-    let s = c .before .before .before .before .before .before .before .before .before .before in
-    (s .pre .0, s .pre .1, s .pre .2, omega (arith, placed s .few))
+    let s = c .before .before .before .before .before .before .before .before in
+    (s .pre .0, s .pre .1, s .pre .2, s .pre .3, omega (arith, placed s .few))
 
 slice-aggregate-add-rows : tie.Need-slice-aggregate-add-rows
 slice-aggregate-add-rows c = search needs
@@ -51,34 +52,34 @@ cast-add-rows c = search needs
 -- what the party gets of the rows, and that they add up
 gets : (c : tie.After-fill-row) → let k = c .before .before .before in
     let g = k .before .before in
-    let s = g .before .before .before .before .before .before in
+    let s = g .before .before .before .before in
     let a = s .args in
-    getsOf (a .party) (k .point-at .result) (c .fill-row .last .1 .1 .1 .1 .1 .1 .1 .0) (g .engagement-at .result .count) ≡ correctionsFor (bookIn (a .c) (a .calendar .now) (a .pairs .now) (a .register .now) (a .readings .now) (a .engagements .now)) (a .party) (engagementAt (a .engagements .now) (a .i))
+    getsOf (a .party) (k .point-at .result) (c .fill-row .last .1 .1 .1 .1 .0) (g .engagement-at .result .count) ≡ correctionsFor (bookWith (a .book .now) (a .engagements .now)) (a .party) (engagementAt (a .engagements .now) (a .i))
 gets c =
     let k = c .before .before .before in
     let g = k .before .before in
-    let s = g .before .before .before .before .before .before in
-    engagement-gets (s .pre .0) (s .args .i) (s .pre .1) (replicate 384 (pos 0)) (omega (arith, length-replicate 384 (pos 0))) (g .engagement-at .ensures) (k .point-at .ensures) (c .fill-row .ensures .1) (s .args .party)
+    let s = g .before .before .before .before in
+    engagement-gets (s .pre .0) (s .args .i) (s .pre .2) (replicate 384 (pos 0)) (omega (arith, length-replicate 384 (pos 0))) (g .engagement-at .ensures) (k .point-at .ensures) (g .before .section .ensures) (c .fill-row .ensures .1) (s .args .party)
 
-both : (c : tie.After-fill-row) → Both (c .fill-row .last .1 .1 .1 .1 .1 .1 .1 .0) (c .before .before .before .before .before .engagement-at .result .count)
+both : (c : tie.After-fill-row) → Both (c .fill-row .last .1 .1 .1 .1 .0) (c .before .before .before .before .before .engagement-at .result .count)
 both c =
     let k = c .before .before .before in
     let g = k .before .before in
-    let s = g .before .before .before .before .before .before in
-    engagement-both (s .pre .0) (s .args .i) (s .pre .1) (replicate 384 (pos 0)) (omega (arith, length-replicate 384 (pos 0))) (g .engagement-at .ensures) (k .point-at .ensures) (c .fill-row .ensures .1)
+    let s = g .before .before .before .before in
+    engagement-both (s .pre .0) (s .args .i) (s .pre .2) (replicate 384 (pos 0)) (omega (arith, length-replicate 384 (pos 0))) (g .engagement-at .ensures) (k .point-at .ensures) (g .before .section .ensures) (c .fill-row .ensures .1)
 
 -- the first of its cells
-cell : (c : tie.After-first-cell) → let a = c .before .before .before .before .before .before .before .before .before .args in
+cell : (c : tie.After-first-cell) → let a = c .before .before .before .before .before .before .before .args in
     c .first-cell .result ≡ firstCell (a .c) (engagementAt (a .engagements .now) (a .i))
-cell c = c .first-cell .ensures ∙ ap (firstCell (c .before .before .before .before .before .before .before .before .before .args .c)) (c .before .before .before .engagement-at .ensures)
+cell c = c .first-cell .ensures ∙ ap (firstCell (c .before .before .before .before .before .before .before .args .c)) (c .before .before .before .engagement-at .ensures)
 
 add-rows-requires : tie.Need-add-rows-requires
 add-rows-requires c κs =
     let f = c .before .before .before .before in
     let g = f .before .before .before .before .before in
-    let s = g .before .before .before .before .before .before in
+    let s = g .before .before .before .before in
     let few = placed s .few in
-    (omega (arith, ap (λ (e : Engagement). e .count) (g .engagement-at .ensures), f .fill-row .kept .1 .1 .1 .1 .1 .1 .1 .0), both f, rw (cell (f .before .before), gets f) (s .pre .3))
+    (omega (arith, ap (λ (e : Engagement). e .count) (g .engagement-at .ensures), f .fill-row .kept .1 .1 .1 .1 .0), both f, rw (cell (f .before .before), gets f) (s .pre .4))
 
 same-length : tie.Need-same-length
 same-length c = search needs
@@ -86,13 +87,14 @@ same-length c = search needs
 returns : tie.Need-returns
 returns c =
     let f = c .before .before .before .before .before .before in
-    let s = f .before .before .before .before .before .before .before .before .before .before .before in
+    let s = f .before .before .before .before .before .before .before .before .before in
     c .before .add-rows .ensures ∙ ap₂ (adds (s .args .sums .now)) (cell (f .before .before)) (gets f)
 
 pub add-engagement-spec : {M : Type 1} → statement M
 add-engagement-spec =
     tie.close
     (tie.spec
+    section-requires
     engagement-at-requires
     cast-point-at
     point-at-requires

@@ -1,4 +1,4 @@
--- The sections make the book that the bytes say, so their sheet is its sheet.
+-- With its own engagements the book is the one that the bytes say, so their sheet is its sheet.
 use mathlib.Core.Path.{_≡_, ap, _∙_}
 use mathlib.Core.Option.{none}
 use mathlib.Core.List.{_++_}
@@ -9,8 +9,8 @@ use Rattle.book.specs.Judged.{refusalOf}
 use Rattle.volumes.specs.Quarters.{monthQuarters}
 use Rattle.volumes.specs.Sheets.{sheet}
 use Rattle.volumes.specs.SettlementLaws.{passing}
-use Rattle.settlement.specs.Sections.{bookIn}
-use Rattle.settlement.specs.SectionsLaws.{bytes-long, same-book, sectioned, cut-settled}
+use Rattle.settlement.specs.Sections.{bookWith}
+use Rattle.settlement.specs.SectionsLaws.{bytes-long, same-book, opened, own-settled}
 use borrow.Author.Needs.{needs}
 use Rattle.sheets.proofs.fill.fill_sheet.Statement.{statement}
 use Rattle.sheets.proofs.fill.fill_sheet.Tie as tie
@@ -22,31 +22,17 @@ passed c = passing (c .args .book .now) (c .pre .0) .passed
 section-requires : tie.Need-section-requires
 section-requires c κs = (passed (c .before), search needs)
 
-section-requires-2 : tie.Need-section-requires-2
-section-requires-2 c κs = (passed (c .before .before), search needs)
-
-section-requires-3 : tie.Need-section-requires-3
-section-requires-3 c κs = (passed (c .before .before .before), search needs)
-
-section-requires-4 : tie.Need-section-requires-4
-section-requires-4 c κs = (passed (c .before .before .before .before), search needs)
-
-section-requires-5 : tie.Need-section-requires-5
-section-requires-5 c κs = (passed (c .before .before .before .before .before), search needs)
-
 calendar-of-requires : tie.Need-calendar-of-requires
-calendar-of-requires c κs = bytes-long (c .before .before .before .before .before .before .args .book .now) (passed (c .before .before .before .before .before .before))
+calendar-of-requires c κs = bytes-long (c .before .before .args .book .now) (passed (c .before .before))
 
 fill-cells-requires : tie.Need-fill-cells-requires
 unfolding bookOf
 fill-cells-requires c κs =
-    let s = c .before .before .before .before .before .before .before .before in
+    let s = c .before .before .before .before in
     let bytes = s .args .book .now in
-    let e = c .before .before .section5 .ensures in (
-      rw (c .before .calendar-of .ensures, c .before .before .before .before .before .before .section .ensures, c .before .before .before .before .before .section2 .ensures, c .before .before .before .before .section3 .ensures, c .before .before .before .section4 .ensures, e) (sectioned bytes (passed s)),
-      rw (c .before .calendar-of .ensures, c .before .before .before .before .before .before .section .ensures, c .before .before .before .before .before .section2 .ensures, c .before .before .before .before .section3 .ensures, c .before .before .before .section4 .ensures, e) (cut-settled bytes (s .pre .0)),
-      rw (c .before .calendar-of .ensures) (s .pre .1),
-    )
+    let e = c .before .before .section .ensures in
+    let k = c .before .calendar-of .ensures in
+    (rw e (opened bytes (passed s)), k, rw e (own-settled bytes (s .pre .0)), rw k (s .pre .1))
 
 same-length : tie.Need-same-length
 same-length c = search needs
@@ -54,21 +40,19 @@ same-length c = search needs
 returns : tie.Need-returns
 unfolding bookOf
 returns c =
-    let s = c .before .before .before .before .before .before .before .before .before .before in
+    let s = c .before .before .before .before .before .before in
+    let bytes = s .args .book .now in
     let k = c .before .before .before .calendar-of .ensures in
+    let e = c .before .before .before .before .section .ensures in
     c .before .fill-cells .ensures
-    ∙ (λ i. sheet (bookIn (k i) (c .before .before .before .before .before .before .before .before .section .ensures i) (c .before .before .before .before .before .before .before .section2 .ensures i) (c .before .before .before .before .before .before .section3 .ensures i) (c .before .before .before .before .before .section4 .ensures i) (c .before .before .before .before .section5 .ensures i)) (s .args .party) ++ drop (monthQuarters (k i)) (s .args .sums .now))
-    ∙ ap (λ (b : Book). sheet b (s .args .party) ++ drop (monthQuarters (calendarOf (s .args .book .now))) (s .args .sums .now)) (same-book (s .args .book .now) (passed s))
+    ∙ (λ i. sheet (bookWith bytes (e i)) (s .args .party) ++ drop (monthQuarters (k i)) (s .args .sums .now))
+    ∙ ap (λ (b : Book). sheet b (s .args .party) ++ drop (monthQuarters (calendarOf bytes)) (s .args .sums .now)) (same-book bytes (passed s))
 
 pub fill-sheet-spec : {M : Type 1} → statement M
 fill-sheet-spec =
     tie.close
     (tie.spec
     section-requires
-    section-requires-2
-    section-requires-3
-    section-requires-4
-    section-requires-5
     calendar-of-requires
     fill-cells-requires
     same-length
