@@ -1,5 +1,5 @@
 -- Rows as parts of a section, and sections as parts of the book.
-use mathlib.Core.Path.{_≡_, refl, sym, ap, ap₂, _∙_}
+use mathlib.Core.Path.{_≡_, refl, sym, ap, _∙_}
 use mathlib.Core.Bool.{true, _&&_}
 use mathlib.Core.List.{List, [], _∷_}
 use Prim.Native.Nat.{ℕ, zero, suc, _+_, _-_, _*_, _≤_}
@@ -12,9 +12,8 @@ use Rattle.integers.specs.Tests.{both}
 use Rattle.wire.specs.Numbers.{numberAt}
 use Rattle.wire.specs.NumbersLaws.{in-part}
 use Rattle.book.specs.declared.Calendar.{Calendar}
-use Rattle.book.specs.declared.header.Places.{Places}
 use Rattle.book.specs.Calendars.{daysOf, quartersOf, Ranged}
-use Rattle.book.specs.Header.{version, calendarOf, pointCount, engagementCount, between, versionTaken, headerFields, headerGood, pointWidth, engagementWidth, rowAt, offsetOf, lengthOf, isPair, sizes, adjoining, placesOf, sectionOf, calendarSection, pairSection, registerSection, readingSection, engagementSection}
+use Rattle.book.specs.Header.{version, calendarOf, pointCount, engagementCount, between, versionTaken, headerFields, headerGood, pointWidth, engagementWidth, rowAt, offsetOf, lengthOf, isPair, sizes, adjoining, sectionOf}
 
 -- the part that ends a row later is the row
 pub row-part : (w : ℕ) (section : List ℕ) (i : ℕ) → take (w * i + w - w * i) (drop (w * i) section) ≡ rowAt w section i
@@ -40,23 +39,29 @@ at-row w section i k h = ap (λ (a : ℕ). numberAt section a k) (sym (add-zero 
 pub adjoins : (book : List ℕ) (k at n : ℕ) (ns : List ℕ) → adjoining book k at (n ∷ ns) ≡ true → (isPair book k at n ≡ true) × (adjoining book (suc k) (at + n) ns ≡ true)
 adjoins book k at n ns e = both (isPair book k at n) (adjoining book (suc k) (at + n) ns) e
 
--- pair k names the section that stands at a place, and has a size
-section-at : (book : List ℕ) (k at n size : ℕ) → isPair book k at n ≡ true → size ≡ n → take size (drop at book) ≡ sectionOf book k
-section-at book k at n size e f =
+-- pair k names a part of the book, of n bytes
+pub record Held (book : List ℕ) (k n : ℕ) : Type 0 where
+  pub inside : offsetOf book k + lengthOf book k ≤ length book
+  pub size : length (sectionOf book k) ≡ n
+
+held : (book : List ℕ) (k at n : ℕ) → isPair book k at n ≡ true → at + n ≤ length book → Held book k n
+held book k at n e h =
     let pair = both (eqb (offsetOf book k) at) (eqb (lengthOf book k) n) e in
-    ap₂ (λ (m a : ℕ). take m (drop a book)) (f ∙ sym (eqb-true (lengthOf book k) n (pair .1))) (sym (eqb-true (offsetOf book k) at (pair .0)))
+    let o = eqb-true (offsetOf book k) at (pair .0) in
+    let l = eqb-true (lengthOf book k) n (pair .1) in
+    record { inside = omega arith; size = simp (length-take, length-drop) (omega arith) }
 
--- the parts of a book that is laid out so are its sections
-pub record Parts (book : List ℕ) (p : Places) : Type 0 where
-  pub calendar : take (p .pairs - 56) (drop 56 book) ≡ calendarSection book
-  pub pairs : take (p .register - p .pairs) (drop (p .pairs) book) ≡ pairSection book
-  pub register : take (p .readings - p .register) (drop (p .register) book) ≡ registerSection book
-  pub readings : take (p .engagements - p .readings) (drop (p .readings) book) ≡ readingSection book
-  pub engagements : take (p .end - p .engagements) (drop (p .engagements) book) ≡ engagementSection book
-  pub whole : length book ≡ p .end
+-- the sections of a book that is laid out for a calendar, so many points and so many engagements
+pub record Laid (book : List ℕ) (c : Calendar) (points rows : ℕ) : Type 0 where
+  pub long : 56 ≤ length book
+  pub calendar : Held book 0 (daysOf c)
+  pub pairs : Held book 1 8
+  pub register : Held book 2 (pointWidth * points)
+  pub readings : Held book 3 (4 * quartersOf c * points)
+  pub engagements : Held book 4 (engagementWidth * rows)
 
-pub parts : (book : List ℕ) (c : Calendar) (points rows : ℕ) → adjoining book 0 56 (sizes c points rows) ≡ true → Parts book (placesOf c points rows)
-parts book c points rows e =
+pub laid : (book : List ℕ) (c : Calendar) (points rows : ℕ) → adjoining book 0 56 (sizes c points rows) ≡ true → Laid book c points rows
+laid book c points rows e =
     let days = daysOf c in
     let reg = pointWidth * points in
     let met = 4 * quartersOf c * points in
@@ -66,29 +71,15 @@ parts book c points rows e =
     let r₂ = adjoins book 2 (56 + days + 8) reg (met ∷ eng ∷ []) (r₁ .1) in
     let r₃ = adjoins book 3 (56 + days + 8 + reg) met (eng ∷ []) (r₂ .1) in
     let r₄ = adjoins book 4 (56 + days + 8 + reg + met) eng [] (r₃ .1) in
+    let whole = eqb-true (length book) (56 + days + 8 + reg + met + eng) (r₄ .1) in
     record {
-      calendar = section-at book 0 56 days (56 + days - 56) (r₀ .0) (omega arith);
-      pairs = section-at book 1 (56 + days) 8 (56 + days + 8 - (56 + days)) (r₁ .0) (omega arith);
-      register = section-at book 2 (56 + days + 8) reg (56 + days + 8 + reg - (56 + days + 8)) (r₂ .0) (omega arith);
-      readings = section-at book 3 (56 + days + 8 + reg) met (56 + days + 8 + reg + met - (56 + days + 8 + reg)) (r₃ .0) (omega arith);
-      engagements = section-at book 4 (56 + days + 8 + reg + met) eng (56 + days + 8 + reg + met + eng - (56 + days + 8 + reg + met)) (r₄ .0) (omega arith);
-      whole = eqb-true (length book) (56 + days + 8 + reg + met + eng) (r₄ .1);
+      long = omega arith;
+      calendar = held book 0 56 days (r₀ .0) (omega arith);
+      pairs = held book 1 (56 + days) 8 (r₁ .0) (omega arith);
+      register = held book 2 (56 + days + 8) reg (r₂ .0) (omega arith);
+      readings = held book 3 (56 + days + 8 + reg) met (r₃ .0) (omega arith);
+      engagements = held book 4 (56 + days + 8 + reg + met) eng (r₄ .0) (omega arith);
     }
-
--- what the places say in numbers: each section has its room
-pub record Rooms (c : Calendar) (points rows : ℕ) (p : Places) : Type 0 where
-  pub calendar : p .pairs ≡ 56 + daysOf c
-  pub pairs : p .register ≡ p .pairs + 8
-  pub register : p .readings ≡ p .register + 64 * points
-  pub readings : p .engagements ≡ p .readings + 4 * quartersOf c * points
-  pub engagements : p .end ≡ p .engagements + 16 * rows
-
-pub rooms : (c : Calendar) (points rows : ℕ) → Rooms c points rows (placesOf c points rows)
-rooms c points rows = record { calendar = refl; pairs = refl; register = refl; readings = refl; engagements = refl }
-
--- a part from a to e has room for what ends at e
-pub part-room : (l : List ℕ) (a e n : ℕ) → e ≡ a + n → e ≤ length l → n ≤ length (take (e - a) (drop a l))
-part-room l a e n f g = simp (length-take, length-drop) (omega arith)
 
 -- what a good header says
 pub record Headed (book : List ℕ) : Type 0 where

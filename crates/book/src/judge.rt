@@ -42,24 +42,16 @@ fn judge_sections(book: &[u8], c: Calendar, points: usize, rows: usize) -> Judge
     requires { ⌜ Ranged c × (points ≤ 256) × (rows ≤ 512) × (adjoining (now book) 0 56 (sizes c points rows) ≡ true) ⌝ }
     ensures { λ r. ⌜ sentBack r ≡ sectionsRefusal c points rows (calendarSection (now (book .entry))) (pairSection (now (book .entry))) (registerSection (now (book .entry))) (readingSection (now (book .entry))) (engagementSection (now (book .entry))) ⌝ }
 {
-    let p = crate::header::layout_at(c, points, rows);
-    let pairs = p.pairs;
-    let register = p.register;
-    let readings = p.readings;
-    let engagements = p.engagements;
-    let end = p.end;
-    let calendar = crate::tables::calendar_good(&book[56..pairs]);
-    if !(calendar & crate::tables::pairs_good(&book[pairs..register])) {
+    let calendar = crate::sections::section(book, 0);
+    let pairs = crate::sections::section(book, 1);
+    let register = crate::sections::section(book, 2);
+    let readings = crate::sections::section(book, 3);
+    let engagements = crate::sections::section(book, 4);
+    let days = crate::tables::calendar_good(calendar);
+    if !(days & crate::tables::pairs_good(pairs)) {
         return Judged::Tables;
     }
-    judge_rows(
-        c,
-        points,
-        rows,
-        &book[register..readings],
-        &book[readings..engagements],
-        &book[engagements..end],
-    )
+    judge_rows(c, points, rows, register, readings, engagements)
 }
 
 pub fn judge_book(book: &[u8]) -> Judged

@@ -4,6 +4,7 @@ pub mod header;
 pub mod judge;
 pub mod metering;
 pub mod register;
+pub mod sections;
 pub mod tables;
 
 // The month, and the lead days before it.

@@ -1,4 +1,4 @@
-// The sections of a book, as parts of it.
+// The sections of a book that has been judged.
 ghost use mathlib.Core.Path.{_≡_};
 ghost use mathlib.Core.Option.{none};
 ghost use Prim.Native.Nat.{_≤_};
@@ -10,7 +10,5 @@ pub fn section(book: &[u8], k: usize) -> &[u8]
     requires { ⌜ (refusalOf (now book) ≡ none) × (k ≤ 4) ⌝ }
     ensures { λ r. ⌜ now r ≡ sectionOf (now (book .entry)) k ⌝ }
 {
-    let a = wire::u32_at(book, 16 + 8 * k) as usize;
-    let e = a + (wire::u32_at(book, 20 + 8 * k) as usize);
-    &book[a..e]
+    book::sections::section(book, k)
 }
