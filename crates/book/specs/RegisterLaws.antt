@@ -2,12 +2,13 @@
 use mathlib.Core.Path.{_≡_, refl, sym}
 use mathlib.Core.Bool.{Bool, true, false}
 use mathlib.Core.List.{List}
-use Prim.Native.Nat.{ℕ, zero, suc, _-_, _/_, _^_, _≤_}
+use Prim.Native.Nat.{ℕ, zero, suc, _-_, _/_, _^_, _≤_, _<_}
 use native.Mathlib.Nat.{div-lt-iff-lt-mul, one-le-pow}
 use native.Mathlib.Omega.{arith}
 use lib.Dec.{eqb, leb, ltb}
 use borrow.Author.Tests.{ltb-true, ltb-false, eq-eqb, ne-eqb, le-leb, lt-leb}
-use Rattle.book.specs.Register.{situationOf, takersOf, isKnown, supplyOf, methodOf, registerRow, deliveryIn, notAbove}
+use Rattle.integers.specs.First.{anyBelow}
+use Rattle.book.specs.Register.{situationOf, takersOf, isKnown, supplyOf, methodOf, registerRow, deliveryIn, accessIn, notAbove, differs}
 use Rattle.book.specs.declared.Situation.the-variants.{NetInjector}
 use Rattle.book.specs.declared.Supply.the-variants.{Injection}
 use Rattle.book.specs.declared.Method.the-variants.{Adjusted}
@@ -59,3 +60,15 @@ bits-above mask d = go (ltb mask (2 ^ d)) refl
 pub above-at : (register : List ℕ) (i : ℕ) → (i ≡ 0 → ⊥) → notAbove register i ≡ leb (deliveryIn (registerRow register i)) (deliveryIn (registerRow register (i - 1)))
 above-at register zero h = absurd (h refl)
 above-at register (suc i) h = let e : suc i - 1 ≡ i = omega arith in rw e
+
+-- no access EAN of the rows before row i is above a number
+abbrev pub Topped : List ℕ → ℕ → ℕ → Type 0
+Topped register i top = (j : ℕ) → j < i → accessIn (registerRow register j) ≤ top
+
+-- so row i, whose own is above it, has an access point with none of them
+pub none-shared : (register : List ℕ) (i top : ℕ) → Topped register i top → top < accessIn (registerRow register i) → (n : ℕ) → n ≤ i → anyBelow (differs register i) n ≡ false
+unfolding anyBelow
+none-shared register i top h k zero m = refl
+none-shared register i top h k (suc n) m =
+    let other : eqb (accessIn (registerRow register i)) (accessIn (registerRow register n)) ≡ false = ne-eqb (accessIn (registerRow register i)) (accessIn (registerRow register n)) (λ e. omega (arith, e, h n (omega arith))) in
+    rw (none-shared register i top h k n (omega arith), other)

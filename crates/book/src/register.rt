@@ -6,12 +6,13 @@ use crate::Situation;
 use crate::Supply;
 use crate::Takers;
 ghost use mathlib.Core.Path.{_≡_};
-ghost use Prim.Native.Nat.{_+_, _*_, _^_, _≤_, _<_};
+ghost use Prim.Native.Nat.{_+_, _*_, _^_, _≤_, _<_, max};
 ghost use lib.Dec.{ltb};
 ghost use lib.ListN.{length};
 ghost use Rattle.integers.specs.First.{first, anyBelow};
 ghost use Rattle.book.specs.Judged.{foundAt};
-ghost use Rattle.book.specs.Register.{situationOf, supplyOf, methodOf, takersOf, isKnown, pointOf, pointAt, excludes, numbersGood, bytesGood, notAbove, differs, badPoint};
+ghost use Rattle.book.specs.Register.{situationOf, supplyOf, methodOf, takersOf, isKnown, accessIn, pointOf, registerRow, pointAt, excludes, numbersGood, bytesGood, notAbove, differs, badPoint};
+ghost use Rattle.book.specs.RegisterLaws.{Topped};
 
 // The situation's byte decides which file kinds take the point.
 pub fn takers_of(situation: u8) -> Takers
@@ -191,15 +192,40 @@ fn differs_earlier(register: &[u8], i: usize) -> bool
     false
 }
 
-fn bad_point(register: &[u8], i: usize, days: u32) -> bool
-    requires { ⌜ (64 * i + 64 ≤ length (now register)) × (days ≤ 64) ⌝ }
+// The access EAN of row i.
+fn access_at(register: &[u8], i: usize) -> u64
+    requires { ⌜ 64 * i + 64 ≤ length (now register) ⌝ }
+    ensures { λ r. ⌜ r ≡ accessIn (registerRow (now (register .entry)) i) ⌝ }
+{
+    wire::u64_at(register, 64 * i + 8)
+}
+
+// The same, where no access EAN of an earlier row is above `top`: none of them is row i's if that is.
+fn differs_below(register: &[u8], i: usize, top: u64) -> bool
+    requires { ⌜ (64 * i + 64 ≤ length (now register)) × Topped (now register) i top ⌝ }
+    ensures { λ r. ⌜ r ≡ anyBelow (differs (now (register .entry)) i) i ⌝ }
+{
+    if top < access_at(register, i) {
+        return false;
+    }
+    differs_earlier(register, i)
+}
+
+fn bad_point(register: &[u8], i: usize, days: u32, top: u64) -> bool
+    requires { ⌜ (64 * i + 64 ≤ length (now register)) × (days ≤ 64) × Topped (now register) i top ⌝ }
     ensures { λ r. ⌜ r ≡ badPoint days (now (register .entry)) i ⌝ }
 {
     let a = 64 * i;
     let e = a + 64;
     let row = &register[a..e];
     let good = numbers_good(row, days) & bytes_good(row);
-    !good | (not_above(register, i) | differs_earlier(register, i))
+    !good | (not_above(register, i) | differs_below(register, i, top))
+}
+
+fn larger(a: u64, b: u64) -> u64
+    ensures { λ r. ⌜ r ≡ max a b ⌝ }
+{
+    if a < b { b } else { a }
 }
 
 // The first bad row of n.
@@ -207,11 +233,13 @@ pub fn judge_register(register: &[u8], n: usize, days: u32) -> Found
     requires { ⌜ (64 * n ≤ length (now register)) × (days ≤ 64) ⌝ }
     ensures { λ r. ⌜ foundAt r ≡ first (badPoint days (now (register .entry))) 0 n ⌝ }
 {
+    let mut top: u64 = 0;
     let mut i = 0;
     while i < n {
-        if bad_point(register, i, days) {
+        if bad_point(register, i, days, top) {
             return Found::At(i);
         }
+        top = larger(top, access_at(register, i));
         i += 1;
     }
     Found::Nothing

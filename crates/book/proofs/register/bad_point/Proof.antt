@@ -31,8 +31,8 @@ bytes-good-requires c κs = search needs
 not-above-requires : tie.Need-not-above-requires
 not-above-requires c κs = search needs
 
-differs-earlier-requires : tie.Need-differs-earlier-requires
-differs-earlier-requires c κs = search needs
+differs-below-requires : tie.Need-differs-below-requires
+differs-below-requires c κs = search needs
 
 returns : tie.Need-returns
 unfolding badPoint
@@ -40,7 +40,7 @@ returns c = let s = c .before .before .before .before .before .before .args in
     let row = row-part 64 (s .register .now) (s .i) in
     let numbers = c .before .before .before .numbers-good .ensures ∙ ap (numbersGood (s .days)) row in
     let bytes = c .before .before .bytes-good .ensures ∙ ap bytesGood row in
-    ap₂ (λ (g o : Bool). not g || o) (ap₂ _&&_ numbers bytes) (ap₂ _||_ (c .before .not-above .ensures) (c .differs-earlier .ensures))
+    ap₂ (λ (g o : Bool). not g || o) (ap₂ _&&_ numbers bytes) (ap₂ _||_ (c .before .not-above .ensures) (c .differs-below .ensures))
 
 pub bad-point-spec : {M : Type 1} → statement M
 bad-point-spec =
@@ -54,5 +54,5 @@ bad-point-spec =
     numbers-good-requires
     bytes-good-requires
     not-above-requires
-    differs-earlier-requires
+    differs-below-requires
     returns)
