@@ -7,6 +7,7 @@ use book::Point;
 ghost use mathlib.Core.Path.{_≡_};
 ghost use Prim.Native.Nat.{_+_, _*_, _≤_, _<_};
 ghost use lib.ListN.{length};
+ghost use Rattle.book.specs.Calendars.{quartersOf};
 ghost use Rattle.book.specs.Book.{Book};
 ghost use Rattle.baseline.specs.Tally.{inRow, Tallied};
 ghost use Rattle.baseline.specs.Shown.{Shows, Fits, Refers, windowIn};
@@ -38,16 +39,17 @@ fn window_good(readings: &[u8], base: usize, q: usize, method: Method) -> bool
     }
 }
 
-// A day before the engagement's: whole where it is eligible, and then its sum.
+// A day before the engagement's, of the point whose readings start at `base`: whole where it is eligible, and then its sum.
 pub fn reference_day(
     c: Calendar,
     calendar: &[u8],
     readings: &[u8],
     point: Point,
     e: Engagement,
+    base: usize,
     day: usize,
 ) -> Tally
-    requires { ⌜ Fits c (now calendar) (now readings) e × (day < e .day) ⌝ }
+    requires { ⌜ Fits c (now calendar) (now readings) e × (base ≡ quartersOf c * e .point) × (day < e .day) ⌝ }
     ensures { λ r. ⌜ (r .sum ≤ 4294967295 * e .count) × ((b : Book) → Shows c (now (calendar .entry)) (now (readings .entry)) point e b → Refers b e day r) ⌝ }
 {
     let own = e.day as usize;
@@ -60,7 +62,6 @@ pub fn reference_day(
             sum: 0,
         };
     }
-    let base = (book::header::quarters_of(c) as usize) * (e.point as usize);
     let q = (book::header::day_start(c, day as u64) + (e.first as u64)) as usize;
     let t = crate::tally::tally_row(readings, base + q, e.count as usize);
     let good = window_good(readings, base, q, method);

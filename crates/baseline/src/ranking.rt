@@ -66,6 +66,7 @@ pub fn rank_days(
     requires { ⌜ Fits c (now calendar) (now readings) e × (y ≤ length (now keys)) ⌝ }
     ensures { λ r. ⌜ ((b : Book) → Shows c (now (calendar .entry)) (now (readings .entry)) point e b → RankedTo b e y (now (keys .entry)) (now (keys .exit)) r) ⌝ }
 {
+    let base = crate::judge::base_of(c, e);
     let mut day = e.day as usize;
     let mut found = 0;
     while found < y {
@@ -73,7 +74,7 @@ pub fn rank_days(
             return found;
         }
         day -= 1;
-        let t = crate::days::reference_day(c, calendar, readings, point, e, day);
+        let t = crate::days::reference_day(c, calendar, readings, point, e, base, day);
         found = consider(keys, found, t, day);
     }
     found

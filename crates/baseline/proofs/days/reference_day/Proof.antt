@@ -29,7 +29,7 @@ cast-excludes c = search needs
 
 excludes-requires : tie.Need-excludes-requires
 excludes-requires c κs = let s = c .before .before .before .before .before in
-    let m = stands (s .args .c) (s .args .calendar .now) (s .args .readings .now) (s .args .e) (s .args .day) (s .pre .0) (omega (arith, s .pre .0 .day, s .pre .1)) in
+    let m = stands (s .args .c) (s .args .calendar .now) (s .args .readings .now) (s .args .e) (s .args .day) (s .pre .0) (omega (arith, s .pre .0 .day, s .pre .2)) in
     omega (arith, m .early)
 
 returns : tie.Need-returns
@@ -40,57 +40,46 @@ returns c = (
       refers-not shows (s .day) (ap (λ (x : Bool). eqb (getD (s .calendar .now) (s .day) 0) (getD (s .calendar .now) (s .e .day) 0) && not x) (sym (c .before .excludes .ensures)) ∙ not-true _ (c .if1 .taken)),
 )
 
-quarters-of-requires : tie.Need-quarters-of-requires
-quarters-of-requires c κs = search needs
-
-cast-base : tie.Need-cast-base
-cast-base c = search needs
-
-mul-base : tie.Need-mul-base
-mul-base c = let s = c .before .before .before .before .before .before .before .before .before in
-    let m = stands (s .args .c) (s .args .calendar .now) (s .args .readings .now) (s .args .e) (s .args .day) (s .pre .0) (omega (arith, s .pre .0 .day, s .pre .1)) in
-    omega (arith, m .base, ap (λ (q : ℕ). q * s .args .e .point) (c .before .quarters-of .ensures))
-
 day-start-requires : tie.Need-day-start-requires
-day-start-requires c κs = let s = c .before .before .before .before .before .before .before .before .before in
-    let m = stands (s .args .c) (s .args .calendar .now) (s .args .readings .now) (s .args .e) (s .args .day) (s .pre .0) (omega (arith, s .pre .0 .day, s .pre .1)) in
+day-start-requires c κs = let s = c .before .before .before .before .before .before .before in
+    let m = stands (s .args .c) (s .args .calendar .now) (s .args .readings .now) (s .args .e) (s .args .day) (s .pre .0) (omega (arith, s .pre .0 .day, s .pre .2)) in
     omega (arith, m .early)
 
 cast-q : tie.Need-cast-q
 cast-q c = search needs
 
 add-q : tie.Need-add-q
-add-q c = let s = c .before .before .before .before .before .before .before .before .before .before .before in
-    let m = stands (s .args .c) (s .args .calendar .now) (s .args .readings .now) (s .args .e) (s .args .day) (s .pre .0) (omega (arith, s .pre .0 .day, s .pre .1)) in
+add-q c = let s = c .before .before .before .before .before .before .before .before .before in
+    let m = stands (s .args .c) (s .args .calendar .now) (s .args .readings .now) (s .args .e) (s .args .day) (s .pre .0) (omega (arith, s .pre .0 .day, s .pre .2)) in
     omega (arith, m .inside, m .few, c .before .day-start .ensures)
 
 add-tally-row : tie.Need-add-tally-row
-add-tally-row c = let s = c .before .before .before .before .before .before .before .before .before .before .before in
-    let m = stands (s .args .c) (s .args .calendar .now) (s .args .readings .now) (s .args .e) (s .args .day) (s .pre .0) (omega (arith, s .pre .0 .day, s .pre .1)) in
-    omega (arith, m .inside, m .few, m .base, c .before .day-start .ensures, ap (λ (q : ℕ). q * s .args .e .point) (c .before .before .before .quarters-of .ensures))
+add-tally-row c = let s = c .before .before .before .before .before .before .before .before .before in
+    let m = stands (s .args .c) (s .args .calendar .now) (s .args .readings .now) (s .args .e) (s .args .day) (s .pre .0) (omega (arith, s .pre .0 .day, s .pre .2)) in
+    omega (arith, m .inside, m .few, m .base, c .before .day-start .ensures, s .pre .1)
 
 cast-tally-row : tie.Need-cast-tally-row
 cast-tally-row c = search needs
 
 tally-row-requires : tie.Need-tally-row-requires
-tally-row-requires c κs = let s = c .before .before .before .before .before .before .before .before .before .before .before .before in
-    let m = stands (s .args .c) (s .args .calendar .now) (s .args .readings .now) (s .args .e) (s .args .day) (s .pre .0) (omega (arith, s .pre .0 .day, s .pre .1)) in
-    (omega (arith, m .roomy, c .before .before .day-start .ensures, ap (λ (q : ℕ). q * s .args .e .point) (c .before .before .before .before .quarters-of .ensures)), m .many)
+tally-row-requires c κs = let s = c .before .before .before .before .before .before .before .before .before .before in
+    let m = stands (s .args .c) (s .args .calendar .now) (s .args .readings .now) (s .args .e) (s .args .day) (s .pre .0) (omega (arith, s .pre .0 .day, s .pre .2)) in
+    (omega (arith, m .roomy, c .before .before .day-start .ensures, s .pre .1), m .many)
 
 window-good-requires : tie.Need-window-good-requires
-window-good-requires c κs = let s = c .before .before .before .before .before .before .before .before .before .before .before .before .before in
-    let m = stands (s .args .c) (s .args .calendar .now) (s .args .readings .now) (s .args .e) (s .args .day) (s .pre .0) (omega (arith, s .pre .0 .day, s .pre .1)) in
-    (omega (arith, m .base, ap (λ (q : ℕ). q * s .args .e .point) (c .before .before .before .before .before .quarters-of .ensures)), omega (arith, m .inside, m .few, c .before .before .before .day-start .ensures), omega (arith, m .roomy, c .before .before .before .day-start .ensures, ap (λ (q : ℕ). q * s .args .e .point) (c .before .before .before .before .before .quarters-of .ensures)))
+window-good-requires c κs = let s = c .before .before .before .before .before .before .before .before .before .before .before in
+    let m = stands (s .args .c) (s .args .calendar .now) (s .args .readings .now) (s .args .e) (s .args .day) (s .pre .0) (omega (arith, s .pre .0 .day, s .pre .2)) in
+    (omega (arith, m .base, s .pre .1), omega (arith, m .inside, m .few, c .before .before .before .day-start .ensures), omega (arith, m .roomy, c .before .before .before .day-start .ensures, s .pre .1))
 
 returns-2 : tie.Need-returns-2
 returns-2 c = (
   c .before .before .tally-row .ensures .small,
   λ b shows.
-      let s = c .before .before .before .before .before .before .before .before .before .before .before .before .before .before .before .args in
-      let base = ap (λ (q : ℕ). q * s .e .point) (c .before .before .before .before .before .before .before .quarters-of .ensures) in
+      let s = c .before .before .before .before .before .before .before .before .before .before .before .before .before .args in
+      let base = c .before .before .before .before .before .before .before .before .before .before .before .before .before .pre .1 in
       let q = ap (λ (n : ℕ). n + s .e .first) (c .before .before .before .before .before .day-start .ensures) in
       refers shows (s .day)
-      (ap (λ (x : Bool). eqb (getD (s .calendar .now) (s .day) 0) (getD (s .calendar .now) (s .e .day) 0) && not x) (sym (c .before .before .before .before .before .before .before .before .before .excludes .ensures)) ∙ not-false _ (c .before .before .before .before .before .before .before .before .if1 .left))
+      (ap (λ (x : Bool). eqb (getD (s .calendar .now) (s .day) 0) (getD (s .calendar .now) (s .e .day) 0) && not x) (sym (c .before .before .before .before .before .before .before .excludes .ensures)) ∙ not-false _ (c .before .before .before .before .before .before .if1 .left))
       (c .before .before .tally-row .result)
       (c .before .window-good .result)
       (subst (λ (a : ℕ). Tallied (inRow (s .readings .now) a (s .e .count)) (s .e .count) (c .before .before .tally-row .result)) (ap₂ _+_ base q) (c .before .before .tally-row .ensures))
@@ -107,9 +96,6 @@ reference-day-spec =
     cast-excludes
     excludes-requires
     returns
-    quarters-of-requires
-    cast-base
-    mul-base
     day-start-requires
     cast-q
     add-q

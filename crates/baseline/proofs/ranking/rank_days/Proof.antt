@@ -12,16 +12,19 @@ use Rattle.baseline.proofs.ranking.rank_days.Statement.{statement}
 use Rattle.baseline.proofs.ranking.rank_days.Tie as tie
 
 abbrev Inv-loop : tie.InvT-loop
-Inv-loop c calendar readings point e y keys₀ day₀ found₀ keys day found = (day ≤ e .day) × (found ≤ y) × (length keys ≡ length keys₀) × ((b : Book) → Shows c calendar readings point e b → Scanned b e day keys₀ keys found)
+Inv-loop c calendar readings point e y keys₀ base day₀ found₀ keys day found = (day ≤ e .day) × (found ≤ y) × (length keys ≡ length keys₀) × ((b : Book) → Shows c calendar readings point e b → Scanned b e day keys₀ keys found)
 
 abbrev μ-loop : tie.MeasureT-loop
-μ-loop c calendar readings point e y keys₀ day₀ found₀ keys day found = day
+μ-loop c calendar readings point e y keys₀ base day₀ found₀ keys day found = day
+
+base-of-requires : tie.Need-base-of-requires Inv-loop μ-loop
+base-of-requires c κs = let s = c .before .before .before in (s .pre .0 .ranged, s .pre .0 .few)
 
 cast-day : tie.Need-cast-day Inv-loop μ-loop
 cast-day c = search needs
 
 loop-holds : tie.Need-loop-holds Inv-loop μ-loop
-loop-holds c = (omega arith, omega arith, refl, λ b shows. scan-start b (c .before .before .before .before .args .e) (c .before .before .before .before .args .keys .now))
+loop-holds c = (omega arith, omega arith, refl, λ b shows. scan-start b (c .before .before .before .before .before .args .e) (c .before .before .before .before .before .args .keys .now))
 
 same-length : tie.Need-same-length Inv-loop μ-loop
 same-length c = c .before .before .loop .inv .2
@@ -29,7 +32,7 @@ same-length c = c .before .before .loop .inv .2
 returns : tie.Need-returns Inv-loop μ-loop
 returns c = λ b shows.
     let l = c .before .before in
-    let s = l .before .before .before .before .before in
+    let s = l .before .before .before .before .before .before in
     scan-few b (s .args .e) (l .loop .day) (s .args .y) (s .args .keys .now) (l .loop .keys) (l .loop .found) (l .loop .inv .3 b shows) (c .if1 .taken) (l .loop .inv .1)
 
 sub-day : tie.Need-sub-day Inv-loop μ-loop
@@ -37,11 +40,11 @@ sub-day c = search needs
 
 reference-day-requires : tie.Need-reference-day-requires Inv-loop μ-loop
 reference-day-requires c κs = let l = c .before .before in
-    (l .before .before .before .before .before .pre .0, omega arith)
+    (l .before .before .before .before .before .before .pre .0, l .before .before .base-of .ensures, omega arith)
 
 consider-requires : tie.Need-consider-requires Inv-loop μ-loop
 consider-requires c κs = let l = c .before .before .before .before in
-    let s = l .before .before .before .before .before in
+    let s = l .before .before .before .before .before .before in
     let m = stands (s .args .c) (s .args .calendar .now) (s .args .readings .now) (s .args .e) (s .args .e .day) (s .pre .0) (s .pre .0 .day) in
     (omega (arith, l .loop .inv .2, s .pre .1), omega (arith, c .before .reference-day .ensures .0, m .many), omega (arith, m .early))
 
@@ -50,7 +53,7 @@ loop-less c = search needs
 
 loop-again : tie.Need-loop-again Inv-loop μ-loop
 loop-again c = let l = c .before .before .before .before .before .before .before in
-    let s = l .before .before .before .before .before in
+    let s = l .before .before .before .before .before .before in
     let m = stands (s .args .c) (s .args .calendar .now) (s .args .readings .now) (s .args .e) (s .args .e .day) (s .pre .0) (s .pre .0 .day) in
     let r = c .before .before .consider in (
       omega arith,
@@ -65,7 +68,7 @@ same-length-2 c = c .before .loop .inv .2
 returns-2 : tie.Need-returns-2 Inv-loop μ-loop
 returns-2 c = λ b shows.
     let l = c .before in
-    let s = l .before .before .before .before .before in
+    let s = l .before .before .before .before .before .before in
     scan-full b (s .args .e) (l .loop .day) (s .args .y) (s .args .keys .now) (l .loop .keys) (l .loop .found) (l .loop .inv .3 b shows) (l .loop .inv .0) (omega arith)
 
 pub rank-days-spec : {M : Type 1} → statement M
@@ -74,6 +77,7 @@ rank-days-spec =
     (tie.spec
     Inv-loop
     μ-loop
+    base-of-requires
     cast-day
     loop-holds
     same-length
