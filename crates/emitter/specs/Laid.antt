@@ -10,6 +10,7 @@ use native.Mathlib.Nat.{add-assoc, add-zero, zero-add}
 use borrow.Author.Tests.{leb-true, leb-false, le-leb, lt-leb}
 use Rattle.text.specs.Written.{written, Wrote}
 use Rattle.text.specs.WrittenLaws.{written-nil, written-both, wrote-length}
+use Rattle.formats.specs.PlaceLaws.{no-at, same-at}
 use Rattle.formats.specs.declared.Mark.{Mark}
 use Rattle.formats.specs.declared.Mark.the-variants.{At, No}
 use Rattle.message.specs.Calls.{over}
@@ -55,19 +56,13 @@ pub record Reached (len p n q : ℕ) : Type 0 where
   pub is : q ≡ p + n
   pub room : p + n ≤ len
 
-no-place : (q : ℕ) → No ≡ At q → ⊥
-no-place q e = let z : _≡_ {A = ℕ} 0 1 = cc in omega arith
-
-same-place : (p q : ℕ) → At p ≡ At q → p ≡ q
-same-place p q e = cc
-
 pub reached : (len p n q : ℕ) → ahead len (At p) n ≡ At q → Reached len p n q
 unfolding ahead
 reached len p n q e = go (leb (p + n) len) refl e
   where
     go : (b : Bool) → leb (p + n) len ≡ b → cond b (At (p + n)) No ≡ At q → Reached len p n q
-    go true t f = record { is = sym (same-place (p + n) q f); room = leb-true (p + n) len t }
-    go false t f = absurd (no-place q f)
+    go true t f = record { is = sym (same-at f); room = leb-true (p + n) len t }
+    go false t f = absurd (no-at q f)
 
 pub ahead-twice : (len : ℕ) (m : Mark) (a b : ℕ) → ahead len (ahead len m a) b ≡ ahead len m (a + b)
 unfolding ahead
@@ -84,7 +79,7 @@ both-wrote : (d a b out out′ : List ℕ) (p q : ℕ) (n : Mark) → n ≡ ahea
     → ((r : ℕ) → n ≡ At r → out ≡ written d p a) → ((r : ℕ) → n ≡ At r → out′ ≡ written out r b) → ahead (length d) n (length b) ≡ At q
     → out′ ≡ written d p (a ++ b)
 unfolding ahead
-both-wrote d a b out out′ p q No e k v w f = absurd (no-place q f)
+both-wrote d a b out out′ p q No e k v w f = absurd (no-at q f)
 both-wrote d a b out out′ p q (At r) e k v w f =
     let x = reached (length d) p (length a) r (sym e) in
     let y = reached (length d) r (length b) q f in
@@ -113,7 +108,7 @@ pub laid-dry : (live : Bool) (d : List ℕ) (m : Mark) (bs : List ℕ) (n : Mark
 laid-dry live d m bs n e f = record { keeps = refl; behind = f; dry = λ g. refl; wrote = λ g. absurd (true-false live g e) }
 
 pub laid-full : (live : Bool) (d : List ℕ) (m : Mark) (bs : List ℕ) → ahead (length d) m (length bs) ≡ No → Laid live d m bs d No
-laid-full live d m bs e = record { keeps = refl; behind = sym e; dry = λ f. refl; wrote = λ f p q g h. absurd (no-place q h) }
+laid-full live d m bs e = record { keeps = refl; behind = sym e; dry = λ f. refl; wrote = λ f p q g h. absurd (no-at q h) }
 
 pub laid-nowhere : (live : Bool) (d : List ℕ) (m : Mark) (bs : List ℕ) → m ≡ No → Laid live d m bs d No
 unfolding ahead
@@ -125,7 +120,7 @@ laid-live live d m p bs out q e f w =
       keeps = wrote-length w;
       behind = ap At (w .behind) ∙ sym (ahead-fits (length d) p (length bs) (w .room)) ∙ ap (λ (k : Mark). ahead (length d) k (length bs)) (sym f);
       dry = λ g. absurd (true-false live e g);
-      wrote = λ g r s h i. w .list ∙ ap (λ (j : ℕ). written d j bs) (same-place p r (sym f ∙ h));
+      wrote = λ g r s h i. w .list ∙ ap (λ (j : ℕ). written d j bs) (same-at (sym f ∙ h));
     }
 
 -- there is room up to a place that was reached
@@ -186,5 +181,5 @@ pub laid-no-room : {d bs d′ : List ℕ} → Laid false d (At 0) bs d′ No →
 laid-no-room {d} {bs} {d′} v = record { short = go (leb (length bs) (length d)) refl; same = v .dry refl }
   where
     go : (b : Bool) → leb (length bs) (length d) ≡ b → length d < length bs
-    go true e = absurd (no-place (0 + length bs) (v .behind ∙ ahead-fits (length d) 0 (length bs) (omega (arith, leb-true (length bs) (length d) e))))
+    go true e = absurd (no-at (0 + length bs) (v .behind ∙ ahead-fits (length d) 0 (length bs) (omega (arith, leb-true (length bs) (length d) e))))
     go false e = leb-false (length bs) (length d) e

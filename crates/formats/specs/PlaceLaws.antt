@@ -1,4 +1,4 @@
--- What the readers' tests show of a reading at a place.
+-- What an equation of marks shows, and what the readers' tests show of a reading at a place.
 use mathlib.Core.Path.{_≡_, refl, sym, ap, _∙_}
 use mathlib.Core.Bool.{Bool, true, false, cond}
 use mathlib.Core.List.{List, [], _∷_}
@@ -25,6 +25,16 @@ use Rattle.formats.specs.Numbers.{moreParse, numberParse}
 use Rattle.formats.specs.Name.{span, span-split, nameParse}
 use Rattle.formats.specs.Run.{onward}
 use Rattle.formats.specs.Place.{Parsed}
+
+-- ---- marks
+
+pub no-at : (q : ℕ) → No ≡ At q → ⊥
+no-at q e = let z : _≡_ {A = ℕ} 0 1 = cc in omega arith
+
+pub same-at : {p q : ℕ} → At p ≡ At q → p ≡ q
+same-at e = cc
+
+-- ---- a reading at a place
 
 module _ {A : Type 0} (f : List ℕ → Res A) (s : List ℕ) (p : ℕ) (v : A) where
   pub parsed : (q : ℕ) → f (drop p s) ≡ got v (drop q s) → q ≤ length s → Parsed f s (At p) (At q) v

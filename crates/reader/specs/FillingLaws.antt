@@ -14,6 +14,7 @@ use Rattle.formats.specs.FormatLaws.{got-bad}
 use Rattle.formats.specs.Combine.{strip, mapParse, onlyParse}
 use Rattle.formats.specs.Items.{itemsParse, items-end, items-step}
 use Rattle.formats.specs.Place.{Parsed}
+use Rattle.formats.specs.PlaceLaws.{no-at, same-at}
 use Rattle.formats.specs.declared.Mark.{Mark}
 use Rattle.formats.specs.declared.Mark.the-variants.{At, No}
 use Rattle.message.specs.Rows.{Row, rowNumbers, numbers}
@@ -22,12 +23,6 @@ use Rattle.message.specs.SixesLaws.{length-numbers}
 use Rattle.reader.specs.Filling.{Fills, Stored}
 
 -- ---- places
-
-pub no-at : (q : ℕ) → No ≡ At q → ⊥
-no-at q e = let z : _≡_ {A = ℕ} 0 1 = cc in omega arith
-
-pub same-at : {p q : ℕ} → At p ≡ At q → p ≡ q
-same-at e = cc
 
 -- what was read where something is there
 ended : {A : Type 0} (f : List ℕ → Res A) (s : List ℕ) (m r : Mark) (v w : A) (p : ℕ) (rest : List ℕ) → Parsed f s m r v → m ≡ At p → f (drop p s) ≡ got w rest

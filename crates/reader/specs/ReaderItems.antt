@@ -11,7 +11,7 @@ use Rattle.formats.specs.Combine.{mapParse, onlyParse}
 use Rattle.formats.specs.Items.{itemsParse, items-end, items-bad, items-step}
 use Rattle.formats.specs.Run.{Run}
 use Rattle.formats.specs.Place.{Parsed}
-use Rattle.formats.specs.PlaceLaws.{parsed, not-there}
+use Rattle.formats.specs.PlaceLaws.{no-at, parsed, not-there}
 use Rattle.formats.specs.declared.Mark.{Mark}
 use Rattle.formats.specs.declared.Mark.the-variants.{At, No}
 use Rattle.reader.specs.Reading.{parsed-no}
@@ -66,9 +66,6 @@ pub record Unviewed {A B : Type 0} (view : A → B) (f : List ℕ → Res A) (s 
   pub value : A
   pub parsed : Parsed f s m r value
   pub is : (q : ℕ) → r ≡ At q → view value ≡ b
-
-no-at : (q : ℕ) → No ≡ At q → ⊥
-no-at q e = let z : _≡_ {A = ℕ} 0 1 = cc in omega arith
 
 pub unview : {A B : Type 0} (view : A → B) (none : A) (f : List ℕ → Res A) (s : List ℕ) (m r : Mark) (b : B) → Parsed (mapParse view f) s m r b → Unviewed view f s m r b
 unview view none f s No No b p = record { value = none; parsed = parsed-no f s none; is = λ q e. absurd (no-at q e) }

@@ -10,6 +10,7 @@ use Rattle.formats.specs.Combine.{strip, mapParse}
 use Rattle.formats.specs.Exactly.{exactlyParse, fixedDigits}
 use Rattle.formats.specs.Name.{nameByte, span, nameParse, name}
 use Rattle.formats.specs.Place.{Within, Parsed, left}
+use Rattle.formats.specs.PlaceLaws.{no-at, same-at}
 use Rattle.formats.specs.declared.Mark.{Mark}
 use Rattle.formats.specs.declared.Mark.the-variants.{At, No}
 use Rattle.kinds.specs.declared.Kind.{Kind}
@@ -20,7 +21,7 @@ use Rattle.message.specs.FileForm.{kindForm, partnersForm}
 use Rattle.reader.specs.ReaderItems.{folded, read-long}
 use Rattle.reader.specs.ReaderPartner.{tagForm}
 use Rattle.reader.specs.ReaderPartners.{adding}
-use Rattle.reader.specs.FillingLaws.{began, no-at, same-at}
+use Rattle.reader.specs.FillingLaws.{began}
 
 -- the mark b before the ID, c behind it and the byte that ends it, d before the moment
 abbrev pub idStart : Kind → ℕ
