@@ -12,6 +12,10 @@ use lib.Seq.{sets, length-sets, sets-eq, getD-append-add}
 use lib.Dec.{ltb}
 use borrow.Author.Tests.{le-leb, le-ltb, lt-ltb}
 use Rattle.integers.specs.Counts.{times-mem}
+use Rattle.integers.specs.Tests.{and-both}
+use Rattle.integers.specs.Ranges.{range, length-range}
+use Rattle.integers.specs.Rises.{rises}
+use Rattle.integers.specs.All.{All, each-all}
 use Rattle.formats.specs.declared.Mark.{Mark}
 use Rattle.message.specs.Keys.{numberKeys}
 use Rattle.message.specs.Group.{group, first-group}
@@ -21,7 +25,6 @@ use Rattle.emitter.specs.Parts.{fileHead, fileEnd}
 use Rattle.filing.specs.LayingLaws.{file-bytes}
 use Rattle.reports.specs.Ascending.{ascending}
 use Rattle.reports.specs.AscendingLaws.{ascending-once}
-use Rattle.formats.specs.Rising.{rises, All, and-both}
 use Rattle.book.specs.declared.Supply.{Supply}
 use Rattle.book.specs.declared.Supply.the-variants.{OffTake, Injection}
 use Rattle.book.specs.declared.Direction.{Direction}
@@ -45,13 +48,12 @@ use Rattle.volumes.specs.QuartersLaws.{flatMap-append}
 use Rattle.writer.specs.WriterRows.{rowAt, Paired}
 use Rattle.writer.specs.WriterContents.{partnersIn, Writable}
 use Rattle.reports.specs.Keep.{keep, isSome}
-use Rattle.reports.specs.KeepLaws.{keep-mem, mem-keep, each-all, keep-rises, keep-length}
+use Rattle.reports.specs.KeepLaws.{keep-mem, mem-keep, keep-rises, keep-length}
 use Rattle.reports.specs.FileRows.{supplyNumber, deliveryNumber, directions, partnerNumbers, observationsOf, isWritten, partnerAt, partnersOf, fileText, Volumes, observationsBy, timeSeriesBy, partnerBy, partnersBy}
 use Rattle.filing.specs.Partners.{partnerIf, partnerColumn, noPartner, Next}
 use Rattle.filing.specs.SeriesSums.{cellAt}
 use Rattle.filing.specs.SeriesSumsWritten.{observationIf, observationsIn}
 use Rattle.filing.specs.SeriesSumsWrittenLaws.{no-observation, one-observation, observations-none, observations-more}
-use Rattle.integers.specs.Ranges.{range, length-range}
 use Rattle.reports.specs.Registered.{Registered}
 use Rattle.reports.specs.FormLaws.{partners-valid}
 use Rattle.filing.specs.PartnerRows.{rowsBy, seriesRowsOf, partnerRowsOf, Filled, seriesRowsBy, partnerRowsBy}

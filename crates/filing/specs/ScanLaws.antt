@@ -9,7 +9,7 @@ use lib.Dec.{leb}
 use borrow.Author.Tests.{leb-true, leb-false, le-leb, lt-leb}
 use Rattle.integers.specs.Counts.{times-mem}
 use Rattle.integers.specs.Tests.{both}
-use Rattle.formats.specs.Rising.{rises}
+use Rattle.integers.specs.Rises.{rises}
 use Rattle.reports.specs.Keep.{keep}
 use Rattle.reports.specs.Ascending.{ascending}
 use Rattle.reports.specs.AscendingLaws.{ascending-rises, ascending-once}

@@ -1,30 +1,16 @@
 -- Items whose keys rise strictly.
-use mathlib.Core.Path.{_≡_, refl, sym}
-use mathlib.Core.Bool.{Bool, true, false, _&&_}
+use mathlib.Core.Path.{_≡_, refl}
+use mathlib.Core.Bool.{true}
 use mathlib.Core.List.{List, [], _∷_, map, flatMap}
 use Prim.Native.Nat.{ℕ, suc}
 use lib.ListN.{length}
 use lib.Dec.{leb}
-use Rattle.text.specs.DecimalLaws.{true-false}
+use Rattle.integers.specs.Tests.{and-left, and-right, and-both}
+use Rattle.integers.specs.Rises.{rises}
+use Rattle.integers.specs.All.{All}
 use Rattle.formats.specs.Format.{Format}
 use Rattle.formats.specs.Combine.{Recast, recast, only}
 use Rattle.formats.specs.Items.{items, itemsRender, ItemsOk, items-bytes}
-
--- numbers from `low` on, each greater than the one before
-unfoldable pub rises : ℕ → List ℕ → Bool
-rises low [] = true
-rises low (n ∷ l) = leb low n && rises (suc n) l
-
-pub and-left : (a b : Bool) → (a && b) ≡ true → a ≡ true
-and-left true b e = refl
-and-left false b e = e
-
-pub and-right : (a b : Bool) → (a && b) ≡ true → b ≡ true
-and-right true b e = e
-and-right false b e = absurd (true-false (sym e))
-
-pub and-both : {a b : Bool} → a ≡ true → b ≡ true → (a && b) ≡ true
-and-both e f = rw (e, f)
 
 module _ {A S : Type 0} (F : S → Format A) (key : A → ℕ) (next : S → A → S) where
   -- an item under the least key that it may have and the state of the items
@@ -74,10 +60,6 @@ module _ {A S : Type 0} (F : S → Format A) (key : A → ℕ) (next : S → A �
 
 -- ---- each element
 
-unfoldable pub All : {A : Type 0} → (A → Type 0) → List A → Type 0
-All P [] = Unit {0}
-All P (a ∷ l) = P a × All P l
-
 module _ {A S : Type 0} (F : Format A) (next : S → A → S) where
   pub to-all : (st : S) (l : List A) → ItemsOk (λ st. F) next st l → All (F .Ok) l
   unfolding ItemsOk All
@@ -88,8 +70,3 @@ module _ {A S : Type 0} (F : Format A) (next : S → A → S) where
   unfolding ItemsOk All
   from-all st [] ok = tt
   from-all st (a ∷ l) ok = (ok .0, from-all (next st a) l (ok .1))
-
-pub all-map : {A : Type 0} {P Q : A → Type 0} → ((a : A) → P a → Q a) → (l : List A) → All P l → All Q l
-unfolding All
-all-map h [] ok = tt
-all-map h (a ∷ l) ok = (h a (ok .0), all-map h l (ok .1))

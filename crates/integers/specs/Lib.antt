@@ -6,3 +6,5 @@ pub mod Running
 pub mod Tests
 pub mod First
 pub mod Ranges
+pub mod Rises
+pub mod All

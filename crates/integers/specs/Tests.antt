@@ -1,4 +1,4 @@
--- A test that antt computes at each number below n, as the fact at each of them.
+-- A test that antt computes at each number below n, as the fact at each of them; two tests at once.
 use mathlib.Core.Path.{_≡_, refl, sym, subst}
 use mathlib.Core.Bool.{Bool, true, false, cond, not, _&&_, _||_, and-eq-true-iff, false≢true}
 use Prim.Native.Nat.{ℕ, zero, suc, _<_, _≤_}
@@ -25,6 +25,15 @@ all-below test (suc n) t x h = go (ltb x n) (ltb→lt x n) (nltb→le x n) (all-
 -- two tests that both hold
 pub both : (a b : Bool) → (a && b) ≡ true → (a ≡ true) × (b ≡ true)
 both a b = and-eq-true-iff a b .0
+
+pub and-left : (a b : Bool) → (a && b) ≡ true → a ≡ true
+and-left a b e = both a b e .0
+
+pub and-right : (a b : Bool) → (a && b) ≡ true → b ≡ true
+and-right a b e = both a b e .1
+
+pub and-both : {a b : Bool} → a ≡ true → b ≡ true → (a && b) ≡ true
+and-both e f = rw (e, f)
 
 -- and two of which neither does
 pub neither : (a b : Bool) → (a || b) ≡ false → (a ≡ false) × (b ≡ false)

@@ -10,10 +10,11 @@ use Rattle.text.specs.Decimal.{above, fixed, plain, count, valueFrom, fixedAt}
 use Rattle.text.specs.Decimal.{digits as isDigits}
 use Rattle.text.specs.Tag.{begins}
 use Rattle.integers.specs.Running.{upTo}
+use Rattle.integers.specs.Rises.{rises}
+use Rattle.integers.specs.All.{All}
 use Rattle.formats.specs.Format.{got, readAll}
 use Rattle.formats.specs.FormatLaws.{there-and-back}
 use Rattle.formats.specs.Name.{each}
-use Rattle.formats.specs.Rising.{rises, All}
 use Rattle.formats.specs.Words.{wordAt}
 use Rattle.calendar.specs.Dates.{leap, monthLength, marchSunday, octoberSunday, dayNumber, offsetHours, nextYear, nextMonth}
 use Rattle.calendar.specs.DatesLaws.{last-sunday-is, month-length}

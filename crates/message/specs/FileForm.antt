@@ -7,6 +7,7 @@ use lib.ListN.{length}
 use lib.Dec.{leb}
 use native.Mathlib.Omega.{arith}
 use borrow.Author.Tests.{leb-true, le-leb}
+use Rattle.integers.specs.Tests.{and-left, and-right, and-both}
 use Rattle.text.specs.Ascii.{bytes}
 use Rattle.text.specs.Tag.{begins}
 use Rattle.text.specs.Decimal.{fixed, plain}
@@ -16,7 +17,7 @@ use Rattle.formats.specs.Words.{Apart, wordAt, words}
 use Rattle.formats.specs.Combine.{strip, pre, post, seq, seqBy, Recast, recast}
 use Rattle.formats.specs.Exactly.{exactly, fixedDigits}
 use Rattle.formats.specs.Name.{nameByte, each, Name, name}
-use Rattle.formats.specs.Rising.{risingItems, and-left, and-right, and-both}
+use Rattle.formats.specs.Rising.{risingItems}
 use Rattle.moments.specs.declared.Judged.{Judged}
 use Rattle.moments.specs.declared.Judged.the-variants.{Real, Malformed}
 use Rattle.moments.specs.Moments.{momentOf}

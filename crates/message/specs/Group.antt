@@ -7,7 +7,9 @@ use lib.ListN.{length}
 use lib.Dec.{leb}
 use native.Mathlib.Omega.{arith}
 use borrow.Author.Tests.{leb-true}
-use Rattle.formats.specs.Rising.{rises, All, and-left, and-right}
+use Rattle.integers.specs.Tests.{and-left, and-right}
+use Rattle.integers.specs.Rises.{rises}
+use Rattle.integers.specs.All.{All}
 
 -- keys that can be told apart
 pub record Keys (K : Type 0) : Type 0 where

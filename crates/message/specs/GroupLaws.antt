@@ -2,7 +2,7 @@
 use mathlib.Core.Path.{_≡_, refl, sym, ap, _∙_}
 use mathlib.Core.Bool.{Bool, false, cond}
 use mathlib.Core.List.{List, [], _∷_, _++_, map}
-use Rattle.formats.specs.Rising.{All}
+use Rattle.integers.specs.All.{All}
 use Rattle.message.specs.Group.{Keys, push, group, first-group}
 
 module _ {K A : Type 0} (E : Keys K) where

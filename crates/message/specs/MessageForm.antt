@@ -4,9 +4,9 @@ use mathlib.Core.List.{List, [], _∷_, map, flatMap}
 use Prim.Native.Nat.{ℕ}
 use lib.ListN.{length, length-append, length-map}
 use native.Mathlib.Omega.{arith}
+use Rattle.integers.specs.All.{All}
 use Rattle.formats.specs.Format.{Format}
 use Rattle.formats.specs.Combine.{Recast, recast}
-use Rattle.formats.specs.Rising.{All}
 use Rattle.kinds.specs.declared.Kind.{Kind}
 use Rattle.message.specs.Contents.{Observation, Partner, File}
 use Rattle.message.specs.Bytes.{fileBytes}

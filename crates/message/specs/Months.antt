@@ -6,8 +6,9 @@ use Prim.Native.Nat.{ℕ, _≤_}
 use lib.Dec.{eqb}
 use native.Mathlib.Omega.{arith}
 use borrow.Author.Tests.{eq-eqb, ne-eqb, eqb-true}
+use Rattle.integers.specs.Tests.{and-left, and-right, and-both}
+use Rattle.integers.specs.All.{All}
 use Rattle.formats.specs.Items.{ItemsOk}
-use Rattle.formats.specs.Rising.{All, and-left, and-right, and-both}
 use Rattle.kinds.specs.declared.Kind.{Kind}
 use Rattle.message.specs.Contents.{Series, Partner}
 use Rattle.message.specs.Valid.{monthOf, periods, firstOf, IsSeries, IsPartner}

@@ -7,13 +7,16 @@ use lib.Dec.{leb, ltb}
 use lib.ListN.{length, drop}
 use native.Mathlib.Omega.{arith}
 use borrow.Author.Tests.{leb-true, le-leb, ltb-true, lt-ltb}
+use Rattle.integers.specs.Tests.{and-left, and-right, and-both}
+use Rattle.integers.specs.Rises.{rises}
+use Rattle.integers.specs.All.{All}
 use Rattle.text.specs.Ascii.{bytes}
 use Rattle.text.specs.Decimal.{fixed}
 use Rattle.formats.specs.Format.{Format}
 use Rattle.formats.specs.Combine.{pre, post, postBy, seq, only, Recast, recast}
 use Rattle.formats.specs.Exactly.{fixedDigits}
 use Rattle.formats.specs.Numbers.{number}
-use Rattle.formats.specs.Rising.{rises, All, and-left, and-right, and-both, risingItems, to-all, from-all}
+use Rattle.formats.specs.Rising.{risingItems, to-all, from-all}
 use Rattle.moments.specs.Moments.{momentBytes, dateBytes, timeBytes, tailBytes, periodStart, periodEnd}
 use Rattle.message.specs.Contents.{Observation, position}
 use Rattle.message.specs.Bytes.{opening, ending, closing, element, quantityBytes, observationBytes, periodBytes}

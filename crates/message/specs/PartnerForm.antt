@@ -5,12 +5,12 @@ use mathlib.Core.List.{List, [], _∷_, _++_, append-assoc, append-nil, flatMap,
 use Prim.Native.Nat.{ℕ, _≤_, _<_}
 use lib.ListN.{length}
 use native.Mathlib.Omega.{arith}
+use Rattle.integers.specs.All.{All, all-map}
 use Rattle.text.specs.Decimal.{fixed, plain}
 use Rattle.formats.specs.Format.{Format}
 use Rattle.formats.specs.Words.{wordAt, words}
 use Rattle.formats.specs.Combine.{pre, post, seq, seqBy, Recast, recast}
 use Rattle.formats.specs.Exactly.{fixedDigits}
-use Rattle.formats.specs.Rising.{All, all-map}
 use Rattle.kinds.specs.declared.Kind.{Kind}
 use Rattle.kinds.specs.declared.Kind.the-variants.{Toe01, Toe02, Toe03}
 use Rattle.message.specs.Contents.{Series, Partner}

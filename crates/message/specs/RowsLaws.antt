@@ -7,7 +7,9 @@ use lib.ListN.{length, length-append, length-map}
 use lib.Dec.{eqb}
 use native.Mathlib.Omega.{arith}
 use borrow.Author.Tests.{eqb-true}
-use Rattle.formats.specs.Rising.{rises, All, all-map, and-left, and-right}
+use Rattle.integers.specs.Tests.{and-left, and-right}
+use Rattle.integers.specs.Rises.{rises}
+use Rattle.integers.specs.All.{All, all-map}
 use Rattle.kinds.specs.declared.Kind.{Kind}
 use Rattle.message.specs.Contents.{Observation, Series, Partner, place, number}
 use Rattle.message.specs.Valid.{monthOf, periods, firstOf, IsSeries, IsPartner}

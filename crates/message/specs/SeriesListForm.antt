@@ -5,11 +5,14 @@ use mathlib.Core.List.{List, [], _∷_, flatMap, map}
 use Prim.Native.Nat.{ℕ}
 use lib.Dec.{eqb}
 use lib.ListN.{length}
+use Rattle.integers.specs.Tests.{and-left, and-right, and-both}
+use Rattle.integers.specs.Rises.{rises}
+use Rattle.integers.specs.All.{All}
 use Rattle.text.specs.Ascii.{bytes}
 use Rattle.formats.specs.Format.{Format}
 use Rattle.formats.specs.Combine.{only, Recast, recast}
 use Rattle.formats.specs.Items.{ItemsOk}
-use Rattle.formats.specs.Rising.{rises, All, and-left, and-right, and-both, risingItems}
+use Rattle.formats.specs.Rising.{risingItems}
 use Rattle.message.specs.Contents.{Series, place}
 use Rattle.message.specs.Valid.{monthOf}
 

@@ -4,7 +4,8 @@ use mathlib.Core.Bool.{Bool, true, false}
 use mathlib.Core.List.{List, [], _∷_, map, flatMap}
 use Prim.Native.Nat.{ℕ, _*_, _^_, _≤_, _<_}
 use lib.ListN.{length}
-use Rattle.formats.specs.Rising.{rises, All}
+use Rattle.integers.specs.Rises.{rises}
+use Rattle.integers.specs.All.{All}
 use Rattle.calendar.specs.Dates.{monthLength}
 use Rattle.moments.specs.declared.Judged.{Judged}
 use Rattle.moments.specs.declared.Judged.the-variants.{Real, Malformed}

@@ -4,11 +4,11 @@ use mathlib.Core.List.{List, [], _∷_, _++_, map, flatMap}
 use Prim.Native.Nat.{ℕ, zero, suc, _+_}
 use lib.ListN.{length, take, length-append, length-map}
 use native.Mathlib.Omega.{arith}
+use Rattle.integers.specs.All.{All}
 use Rattle.formats.specs.FormatLaws.{got-bad}
 use Rattle.formats.specs.Combine.{strip}
 use Rattle.formats.specs.Words.{wordsParse}
 use Rattle.formats.specs.Name.{nameByte, span}
-use Rattle.formats.specs.Rising.{All}
 use Rattle.formats.specs.Run.{run-map, run-seq, run-pre, run-post}
 use Rattle.formats.specs.Place.{Parsed, left}
 use Rattle.formats.specs.PlaceLaws.{parsed, not-there}

@@ -12,9 +12,8 @@ use borrow.Author.Tests.{eqb-true, eq-eqb}
 use Rattle.integers.specs.Once.{Once}
 use Rattle.integers.specs.Running.{upTo}
 use Rattle.integers.specs.Sums.{naturals, integers, sumOf, sumZ, sum-cong, sum-map}
-use Rattle.integers.specs.Tests.{both}
+use Rattle.integers.specs.Tests.{both, and-both}
 use Rattle.formats.specs.Format.{got}
-use Rattle.formats.specs.Rising.{and-both}
 use Rattle.book.specs.Book.{bookOf}
 use Rattle.volumes.specs.Quarters.{monthQuarters}
 use Rattle.volumes.specs.Settlement.{bookRefusal}

@@ -7,17 +7,11 @@ use Prim.Native.Nat.{ℕ, suc, _≤_, _<_}
 use native.Mathlib.Omega.{arith}
 use lib.Dec.{leb}
 use lib.ListN.{length}
-use borrow.Author.Tests.{leb-true, le-leb}
+use borrow.Author.Tests.{leb-true}
 use Rattle.integers.specs.Sums.{Adding, sumBy}
-use Rattle.integers.specs.Tests.{both}
-use Rattle.formats.specs.Rising.{rises, All, and-both}
+use Rattle.integers.specs.Tests.{both, and-both}
+use Rattle.integers.specs.Rises.{rises, rises-earlier}
 use Rattle.reports.specs.Keep.{keep, isSome}
-
--- numbers that rise from a place on rise from an earlier one on
-pub rises-earlier : (low n : ℕ) (l : List ℕ) → low ≤ n → rises n l ≡ true → rises low l ≡ true
-unfolding rises
-rises-earlier low n [] h e = refl
-rises-earlier low n (a ∷ l) h e = let b = both (leb n a) (rises (suc a) l) e in and-both (le-leb low a (omega (arith, leb-true n a (b .0)))) (b .1)
 
 module _ {A : Type 0} (test : A → Bool) where
   pub keep-length : (l : List A) → length (keep test l) ≤ length l
@@ -81,12 +75,6 @@ module _ {A : Type 0} (test : A → Bool) where
       go : (t : Bool) → (leb low (key a) ≡ true) × (rises (suc (key a)) (map key l) ≡ true) → (rises (suc (key a)) (map key l) ≡ true → rises (suc (key a)) (map key (keep test l)) ≡ true) → rises low (map key (cond t (a ∷ keep test l) (keep test l))) ≡ true
       go true b i = and-both (b .0) (i (b .1))
       go false b i = rises-earlier low (suc (key a)) (map key (keep test l)) (omega (arith, leb-true low (key a) (b .0))) (i (b .1))
-
--- of each member is of all
-pub each-all : {A : Type 0} (P : A → Type 0) (l : List A) → ((a : A) → List·Memᴰ a l → P a) → All P l
-unfolding All
-each-all P [] h = tt
-each-all P (a ∷ l) h = (h a (List·Memᴰ·head refl), each-all P l (λ b m. h b (List·Memᴰ·tail m)))
 
 -- a list with a member, and one without
 pub some-member : {A : Type 0} (l : List A) → isSome l ≡ true → (a : A) × List·Memᴰ a l

@@ -13,8 +13,8 @@ use Rattle.integers.specs.Counts.{times, times-mem}
 use Rattle.integers.specs.Ranges.{range}
 use Rattle.integers.specs.Running.{upTo, floorAt}
 use Rattle.integers.specs.Sums.{naturals, sumBy, sumOf, sum-zero, sum-all, sum-swap, sum-once, sum-absent}
+use Rattle.integers.specs.All.{All, all-map}
 use Rattle.grains.specs.Grains.{perWatt}
-use Rattle.formats.specs.Rising.{All, all-map}
 use Rattle.book.specs.declared.Supply.{Supply}
 use Rattle.book.specs.declared.Supply.the-variants.{OffTake, Injection}
 use Rattle.book.specs.declared.Direction.{Direction}

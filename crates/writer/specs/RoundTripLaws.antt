@@ -7,9 +7,9 @@ use Prim.Native.Nat.{ℕ, zero, suc, _*_, _^_, _≤_}
 use lib.Dec.{ltb}
 use lib.ListN.{length, take, drop}
 use native.Mathlib.Omega.{arith}
+use Rattle.integers.specs.Tests.{and-left, and-right, and-both}
 use Rattle.formats.specs.Format.{got}
 use Rattle.formats.specs.FormatLaws.{got-bad}
-use Rattle.formats.specs.Rising.{and-left, and-right, and-both}
 use Rattle.text.specs.DecimalLaws.{true-false}
 use Rattle.kinds.specs.declared.Kind.{Kind}
 use Rattle.kinds.specs.declared.Kind.the-variants.{Toe01, Toe02, Toe03}

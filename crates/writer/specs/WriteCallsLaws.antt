@@ -8,7 +8,7 @@ use lib.Dec.{leb}
 use lib.ListN.{length}
 use native.Mathlib.Omega.{arith}
 use borrow.Author.Tests.{le-leb, lt-leb}
-use Rattle.formats.specs.Rising.{and-left, and-right}
+use Rattle.integers.specs.Tests.{and-left, and-right}
 use Rattle.moments.specs.Ids.{isTransactionId}
 use Rattle.kinds.specs.declared.Kind.{Kind}
 use Rattle.message.specs.declared.WriteAnswer.{WriteAnswer}

@@ -7,7 +7,9 @@ use lib.Dec.{leb, ltb}
 use lib.ListN.{length}
 use native.Mathlib.Omega.{arith}
 use borrow.Author.Tests.{leb-true}
-use Rattle.formats.specs.Rising.{rises, All, and-left, and-right, and-both}
+use Rattle.integers.specs.Tests.{and-left, and-right, and-both}
+use Rattle.integers.specs.Rises.{rises}
+use Rattle.integers.specs.All.{All}
 use Rattle.message.specs.Group.{Keys, push, group, first-group}
 
 -- each passes

@@ -7,7 +7,7 @@ use lib.Dec.{eqb, ltb}
 use lib.ListN.{length, getD}
 use native.Mathlib.Omega.{arith}
 use borrow.Author.Tests.{ltb-true, ltb-false}
-use Rattle.formats.specs.Rising.{All}
+use Rattle.integers.specs.All.{All}
 use Rattle.message.specs.Contents.{Observation}
 use Rattle.message.specs.Keys.{numberKeys, pairKeys}
 use Rattle.message.specs.Group.{Keys, group}

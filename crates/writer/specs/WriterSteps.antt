@@ -7,7 +7,7 @@ use lib.Dec.{eqb, ltb}
 use lib.ListN.{length, getD}
 use native.Mathlib.Omega.{arith}
 use borrow.Author.Tests.{ltb-true, lt-ltb, le-ltb, eq-eqb, ne-eqb}
-use Rattle.formats.specs.Rising.{and-left, and-right}
+use Rattle.integers.specs.Tests.{and-left, and-right}
 use Rattle.kinds.specs.declared.Kind.{Kind}
 use Rattle.message.specs.Contents.{Observation}
 use Rattle.message.specs.Valid.{lastPosition}
