@@ -8,11 +8,12 @@ use lib.IntN.{ℤ}
 use lib.ListN.{take, length-take}
 use lib.Seq.{take-take}
 use lib.Signed.{leZ}
+use Rattle.integers.specs.Keep.{keep}
 use Rattle.book.specs.declared.Engagement.{Engagement}
 use Rattle.book.specs.Book.{Book}
 use Rattle.volumes.specs.Ranking.{insert, ranked}
 use Rattle.volumes.specs.RankingLaws.{length-ranked}
-use Rattle.volumes.specs.Baseline.{eligible, before, keep, eligibleDays, xOf, yOf, latest, daySum, taken}
+use Rattle.volumes.specs.Baseline.{eligible, before, eligibleDays, xOf, yOf, latest, daySum, taken}
 use Rattle.baseline.specs.Sorting.{Days, key-day}
 use Rattle.baseline.specs.Ranks.{bias, keyIn, RankedTo}
 use Rattle.baseline.specs.RanksLaws.{keys-first}

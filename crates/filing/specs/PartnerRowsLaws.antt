@@ -16,6 +16,8 @@ use Rattle.integers.specs.Tests.{and-both}
 use Rattle.integers.specs.Ranges.{range, length-range}
 use Rattle.integers.specs.Rises.{rises}
 use Rattle.integers.specs.All.{All, each-all}
+use Rattle.integers.specs.Keep.{keep, isSome}
+use Rattle.integers.specs.KeepLaws.{keep-mem, mem-keep, keep-rises, keep-length}
 use Rattle.formats.specs.declared.Mark.{Mark}
 use Rattle.message.specs.Keys.{numberKeys}
 use Rattle.message.specs.Group.{group, first-group}
@@ -47,8 +49,6 @@ use Rattle.message.specs.SixesLaws.{length-numbers}
 use Rattle.volumes.specs.QuartersLaws.{flatMap-append}
 use Rattle.writer.specs.WriterRows.{rowAt, Paired}
 use Rattle.writer.specs.WriterContents.{partnersIn, Writable}
-use Rattle.reports.specs.Keep.{keep, isSome}
-use Rattle.reports.specs.KeepLaws.{keep-mem, mem-keep, keep-rises, keep-length}
 use Rattle.reports.specs.FileRows.{supplyNumber, deliveryNumber, directions, partnerNumbers, observationsOf, isWritten, partnerAt, partnersOf, fileText, Volumes, observationsBy, timeSeriesBy, partnerBy, partnersBy}
 use Rattle.filing.specs.Partners.{partnerIf, partnerColumn, noPartner, Next}
 use Rattle.filing.specs.SeriesSums.{cellAt}

@@ -4,6 +4,7 @@ use mathlib.Core.Option.{Option, none, some}
 use Prim.Native.Nat.{ℕ, _≤_, _<_}
 use lib.Dec.{leb}
 use Rattle.integers.specs.Ranges.{range}
+use Rattle.integers.specs.Keep.{keep, isSome}
 use Rattle.book.specs.declared.Point.{Point}
 use Rattle.book.specs.Register.{pointAt}
 use Rattle.book.specs.Book.{Book}
@@ -12,7 +13,6 @@ use Rattle.volumes.specs.Series.{Kind, partnerOf}
 use Rattle.message.specs.Contents.{Partner}
 use Rattle.filing.specs.declared.partners.Asked.{Asked}
 use Rattle.filing.specs.declared.partners.Asked.the-variants.{Of, Unknown}
-use Rattle.reports.specs.Keep.{keep, isSome}
 use Rattle.reports.specs.FileRows.{isTaken, partnerNumbers, partnerAt}
 
 -- the kind that a call asks for

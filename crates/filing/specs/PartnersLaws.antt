@@ -11,6 +11,8 @@ use borrow.Author.Count.{below-more}
 use borrow.Author.Tests.{leb-true, leb-false, ltb-true, ltb-false, le-leb}
 use Rattle.integers.specs.Ranges.{range}
 use Rattle.integers.specs.Tests.{both}
+use Rattle.integers.specs.Keep.{keep, isSome}
+use Rattle.integers.specs.KeepLaws.{mem-keep, keep-mem}
 use Rattle.book.specs.declared.Point.{Point}
 use Rattle.book.specs.Header.{registerSection}
 use Rattle.book.specs.Register.{pointAt}
@@ -22,8 +24,6 @@ use Rattle.volumes.specs.Series.{Kind, Toe01, Toe02, Toe03, receiverOf, partner
 use Rattle.volumes.specs.SoundLaws.{mem-range}
 use Rattle.volumes.specs.UsedLaws.{range-mem}
 use Rattle.message.specs.Contents.{Partner}
-use Rattle.reports.specs.Keep.{keep, isSome}
-use Rattle.reports.specs.KeepLaws.{mem-keep, keep-mem}
 use Rattle.reports.specs.FileRows.{isTaken, partnerNumbers, partnerAt, partnersOf, partnersBy}
 use Rattle.reports.specs.Registered.{Numbered, Registered}
 use Rattle.filing.specs.ScanLaws.{next-least, all-from, no-next}

@@ -10,7 +10,7 @@ use borrow.Author.Tests.{leb-true, leb-false, le-leb, lt-leb}
 use Rattle.integers.specs.Counts.{times-mem}
 use Rattle.integers.specs.Tests.{both}
 use Rattle.integers.specs.Rises.{rises}
-use Rattle.reports.specs.Keep.{keep}
+use Rattle.integers.specs.Keep.{keep}
 use Rattle.reports.specs.Ascending.{ascending}
 use Rattle.reports.specs.AscendingLaws.{ascending-rises, ascending-once}
 

@@ -2,9 +2,9 @@
 use mathlib.Core.List.{List, [], _∷_, map}
 use Prim.Native.Nat.{ℕ}
 use Rattle.integers.specs.Ranges.{range}
+use Rattle.integers.specs.Keep.{keep}
 use Rattle.message.specs.Contents.{Observation}
 use Rattle.message.specs.ObservationForm.{observed}
-use Rattle.reports.specs.Keep.{keep}
 use Rattle.reports.specs.FileRows.{isWritten}
 use Rattle.filing.specs.SeriesSums.{cellAt}
 

@@ -21,8 +21,8 @@ use Rattle.settlement.specs.SectionsLaws.{bytes-long}
 use Rattle.message.specs.Contents.{Observation}
 use Rattle.message.specs.Valid.{IsPeriod}
 use Rattle.message.specs.ObservationForm.{observed}
-use Rattle.reports.specs.Keep.{keep}
-use Rattle.reports.specs.KeepLaws.{keep-append}
+use Rattle.integers.specs.Keep.{keep}
+use Rattle.integers.specs.KeepLaws.{keep-append}
 use Rattle.reports.specs.FileRows.{isWritten, observationBy, observationsBy, observationsOf}
 use Rattle.filing.specs.SeriesSums.{byPosition, cellAt, DeliveredIn}
 use Rattle.filing.specs.SeriesSumsLaws.{parts-of, cell-is}

@@ -8,3 +8,5 @@ pub mod First
 pub mod Ranges
 pub mod Rises
 pub mod All
+pub mod Keep
+pub mod KeepLaws

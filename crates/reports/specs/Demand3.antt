@@ -9,6 +9,7 @@ use lib.ListN.{length, take, getD}
 use Rattle.integers.specs.Counts.{times}
 use Rattle.integers.specs.Running.{upTo}
 use Rattle.integers.specs.Sums.{sumOf, sumZ}
+use Rattle.integers.specs.Keep.{keep}
 use Rattle.formats.specs.Format.{Res, got, bad}
 use Rattle.grains.specs.Grains.{wholeWatts}
 use Rattle.moments.specs.Ids.{isTransactionId}
@@ -24,7 +25,6 @@ use Rattle.message.specs.Valid.{isMoment}
 use Rattle.message.specs.Rows.{Row, Message}
 use Rattle.message.specs.FileLaws.{readMessage}
 use Rattle.message.specs.Calls.{kindNumber}
-use Rattle.reports.specs.Keep.{keep}
 use Rattle.reports.specs.FileRows.{supplyNumber, deliveryNumber, fileText, messageOf}
 use Rattle.reports.specs.Roles.{receivers}
 use Rattle.reports.specs.Watts.{wattsIn, directedIn, totalIn}

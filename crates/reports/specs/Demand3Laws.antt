@@ -13,6 +13,8 @@ use Rattle.integers.specs.Once.{Once}
 use Rattle.integers.specs.Running.{upTo}
 use Rattle.integers.specs.Sums.{naturals, integers, sumOf, sumZ, sum-cong, sum-map}
 use Rattle.integers.specs.Tests.{both, and-both}
+use Rattle.integers.specs.Keep.{keep}
+use Rattle.integers.specs.KeepLaws.{keep-sum, mem-keep}
 use Rattle.formats.specs.Format.{got}
 use Rattle.book.specs.Book.{bookOf}
 use Rattle.volumes.specs.Quarters.{monthQuarters}
@@ -27,8 +29,6 @@ use Rattle.volumes.specs.BookLaws.{getD-map-range}
 use Rattle.message.specs.Rows.{Row}
 use Rattle.message.specs.FileLaws.{readMessage}
 use Rattle.message.specs.Calls.{kindNumbered, kindNumber}
-use Rattle.reports.specs.Keep.{keep}
-use Rattle.reports.specs.KeepLaws.{keep-sum, mem-keep}
 use Rattle.reports.specs.FileRows.{supplyNumber, deliveryNumber, fileText, fileRows, messageOf}
 use Rattle.reports.specs.Roles.{receivers}
 use Rattle.reports.specs.Watts.{wattsIn, directedIn, totalIn}

@@ -5,6 +5,7 @@ use Prim.Native.Nat.{ℕ}
 use lib.Dec.{eqb, ltb}
 use Rattle.integers.specs.Ranges.{range}
 use Rattle.integers.specs.Running.{floorAt}
+use Rattle.integers.specs.Keep.{keep, isSome}
 use Rattle.grains.specs.Grains.{perWatt}
 use Rattle.book.specs.declared.Supply.{Supply}
 use Rattle.book.specs.declared.Supply.the-variants.{OffTake, Injection}
@@ -18,7 +19,6 @@ use Rattle.volumes.specs.SeriesLaws.{seriesOf}
 use Rattle.message.specs.Contents.{Observation, Series as TimeSeries, Partner, File}
 use Rattle.message.specs.Bytes.{fileBytes}
 use Rattle.message.specs.Rows.{Row, rowsOf, Message}
-use Rattle.reports.specs.Keep.{keep, isSome}
 use Rattle.reports.specs.Ascending.{ascending}
 
 -- "supply direction (0 off-take, 1 injection)", "direction (0 up, 1 down)": as numbers of a row

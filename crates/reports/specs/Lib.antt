@@ -1,5 +1,3 @@
-pub mod Keep
-pub mod KeepLaws
 pub mod Ascending
 pub mod AscendingLaws
 pub mod FileRows

@@ -11,6 +11,8 @@ use Rattle.integers.specs.Counts.{times}
 use Rattle.integers.specs.Running.{upTo, floorAt, floorAt-zero}
 use Rattle.integers.specs.Sums.{sumBy, sumOf}
 use Rattle.integers.specs.Tests.{both}
+use Rattle.integers.specs.Keep.{keep}
+use Rattle.integers.specs.KeepLaws.{keep-mem}
 use Rattle.grains.specs.Grains.{perWatt}
 use Rattle.book.specs.declared.Supply.{Supply}
 use Rattle.book.specs.declared.Supply.the-variants.{OffTake, Injection}
@@ -22,8 +24,6 @@ use Rattle.volumes.specs.Settlement.{delivered}
 use Rattle.volumes.specs.Sheets.{covers, quarterAt}
 use Rattle.volumes.specs.Series.{Kind, takes, receiverOf, partnerOf, Series, sameSupply, sameDirection, isPoint, isEngagement, grainsOf, grainsAt, seriesWatts}
 use Rattle.settlement.specs.EngagedLaws.{getD-mem}
-use Rattle.reports.specs.Keep.{keep}
-use Rattle.reports.specs.KeepLaws.{keep-mem}
 use Rattle.reports.specs.AscendingLaws.{ascending-once}
 use Rattle.reports.specs.FileRows.{isTaken, partnerNumbers}
 

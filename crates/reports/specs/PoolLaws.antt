@@ -16,6 +16,7 @@ use Rattle.integers.specs.First.{first, anyBelow}
 use Rattle.integers.specs.Ranges.{range}
 use Rattle.integers.specs.Running.{upTo, floorAt}
 use Rattle.integers.specs.Sums.{sumBy}
+use Rattle.integers.specs.Keep.{keep}
 use Rattle.wire.specs.Numbers.{little}
 use Rattle.wire.specs.Readings.{readingOf}
 use Rattle.calendar.specs.Dates.{leap, monthLength, calendarDays}
@@ -32,7 +33,7 @@ use Rattle.book.specs.Judged.{clockChangeIn, refusalOf}
 use Rattle.book.specs.Book.{Book, bookOf}
 use Rattle.volumes.specs.Quarters.{quarterHours, start, referenceQuarter, reference, position, monthQuarters}
 use Rattle.volumes.specs.Ranking.{insert, ranked}
-use Rattle.volumes.specs.Baseline.{pointOf, watts, known, complete, mean, ownReading, dayReading, dayReadings, dayWindow, windowed, allowed, eligible, before, keep, eligibleDays, latest, daySum, taken, high, baselineBy, baseline}
+use Rattle.volumes.specs.Baseline.{pointOf, watts, known, complete, mean, ownReading, dayReading, dayReadings, dayWindow, windowed, allowed, eligible, before, eligibleDays, latest, daySum, taken, high, baselineBy, baseline}
 use Rattle.volumes.specs.Settlement.{neededBy, needed, tooFew, refusalNumber, rowRefusal, refusalFrom, settlementRefusal, limited, deliveredBy, delivered, orElse, bookRefusal}
 use Rattle.volumes.specs.Sheets.{covers, quarterAt}
 use Rattle.volumes.specs.Series.{Kind, Toe01, Toe02, Toe03, takes, receiverOf, partnerOf, sameSupply, sameDirection, isPoint, isEngagement, grainsOf, grainsAt, seriesWatts}

@@ -9,6 +9,8 @@ use lib.IntN.{ℤ, pos}
 use lib.ListN.{length, replicate, length-replicate}
 use borrow.Author.Tests.{eq-eqb}
 use Rattle.integers.specs.Counts.{times, times-append}
+use Rattle.integers.specs.Keep.{keep}
+use Rattle.integers.specs.KeepLaws.{keep-append}
 use Rattle.moments.specs.Ids.{isTransactionId}
 use Rattle.book.specs.Book.{bookOf}
 use Rattle.volumes.specs.Quarters.{monthQuarters}
@@ -17,8 +19,6 @@ use Rattle.volumes.specs.Sheets.{parties, sheet}
 use Rattle.volumes.specs.Series.{Kind, Toe01, Toe02, Toe03}
 use Rattle.message.specs.Valid.{isMoment}
 use Rattle.message.specs.Calls.{kindNumbered, kindNumber}
-use Rattle.reports.specs.Keep.{keep}
-use Rattle.reports.specs.KeepLaws.{keep-append}
 use Rattle.reports.specs.Ascending.{ascending}
 use Rattle.reports.specs.AscendingLaws.{ascending-once}
 use Rattle.reports.specs.FileRows.{fileText}

@@ -4,6 +4,7 @@ use mathlib.Core.Bool.{true}
 use mathlib.Core.List.{List, [], _∷_, List·Memᴰ}
 use Prim.Native.Nat.{ℕ}
 use lib.ListN.{length}
+use Rattle.integers.specs.Keep.{isSome}
 use Rattle.formats.specs.Format.{got}
 use Rattle.moments.specs.Ids.{isTransactionId}
 use Rattle.book.specs.Book.{Book}
@@ -17,7 +18,6 @@ use Rattle.message.specs.RowsLaws.{partners-undo, first-month}
 use Rattle.message.specs.FileForm.{file}
 use Rattle.message.specs.MessageForm.{message-recast}
 use Rattle.message.specs.FileLaws.{readMessage, written-is-read}
-use Rattle.reports.specs.Keep.{isSome}
 use Rattle.reports.specs.FileRows.{partnersOf, fileOf, fileText, fileRows, monthIn, messageOf}
 use Rattle.reports.specs.Roles.{receivers}
 use Rattle.reports.specs.Registered.{Registered}

@@ -7,6 +7,7 @@ use lib.IntN.{ℤ, pos, _+ℤ_, _-ℤ_, _*ℤ_}
 use lib.ListN.{length, take, getD}
 use Rattle.integers.specs.Ranges.{range}
 use Rattle.integers.specs.Sums.{sumZ}
+use Rattle.integers.specs.Keep.{keep}
 use Rattle.wire.specs.declared.Reading.{Reading}
 use Rattle.wire.specs.declared.Reading.the-variants.{Watts, Missing}
 use Rattle.grains.specs.Grains.{grainsZ, share}
@@ -106,11 +107,6 @@ eligible book e d = allowed book e d && (complete (dayReadings book e d) && wind
 unfoldable pub before : ℕ → List ℕ
 before zero = []
 before (suc d) = d ∷ before d
-
--- those of a list that pass a test, in their order
-unfoldable pub keep : (ℕ → Bool) → List ℕ → List ℕ
-keep test [] = []
-keep test (d ∷ l) = let rest : List ℕ = keep test l in cond (test d) (d ∷ rest) rest
 
 unfoldable pub eligibleDays : Book → Engagement → List ℕ
 eligibleDays book e = keep (eligible book e) (before (e .day))

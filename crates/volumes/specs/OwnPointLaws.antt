@@ -10,6 +10,7 @@ use lib.IntN.{pos, _-ℤ_}
 use lib.ListN.{length}
 use Rattle.integers.specs.Sums.{sumBy}
 use Rattle.integers.specs.Ranges.{range}
+use Rattle.integers.specs.Keep.{keep}
 use Rattle.grains.specs.Grains.{grainsZ}
 use Rattle.book.specs.declared.Method.{Method}
 use Rattle.book.specs.declared.Method.the-variants.{LastQuarter, HighXOfY, Adjusted}
@@ -17,7 +18,7 @@ use Rattle.book.specs.declared.Engagement.{Engagement}
 use Rattle.book.specs.Book.{Book}
 use Rattle.volumes.specs.Quarters.{quarterHours, start, reference}
 use Rattle.volumes.specs.Ranking.{insert, ranked}
-use Rattle.volumes.specs.Baseline.{pointOf, watts, known, complete, mean, readingBefore, window, ownReading, dayReading, dayReadings, ownWindow, dayWindow, windowed, allowed, eligible, before, keep, eligibleDays, yOf, latest, daySum, taken, high, addend, lastReading, baselineBy, baseline}
+use Rattle.volumes.specs.Baseline.{pointOf, watts, known, complete, mean, readingBefore, window, ownReading, dayReading, dayReadings, ownWindow, dayWindow, windowed, allowed, eligible, before, eligibleDays, yOf, latest, daySum, taken, high, addend, lastReading, baselineBy, baseline}
 use Rattle.volumes.specs.Settlement.{neededBy, needed, tooFew, refusalNumber, deliveredBy, delivered, requestedAt, sourceCorrection, fspCorrection, corrections, signed, row}
 
 -- the book with an engagement's point alone, and the engagement in it

@@ -1,13 +1,14 @@
 -- No reading that goes into an accepted book's volumes is missing: taken days are eligible, an eligible day has its readings, and an engagement that settles has its own.
 use mathlib.Core.Path.{_≡_, refl, sym, ap, _∙_}
 use mathlib.Core.Logic.{⊎-elim}
-use mathlib.Core.Bool.{Bool, true, false, cond, _&&_, and-eq-true-iff}
+use mathlib.Core.Bool.{true, _&&_, and-eq-true-iff}
 use mathlib.Core.List.{List, [], _∷_, map, flatMap, List·Memᴰ, List·Memᴰ·head, List·Memᴰ·tail, List·Memᴰ·not-nil, List·Memᴰ·cases-cons, Memᴰ·map, Memᴰ·of-map}
 use Prim.Native.Nat.{ℕ, zero, suc, _+_, _<_, _≤_}
 use native.Mathlib.Nat.{eq-or-lt-of-le}
 use native.Mathlib.Omega.{arith}
 use lib.ListN.{take}
 use Rattle.integers.specs.Ranges.{range}
+use Rattle.integers.specs.KeepLaws.{mem-keep}
 use Rattle.wire.specs.declared.Reading.{Reading}
 use Rattle.book.specs.declared.Method.the-variants.{LastQuarter, Adjusted}
 use Rattle.book.specs.declared.Engagement.{Engagement}
@@ -15,7 +16,7 @@ use Rattle.book.specs.Book.{Book}
 use Rattle.volumes.specs.Quarters.{quarterHours}
 use Rattle.volumes.specs.Ranking.{ranked}
 use Rattle.volumes.specs.RankingLaws.{from-ranked}
-use Rattle.volumes.specs.Baseline.{pointOf, known, complete, ownReading, dayReading, dayReadings, ownWindow, dayWindow, windowed, allowed, eligible, before, keep, eligibleDays, xOf, yOf, latest, daySum, taken, lastReading}
+use Rattle.volumes.specs.Baseline.{pointOf, known, complete, ownReading, dayReading, dayReadings, ownWindow, dayWindow, windowed, allowed, eligible, before, eligibleDays, xOf, yOf, latest, daySum, taken, lastReading}
 use Rattle.volumes.specs.BaselineLaws.{complete-append}
 use Rattle.volumes.specs.Settlement.{neededBy, needed}
 use Rattle.volumes.specs.SettlementLaws.{Settles}
@@ -42,16 +43,6 @@ in-take : {A : Type 0} (n : ℕ) (l : List A) (a : A) → List·Memᴰ a (take n
 in-take zero l a m = absurd (List·Memᴰ·not-nil m)
 in-take (suc n) [] a m = m
 in-take (suc n) (b ∷ l) a m = ⊎-elim (λ e. List·Memᴰ·head e) (λ k. List·Memᴰ·tail (in-take n l a k)) (List·Memᴰ·cases-cons m)
-
--- what is kept passes the test, and days before a are
-kept : (test : ℕ → Bool) (l : List ℕ) (d : ℕ) → List·Memᴰ d (keep test l) → (test d ≡ true) × List·Memᴰ d l
-unfolding keep
-kept test [] d m = absurd (List·Memᴰ·not-nil m)
-kept test (f ∷ l) d m = go (test f) refl m (kept test l d)
-  where
-    go : (t : Bool) → test f ≡ t → List·Memᴰ d (cond t (f ∷ keep test l) (keep test l)) → (List·Memᴰ d (keep test l) → (test d ≡ true) × List·Memᴰ d l) → (test d ≡ true) × List·Memᴰ d (f ∷ l)
-    go true e m ih = ⊎-elim (λ q. (ap test q ∙ e, List·Memᴰ·head q)) (λ k. let r = ih k in (r .0, List·Memᴰ·tail (r .1))) (List·Memᴰ·cases-cons m)
-    go false e m ih = let r = ih m in (r .0, List·Memᴰ·tail (r .1))
 
 days-before : (a d : ℕ) → List·Memᴰ d (before a) → d < a
 unfolding before
@@ -81,8 +72,8 @@ module _ (book : Book) (e : Engagement) where
   pub taken-eligible : (d : ℕ) → List·Memᴰ d (taken book e) → (eligible book e d ≡ true) × (d < e .day)
   unfolding taken latest eligibleDays
   taken-eligible d m =
-      let k = kept (eligible book e) (before (e .day)) d (in-take (yOf book e) (eligibleDays book e) d (from-ranked (daySum book e) d (latest book e) (in-take (xOf book e) (ranked (daySum book e) (latest book e)) d m))) in
-      (k .0, days-before (e .day) d (k .1))
+      let k = mem-keep (eligible book e) (before (e .day)) d (in-take (yOf book e) (eligibleDays book e) d (from-ranked (daySum book e) d (latest book e) (in-take (xOf book e) (ranked (daySum book e) (latest book e)) d m))) in
+      (k .1, days-before (e .day) d (k .0))
 
   taken-day : (d : ℕ) → List·Memᴰ d (taken book e) → Eligible book e d
   taken-day d m = eligible-day book e d (taken-eligible d m .0)

@@ -8,10 +8,10 @@ use native.Mathlib.Omega.{arith}
 use lib.Dec.{leb}
 use lib.ListN.{length}
 use borrow.Author.Tests.{leb-true}
 use Rattle.integers.specs.Sums.{Adding, sumBy}
 use Rattle.integers.specs.Tests.{both, and-both}
 use Rattle.integers.specs.Rises.{rises, rises-earlier}
-use Rattle.reports.specs.Keep.{keep, isSome}
+use Rattle.integers.specs.Keep.{keep, isSome}
 
 module _ {A : Type 0} (test : A → Bool) where
   pub keep-length : (l : List A) → length (keep test l) ≤ length l
