@@ -1,5 +1,4 @@
 pub mod SheetLaws
-pub mod ScanLaws
 pub mod FileCallLaws
 pub mod Volumes
 pub mod VolumesLaws

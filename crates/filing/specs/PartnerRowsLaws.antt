@@ -18,6 +18,8 @@ use Rattle.integers.specs.Rises.{rises}
 use Rattle.integers.specs.All.{All, each-all}
 use Rattle.integers.specs.Keep.{keep, isSome}
 use Rattle.integers.specs.KeepLaws.{keep-mem, mem-keep, keep-rises, keep-length}
+use Rattle.integers.specs.Ascending.{ascending}
+use Rattle.integers.specs.AscendingLaws.{ascending-once}
 use Rattle.formats.specs.declared.Mark.{Mark}
 use Rattle.message.specs.Keys.{numberKeys}
 use Rattle.message.specs.Group.{group, first-group}
@@ -25,8 +27,6 @@ use Rattle.message.specs.Rows.{partnerOf as regroupedOne}
 use Rattle.emitter.specs.Laid.{Laid, ahead}
 use Rattle.emitter.specs.Parts.{fileHead, fileEnd}
 use Rattle.filing.specs.LayingLaws.{file-bytes}
-use Rattle.reports.specs.Ascending.{ascending}
-use Rattle.reports.specs.AscendingLaws.{ascending-once}
 use Rattle.book.specs.declared.Supply.{Supply}
 use Rattle.book.specs.declared.Supply.the-variants.{OffTake, Injection}
 use Rattle.book.specs.declared.Direction.{Direction}

@@ -13,6 +13,7 @@ use Rattle.integers.specs.Ranges.{range}
 use Rattle.integers.specs.Tests.{both}
 use Rattle.integers.specs.Keep.{keep, isSome}
 use Rattle.integers.specs.KeepLaws.{mem-keep, keep-mem}
+use Rattle.integers.specs.ScanLaws.{next-least, all-from, no-next}
 use Rattle.book.specs.declared.Point.{Point}
 use Rattle.book.specs.Header.{registerSection}
 use Rattle.book.specs.Register.{pointAt}
@@ -26,7 +27,6 @@ use Rattle.volumes.specs.UsedLaws.{range-mem}
 use Rattle.message.specs.Contents.{Partner}
 use Rattle.reports.specs.FileRows.{isTaken, partnerNumbers, partnerAt, partnersOf, partnersBy}
 use Rattle.reports.specs.Registered.{Numbered, Registered}
-use Rattle.filing.specs.ScanLaws.{next-least, all-from, no-next}
 use Rattle.reports.specs.Roles.{receivers}
 use Rattle.reports.specs.Calls.{stands}
 use Rattle.reports.specs.CallsLaws.{stands-mem, mem-stands}

@@ -10,3 +10,6 @@ pub mod Rises
 pub mod All
 pub mod Keep
 pub mod KeepLaws
+pub mod Ascending
+pub mod AscendingLaws
+pub mod ScanLaws

@@ -12,6 +12,7 @@ use Rattle.integers.specs.Running.{upTo, upTo-cong}
 use Rattle.integers.specs.Sums.{naturals, sumBy, sumOf, sum-zero, sum-all, sum-map, sum-flatMap, sum-once, sum-absent}
 use Rattle.integers.specs.Keep.{isSome}
 use Rattle.integers.specs.KeepLaws.{keep-sum, not-some}
+use Rattle.integers.specs.AscendingLaws.{ascending-once}
 use Rattle.grains.specs.Grains.{wholeWatts}
 use Rattle.book.specs.declared.Supply.{Supply}
 use Rattle.book.specs.declared.Supply.the-variants.{OffTake, Injection}
@@ -24,7 +25,6 @@ use Rattle.volumes.specs.SeriesLaws.{seriesOf, series-prefix, pair-watts}
 use Rattle.message.specs.Contents.{Observation, Series as TimeSeries, Partner}
 use Rattle.message.specs.Group.{spread}
 use Rattle.message.specs.Rows.{Row, seriesRows, partnerRows, rowsOf}
-use Rattle.reports.specs.AscendingLaws.{ascending-once}
 use Rattle.reports.specs.FileRows.{supplyNumber, deliveryNumber, partnerNumbers, directions, positions, observationAt, isWritten, observationsOf, timeSeries, timeSeriesOf, partnerAt, partnersOf, fileRows, observationBy, observationsBy, timeSeriesBy, partnerBy, partnersBy}
 use Rattle.reports.specs.Watts.{wattsOf, wattsIn}
 use Rattle.reports.specs.PointsLaws.{Inside, no-watts}

@@ -15,6 +15,7 @@ use Rattle.integers.specs.Rises.{rises}
 use Rattle.integers.specs.All.{All, all-map, each-all}
 use Rattle.integers.specs.Keep.{keep, isSome}
 use Rattle.integers.specs.KeepLaws.{keep-length, mem-keep, keep-rises, some-length, some-member}
+use Rattle.integers.specs.AscendingLaws.{ascending-rises, ascending-once, ascending-length}
 use Rattle.calendar.specs.Dates.{calendarDays}
 use Rattle.calendar.specs.DatesLaws.{month-length}
 use Rattle.moments.specs.Ids.{isTransactionId}
@@ -38,7 +39,6 @@ use Rattle.message.specs.Contents.{Observation, Series as TimeSeries, Partner, 
 use Rattle.message.specs.Bytes.{digits, supplyOf}
 use Rattle.message.specs.Valid.{lastPosition, IsObservation, IsVolume, IsSeries, OneSupply, IsPartner, isMoment, monthOf, periods, firstOf, IsFile}
 use Rattle.message.specs.Months.{all-append}
-use Rattle.reports.specs.AscendingLaws.{ascending-rises, ascending-once, ascending-length}
 use Rattle.reports.specs.FileRows.{supplyNumber, deliveryNumber, isTaken, partnerNumbers, directions, positions, observationAt, isWritten, observationsOf, timeSeries, timeSeriesOf, partnerAt, partnersOf, fileOf, observationBy, observationsBy, timeSeriesBy, partnerBy, partnersBy}
 use Rattle.reports.specs.Roles.{receivers}
 use Rattle.reports.specs.Registered.{Numbered, Registered}

@@ -1,5 +1,3 @@
-pub mod Ascending
-pub mod AscendingLaws
 pub mod FileRows
 pub mod Watts
 pub mod PointsLaws

@@ -13,6 +13,7 @@ use Rattle.integers.specs.Sums.{sumBy, sumOf}
 use Rattle.integers.specs.Tests.{both}
 use Rattle.integers.specs.Keep.{keep}
 use Rattle.integers.specs.KeepLaws.{keep-mem}
+use Rattle.integers.specs.AscendingLaws.{ascending-once}
 use Rattle.grains.specs.Grains.{perWatt}
 use Rattle.book.specs.declared.Supply.{Supply}
 use Rattle.book.specs.declared.Supply.the-variants.{OffTake, Injection}
@@ -24,7 +25,6 @@ use Rattle.volumes.specs.Settlement.{delivered}
 use Rattle.volumes.specs.Sheets.{covers, quarterAt}
 use Rattle.volumes.specs.Series.{Kind, takes, receiverOf, partnerOf, Series, sameSupply, sameDirection, isPoint, isEngagement, grainsOf, grainsAt, seriesWatts}
 use Rattle.settlement.specs.EngagedLaws.{getD-mem}
-use Rattle.reports.specs.AscendingLaws.{ascending-once}
 use Rattle.reports.specs.FileRows.{isTaken, partnerNumbers}
 
 -- a sum that isn't 0 has a term that isn't

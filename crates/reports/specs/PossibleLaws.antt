@@ -11,6 +11,8 @@ use borrow.Author.Tests.{eq-eqb}
 use Rattle.integers.specs.Counts.{times, times-append}
 use Rattle.integers.specs.Keep.{keep}
 use Rattle.integers.specs.KeepLaws.{keep-append}
+use Rattle.integers.specs.Ascending.{ascending}
+use Rattle.integers.specs.AscendingLaws.{ascending-once}
 use Rattle.moments.specs.Ids.{isTransactionId}
 use Rattle.book.specs.Book.{bookOf}
 use Rattle.volumes.specs.Quarters.{monthQuarters}
@@ -19,8 +21,6 @@ use Rattle.volumes.specs.Sheets.{parties, sheet}
 use Rattle.volumes.specs.Series.{Kind, Toe01, Toe02, Toe03}
 use Rattle.message.specs.Valid.{isMoment}
 use Rattle.message.specs.Calls.{kindNumbered, kindNumber}
-use Rattle.reports.specs.Ascending.{ascending}
-use Rattle.reports.specs.AscendingLaws.{ascending-once}
 use Rattle.reports.specs.FileRows.{fileText}
 use Rattle.reports.specs.Roles.{receivers}
 use Rattle.reports.specs.Calls.{afterwards, sheetRefusal, sheetAnswer, textOf, fileRefusal, fileAnswer}

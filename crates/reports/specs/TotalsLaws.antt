@@ -10,6 +10,7 @@ use Rattle.integers.specs.Once.{Once}
 use Rattle.integers.specs.Sums.{naturals, sumOf, sum-zero, sum-all, sum-cong, sum-swap, sum-once, sum-absent}
 use Rattle.integers.specs.Keep.{keep}
 use Rattle.integers.specs.KeepLaws.{mem-keep}
+use Rattle.integers.specs.AscendingLaws.{ascending-once}
 use Rattle.book.specs.declared.Supply.{Supply}
 use Rattle.book.specs.declared.Direction.{Direction}
 use Rattle.book.specs.declared.Point.{Point}
@@ -17,7 +18,6 @@ use Rattle.book.specs.Book.{Book}
 use Rattle.volumes.specs.Series.{Kind, Toe01, Toe02, receiverOf, partnerOf, seriesWatts}
 use Rattle.volumes.specs.SeriesLaws.{seriesOf, pair-watts}
 use Rattle.message.specs.Rows.{Row}
-use Rattle.reports.specs.AscendingLaws.{ascending-once}
 use Rattle.reports.specs.FileRows.{supplyNumber, deliveryNumber, isTaken, partnerNumbers, directions, positions, observationAt, fileRows, observationBy}
 use Rattle.reports.specs.Roles.{receivers}
 use Rattle.reports.specs.Watts.{wattsOf, directedIn, totalIn}

@@ -15,6 +15,8 @@ use Rattle.integers.specs.Running.{upTo, floorAt}
 use Rattle.integers.specs.Sums.{naturals, sumBy, sumOf, sum-zero, sum-all, sum-swap, sum-once, sum-absent}
 use Rattle.integers.specs.All.{All, all-map}
 use Rattle.integers.specs.Keep.{keep}
+use Rattle.integers.specs.Ascending.{ascending}
+use Rattle.integers.specs.AscendingLaws.{ascending-once}
 use Rattle.grains.specs.Grains.{perWatt}
 use Rattle.book.specs.declared.Supply.{Supply}
 use Rattle.book.specs.declared.Supply.the-variants.{OffTake, Injection}
@@ -41,8 +43,6 @@ use Rattle.message.specs.Rows.{Row, seriesRows, partnerRows, rowsOf}
 use Rattle.message.specs.SizeLaws.{file-most}
 use Rattle.reports.specs.Registered.{Registered}
 use Rattle.reports.specs.RegisteredLaws.{registered}
-use Rattle.reports.specs.AscendingLaws.{ascending-once}
-use Rattle.reports.specs.Ascending.{ascending}
 use Rattle.reports.specs.FileRows.{isTaken, partnerNumbers, directions, positions, observationAt, partnersOf, fileOf, fileText, fileRows, observationBy}
 use Rattle.reports.specs.CarryLaws.{rowAt, rows-sum}
 use Rattle.reports.specs.FormLaws.{partners-few, partners-valid, file-valid}

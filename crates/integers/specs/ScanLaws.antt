@@ -1,4 +1,4 @@
--- Ascending numbers one after another, as a scan of the column finds them: the least from a place on, then the least above it.
+-- Ascending numbers one after another, as a scan of a list finds them: the least from a place on, then the least above it.
 use mathlib.Core.Path.{_≡_, refl, ap}
 use mathlib.Core.Logic.{⊎-elim}
 use mathlib.Core.Bool.{Bool, true, false, cond}
@@ -7,12 +7,12 @@ use Prim.Native.Nat.{ℕ, suc, _≤_, _<_}
 use native.Mathlib.Omega.{arith}
 use lib.Dec.{leb}
 use borrow.Author.Tests.{leb-true, leb-false, le-leb, lt-leb}
 use Rattle.integers.specs.Counts.{times-mem}
 use Rattle.integers.specs.Tests.{both}
 use Rattle.integers.specs.Rises.{rises}
 use Rattle.integers.specs.Keep.{keep}
-use Rattle.reports.specs.Ascending.{ascending}
-use Rattle.reports.specs.AscendingLaws.{ascending-rises, ascending-once}
+use Rattle.integers.specs.Ascending.{ascending}
+use Rattle.integers.specs.AscendingLaws.{ascending-rises, ascending-once}
 
 -- the least number of a list from a place on
 pub record Least (low m : ℕ) (l : List ℕ) : Type 0 where
