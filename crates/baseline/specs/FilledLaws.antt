@@ -1,8 +1,8 @@
 -- From the levels that are read to the baselines that document 01 states.
 use mathlib.Core.Path.{_≡_, refl, sym, ap, subst, _∙_}
 use mathlib.Core.Bool.{Bool, true, false, cond}
-use mathlib.Core.List.{List, [], _∷_, map, flatMap}
-use Prim.Native.Nat.{ℕ, zero, suc, _+_, _-_, _*_, _%_, _≤_, _<_}
+use mathlib.Core.List.{List, map, flatMap}
+use Prim.Native.Nat.{ℕ, _+_, _-_, _*_, _%_, _≤_, _<_}
 use native.Mathlib.Omega.{arith}
 use lib.Dec.{leb}
 use lib.IntN.{ℤ, pos, _+ℤ_, _-ℤ_, _*ℤ_, +ℤ-idr}
@@ -11,6 +11,7 @@ use lib.Seq.{getD-take}
 use borrow.Author.Tests.{ltb-false, leb-true}
 use Rattle.integers.specs.Sums.{sumZ}
 use Rattle.integers.specs.Z.{Over}
+use Rattle.integers.specs.All.{all-at}
 use Rattle.grains.specs.Grains.{grains, share}
 use Rattle.wire.specs.Readings.{readingAt}
 use Rattle.wire.specs.declared.Reading.{Reading}
@@ -35,7 +36,7 @@ use Rattle.baseline.specs.Rows.{daysIn, dayRows, Lies, Lie}
 use Rattle.baseline.specs.Levels.{Lasts, Adds}
 use Rattle.baseline.specs.LevelsLaws.{quarter-rows, window-rows, window-inside}
 use Rattle.baseline.specs.Ranks.{RankedTo}
-use Rattle.baseline.specs.Taken.{All, Serves, Took}
+use Rattle.baseline.specs.Taken.{Serves, Took}
 use Rattle.baseline.specs.TakenLaws.{took}
 use Rattle.baseline.specs.Needs.{looksBack}
 use Rattle.baseline.specs.Bases.{Raises, Added}
@@ -62,11 +63,6 @@ known-inside readings base q n h = go (leb n q) refl h
     go : (b : Bool) → leb n q ≡ b → known (cond b (readingAt readings (base + (q - n))) Missing) ≡ true → n ≤ q
     go true e k = leb-true n q e
     go false e k = let z : _≡_ {A = ℕ} 0 1 = cc in absurd (omega arith)
-
-all-at : (P : ℕ → Type 0) (l : List ℕ) (j : ℕ) → All P l → j < length l → P (getD l j 0)
-all-at P [] j h i = absurd (omega arith)
-all-at P (d ∷ l) zero h i = h .0
-all-at P (d ∷ l) (suc j) h i = all-at P l j (h .1) (omega arith)
 
 module _ {c : Calendar} {calendar readings : List ℕ} {point : Point} {e : Engagement} {x y : ℕ} {book : Book} (s : Unrefused c calendar readings point e x y book) where
   method-is : pointOf book e .method ≡ point .method
@@ -131,7 +127,7 @@ module _ {c : Calendar} {calendar readings : List ℕ} {point : Point} {e : Enga
   pub serves-at : (keys : List ℕ) → Took book e keys x → x ≤ length keys → (j : ℕ) → j < x → Serves book e (getD keys j 0 % 64)
   serves-at keys t h j i =
       let day : getD (daysIn keys x) j 0 ≡ getD keys j 0 % 64 = List·getD-map (λ k. k % 64) (take x keys) j 0 ∙ ap (λ (k : ℕ). k % 64) (getD-take x keys j 0 i) in
-      subst (Serves book e) day (all-at (Serves book e) (daysIn keys x) j (rw (t .days) (t .each)) (omega (arith, length-map (take x keys) (λ k. k % 64), length-take x keys)))
+      subst (Serves book e) day (all-at (Serves book e) (daysIn keys x) j 0 (rw (t .days) (t .each)) (omega (arith, length-map (take x keys) (λ k. k % 64), length-take x keys)))
 
   lie-of : (keys : List ℕ) → Fits c calendar readings e → Took book e keys x → x ≤ 10 → x ≤ length keys → (q back n : ℕ) → q ≤ 96 → n ≤ 12
       → ((d : ℕ) → Serves book e d → Lies readings c (quartersOf c * e .point) q back n d) → Lie readings keys c (quartersOf c * e .point) q back n x

@@ -7,6 +7,7 @@ use native.Mathlib.Omega.{arith}
 use lib.Dec.{ltb}
 use borrow.Author.Tests.{ltb-true, ltb-false}
 use Rattle.integers.specs.Ranges.{range}
+use Rattle.integers.specs.All.{All}
 use Rattle.wire.specs.Readings.{readingAt}
 use Rattle.book.specs.declared.Calendar.{Calendar}
 use Rattle.book.specs.declared.Engagement.{Engagement}
@@ -20,7 +21,7 @@ use Rattle.volumes.specs.UsedLaws.{eligible-day}
 use Rattle.baseline.specs.Shown.{Shows}
 use Rattle.baseline.specs.ShownLaws.{day-window, window-row, window-early}
 use Rattle.baseline.specs.Rows.{dayRows}
-use Rattle.baseline.specs.Taken.{All, Serves}
+use Rattle.baseline.specs.Taken.{Serves}
 
 module _ {c : Calendar} {calendar readings : List ℕ} {point : Point} {e : Engagement} {book : Book} (s : Shows c calendar readings point e book) where
   -- quarter-hour k of the days
@@ -51,7 +52,7 @@ module _ {c : Calendar} {calendar readings : List ℕ} {point : Point} {e : Enga
           let z : _≡_ {A = ℕ} 0 1 = cc in absurd (omega arith)
 
   pub window-rows : (l : List ℕ) → point .method ≡ Adjusted → All (Serves book e) l → dayRows readings c (quartersOf c * e .point) (e .first) 24 12 l ≡ flatMap (dayWindow book e) l
-  unfolding flatMap
+  unfolding flatMap All
   window-rows [] m g = refl
   window-rows (d ∷ l) m g =
       ap₂ _++_ (sym (day-window s d ∙ window-row readings (quartersOf c * e .point) (dayStart c d + e .first) (window-inside d m (g .0 .good)))) (window-rows l m (g .1))

@@ -1,18 +1,14 @@
 -- The days that are taken, as the keys tell them.
 use mathlib.Core.Path.{_≡_}
 use mathlib.Core.Bool.{true}
-use mathlib.Core.List.{List, [], _∷_}
+use mathlib.Core.List.{List}
 use Prim.Native.Nat.{ℕ, _<_}
 use lib.ListN.{length}
+use Rattle.integers.specs.All.{All}
 use Rattle.book.specs.declared.Engagement.{Engagement}
 use Rattle.book.specs.Book.{Book}
 use Rattle.volumes.specs.Baseline.{eligible, taken}
 use Rattle.baseline.specs.Rows.{daysIn}
-
--- each of a list has a property
-abbrev pub All : (ℕ → Type 0) → List ℕ → Type 0
-All P [] = Unit {0}
-All P (d ∷ l) = P d × All P l
 
 -- an eligible day before A
 pub record Serves (book : Book) (e : Engagement) (d : ℕ) : Type 0 where

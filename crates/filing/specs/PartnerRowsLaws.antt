@@ -15,7 +15,7 @@ use Rattle.integers.specs.Counts.{times-mem}
 use Rattle.integers.specs.Tests.{and-both}
 use Rattle.integers.specs.Ranges.{range, length-range}
 use Rattle.integers.specs.Rises.{rises}
-use Rattle.integers.specs.All.{All, each-all}
+use Rattle.integers.specs.All.{All, each-all, all-each, all-append}
 use Rattle.integers.specs.Keep.{keep, isSome}
 use Rattle.integers.specs.KeepLaws.{keep-mem, mem-keep, keep-rises, keep-length}
 use Rattle.integers.specs.Ascending.{ascending}
@@ -59,11 +59,6 @@ use Rattle.reports.specs.FormLaws.{partners-valid}
 use Rattle.filing.specs.PartnerRows.{rowsBy, seriesRowsOf, partnerRowsOf, Filled, seriesRowsBy, partnerRowsBy}
 
 -- ---- lists
-
-all-at : {A : Type 0} (P : A → Type 0) (l : List A) (x : A) → All P l → List·Memᴰ x l → P x
-unfolding All
-all-at P [] x h m = absurd (List·Memᴰ·not-nil m)
-all-at P (a ∷ l) x h m = ⊎-elim (λ e. subst P (sym e) (h .0)) (λ k. all-at P l x (h .1) k) (List·Memᴰ·cases-cons m)
 
 map-flatMap : {A B C : Type 0} (f : B → C) (g : A → List B) (l : List A) → map f (flatMap g l) ≡ flatMap (λ a. map f (g a)) l
 unfolding flatMap
@@ -149,7 +144,7 @@ module _ (book : Book) (kind : Kind) (receiver partner : ℕ) where
         go : (p : Partner) → List·Memᴰ p (partnerAt book kind receiver partner ∷ []) × (isSome (p .series) ≡ true) → IsPartner kind p
         go p (m, e) =
             let q : p ≡ partnerAt book kind receiver partner = ⊎-elim (λ x. x) (λ k. absurd (List·Memᴰ·not-nil k)) (List·Memᴰ·cases-cons m) in
-            all-at (IsPartner kind) (keep (λ (p : Partner). isSome (p .series)) (map (partnerAt book kind receiver) (partnerNumbers book kind receiver))) p all
+            all-each (IsPartner kind) (keep (λ (p : Partner). isSome (p .series)) (map (partnerAt book kind receiver) (partnerNumbers book kind receiver))) p all
             (keep-mem (λ (p : Partner). isSome (p .series)) (map (partnerAt book kind receiver) (partnerNumbers book kind receiver)) p (subst (λ (x : Partner). List·Memᴰ x (map (partnerAt book kind receiver) (partnerNumbers book kind receiver))) (sym q) (Memᴰ·map (partnerAt book kind receiver) known)) e)
 
     -- the rows filled, grouped as the writer groups them, are the partner, or none
@@ -345,11 +340,6 @@ delivery-small : (v : Direction) → deliveryNumber v < 2
 unfolding deliveryNumber
 delivery-small Up = omega arith
 delivery-small Down = omega arith
-
-all-append : {A : Type 0} (P : A → Type 0) (l m : List A) → All P l → All P m → All P (l ++ m)
-unfolding All
-all-append P [] m h k = k
-all-append P (a ∷ l) m h k = (h .0, all-append P l m (h .1) k)
 
 module _ (book : Book) (kind : Kind) (receiver partner : ℕ) where
   abbrev Small : Row → Type 0

@@ -7,7 +7,7 @@ use lib.Dec.{eqb}
 use native.Mathlib.Omega.{arith}
 use borrow.Author.Tests.{eq-eqb, ne-eqb, eqb-true}
 use Rattle.integers.specs.Tests.{and-left, and-right, and-both}
-use Rattle.integers.specs.All.{All}
+use Rattle.integers.specs.All.{All, all-append}
 use Rattle.formats.specs.Items.{ItemsOk}
 use Rattle.kinds.specs.declared.Kind.{Kind}
 use Rattle.message.specs.Contents.{Series, Partner}
@@ -59,11 +59,6 @@ month-one [] a = refl
 month-one (q ∷ l) a = same-agree q l (a .1)
 
 -- ---- the months of partners
-
-pub all-append : {A : Type 0} (P : A → Type 0) (l m : List A) → All P l → All P m → All P (l ++ m)
-unfolding All
-all-append P [] m a b = b
-all-append P (x ∷ l) m a b = (a .0, all-append P l m (a .1) b)
 
 series-years : (l : List Series) → All IsSeries l → All (λ q. 2018 ≤ q .0) (map monthOf l)
 unfolding All

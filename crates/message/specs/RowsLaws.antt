@@ -1,7 +1,7 @@
 -- The rows of a valid file's partners give these partners, and the partners of rows give these rows.
 use mathlib.Core.Path.{_≡_, refl, sym, ap, ap₂, _∙_}
 use mathlib.Core.Bool.{true, _&&_}
-use mathlib.Core.List.{List, [], _∷_, _++_, map, flatMap}
+use mathlib.Core.List.{List, [], _∷_, map, flatMap}
 use Prim.Native.Nat.{ℕ, _≤_}
 use lib.ListN.{length, length-append, length-map}
 use lib.Dec.{eqb}
@@ -9,7 +9,7 @@ use native.Mathlib.Omega.{arith}
 use borrow.Author.Tests.{eqb-true}
 use Rattle.integers.specs.Tests.{and-left, and-right}
 use Rattle.integers.specs.Rises.{rises}
-use Rattle.integers.specs.All.{All, all-map}
+use Rattle.integers.specs.All.{All, all-map, all-of, all-left, all-right, map-all}
 use Rattle.kinds.specs.declared.Kind.{Kind}
 use Rattle.message.specs.Contents.{Observation, Series, Partner, place, number}
 use Rattle.message.specs.Valid.{monthOf, periods, firstOf, IsSeries, IsPartner}
@@ -21,11 +21,6 @@ map-undo : {A B : Type 0} (f : A → B) (g : B → A) (l : List A) → All (λ a
 unfolding All
 map-undo f g [] h = refl
 map-undo f g (a ∷ l) h = ap₂ _∷_ (h .0) (map-undo f g l (h .1))
-
-all-of : {A : Type 0} (P : A → Type 0) → ((a : A) → P a) → (l : List A) → All P l
-unfolding All
-all-of P h [] = tt
-all-of P h (a ∷ l) = (h a, all-of P h l)
 
 -- ---- rows, their partners, and rows again
 
@@ -61,26 +56,11 @@ some-rows (s ∷ l) h v =
     let f : Observation → (ℕ × ℕ) × Observation = λ o. ((s .supply, s .delivery), o) in
     omega (arith, length-append (map f (s .observations)) (spread (map seriesRows l)), length-map (s .observations) f, v .0 .volume .counted .some)
 
-all-left : {A : Type 0} (P : A → Type 0) (l m : List A) → All P (l ++ m) → All P l
-unfolding All
-all-left P [] m h = tt
-all-left P (a ∷ l) m h = (h .0, all-left P l m (h .1))
-
-all-right : {A : Type 0} (P : A → Type 0) (l m : List A) → All P (l ++ m) → All P m
-unfolding All
-all-right P [] m h = h
-all-right P (a ∷ l) m h = all-right P l m (h .1)
-
-all-back : (q : ℕ × ℕ) (l : List Series) → All (λ x. x ≡ q) (map monthOf l) → All (λ (s : Series). monthOf s ≡ q) l
-unfolding All
-all-back q [] h = tt
-all-back q (s ∷ l) h = (h .0, all-back q l (h .1))
-
 partner-again : (k : Kind) (q : ℕ × ℕ) (ps : List Partner) → All (IsPartner k) ps → All (λ x. x ≡ q) (periods ps) → All (λ (p : Partner). partnerOf q (partnerRows p) ≡ p) ps
 unfolding All periods flatMap
 partner-again k q [] v m = tt
 partner-again k q (p ∷ ps) v m =
-    let months = all-back q (p .series) (all-left (λ x. x ≡ q) (map monthOf (p .series)) (periods ps) m) in (
+    let months = map-all (λ x. x ≡ q) monthOf (p .series) (all-left (λ x. x ≡ q) (map monthOf (p .series)) (periods ps) m) in (
       ap (λ (l : List Series). record { number = p .number; series = l }) (series-undo q (p .series) (v .0 .rising) (v .0 .each) months),
       partner-again k q ps (v .1) (all-right (λ x. x ≡ q) (map monthOf (p .series)) (periods ps) m),
     )

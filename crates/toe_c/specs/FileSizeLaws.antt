@@ -13,7 +13,7 @@ use Rattle.integers.specs.Counts.{times, times-mem}
 use Rattle.integers.specs.Ranges.{range}
 use Rattle.integers.specs.Running.{upTo, floorAt}
 use Rattle.integers.specs.Sums.{naturals, sumBy, sumOf, sum-zero, sum-all, sum-swap, sum-once, sum-absent}
-use Rattle.integers.specs.All.{All, all-map}
+use Rattle.integers.specs.All.{All, all-map, all-of-map, all-append}
 use Rattle.integers.specs.Keep.{keep}
 use Rattle.integers.specs.Ascending.{ascending}
 use Rattle.integers.specs.AscendingLaws.{ascending-once}
@@ -37,7 +37,6 @@ use Rattle.volumes.specs.SeriesLaws.{seriesOf}
 use Rattle.volumes.specs.SettlementLaws.{passing}
 use Rattle.message.specs.Contents.{Partner}
 use Rattle.message.specs.Valid.{IsPartner}
-use Rattle.message.specs.Months.{all-append}
 use Rattle.message.specs.Group.{spread}
 use Rattle.message.specs.Rows.{Row, seriesRows, partnerRows, rowsOf}
 use Rattle.message.specs.SizeLaws.{file-most}
@@ -78,15 +77,10 @@ sum-ones f (a ∷ l) h = let i : sumOf f l ≡ length l = sum-ones f l (h .1) in
 
 -- ---- every row of a valid file has watts
 
-all-under : {K A : Type 0} (P : K × A → Type 0) (k : K) (l : List A) → All (λ a. P (k, a)) l → All P (map (λ a. (k, a)) l)
-unfolding All
-all-under P k [] h = tt
-all-under P k (a ∷ l) h = (h .0, all-under P k l (h .1))
-
 all-spread : {B K A : Type 0} (P : K × A → Type 0) (f : B → K × List A) (l : List B) → All (λ b. All (λ a. P (f b .0, a)) (f b .1)) l → All P (spread (map f l))
 unfolding All spread flatMap
 all-spread P f [] h = tt
-all-spread P f (b ∷ l) h = all-append P (map (λ a. (f b .0, a)) (f b .1)) (spread (map f l)) (all-under P (f b .0) (f b .1) (h .0)) (all-spread P f l (h .1))
+all-spread P f (b ∷ l) h = all-append P (map (λ a. (f b .0, a)) (f b .1)) (spread (map f l)) (all-of-map P (λ a. (f b .0, a)) (f b .1) (h .0)) (all-spread P f l (h .1))
 
 -- 1 for a row with watts
 abbrev one : Row → ℕ

@@ -126,21 +126,6 @@ unfolding every All
 all-every good h [] v = refl
 all-every good h (a ∷ l) v = and-both (h a (v .0)) (all-every good h l (v .1))
 
-pub all-both : {A : Type 0} (P Q : A → Type 0) (l : List A) → All P l → All Q l → All (λ a. P a × Q a) l
-unfolding All
-all-both P Q [] p q = tt
-all-both P Q (a ∷ l) p q = ((p .0, q .0), all-both P Q l (p .1) (q .1))
-
-pub all-of-map : {A B : Type 0} (P : B → Type 0) (f : A → B) (l : List A) → All (λ a. P (f a)) l → All P (map f l)
-unfolding All
-all-of-map P f [] h = tt
-all-of-map P f (a ∷ l) h = (h .0, all-of-map P f l (h .1))
-
-pub map-all : {A B : Type 0} (P : B → Type 0) (f : A → B) (l : List A) → All P (map f l) → All (λ a. P (f a)) l
-unfolding All
-map-all P f [] h = tt
-map-all P f (a ∷ l) h = (h .0, map-all P f l (h .1))
-
 -- ---- order by numbers
 
 follow-map : {A B : Type 0} (f : A → B) (before : B → B → Bool) (a : A) (l : List A) → follow before (f a) (map f l) ≡ follow (λ x y. before (f x) (f y)) a l

@@ -9,7 +9,7 @@ use native.Mathlib.Omega.{arith}
 use borrow.Author.Tests.{leb-true, le-leb, ltb-true, lt-ltb, eqb-true, eq-eqb}
 use Rattle.integers.specs.Tests.{and-left, and-right, and-both}
 use Rattle.integers.specs.Rises.{rises}
-use Rattle.integers.specs.All.{All, all-map}
+use Rattle.integers.specs.All.{All, all-map, all-of, all-append, all-both, all-of-map, map-all}
 use Rattle.kinds.specs.declared.Kind.{Kind}
 use Rattle.kinds.specs.declared.Kind.the-variants.{Toe01, Toe02, Toe03}
 use Rattle.message.specs.Contents.{Observation, Series, Partner, position, place, number}
@@ -21,9 +21,8 @@ use Rattle.message.specs.Keys.{numberKeys, pairKeys}
 use Rattle.message.specs.Group.{Keys, group, first-group}
 use Rattle.message.specs.Rows.{Row, rowsFrom, rowsIn, zeros, inSixes, seriesOf, partnerOf, partnersOf, Message, contents, IsMessage}
 use Rattle.message.specs.RowsLaws.{first-month}
-use Rattle.message.specs.Months.{all-append}
 use Rattle.moments.specs.Ids.{isTransactionId}
-use Rattle.writer.specs.WriterOrder.{every, follow, ordered, by, both, keysOf, inOrder, order-groups, every-group, full-groups, every-all, all-every, all-both, all-of-map, map-all, ordered-map, ordered-both, rises-follow, rises-few}
+use Rattle.writer.specs.WriterOrder.{every, follow, ordered, by, both, keysOf, inOrder, order-groups, every-group, full-groups, every-all, all-every, ordered-map, ordered-both, rises-follow, rises-few}
 use Rattle.writer.specs.WriterRows.{isObservation, isPair, isNumber, oneSupply, laterPair, later, isRow, rowBefore, ofMonth, isRows, rowsMessage, rowAt, sixAt, behind}
 
 -- ---- observations
@@ -182,9 +181,7 @@ group-some E [] h = absurd (omega arith)
 group-some E (x ∷ l) h = omega (arith, ap length (first-group E x l .is))
 
 from-zero : (l : List ℕ) → All (λ n. 0 ≤ n) l
-unfolding All
-from-zero [] = tt
-from-zero (n ∷ l) = (omega arith, from-zero l)
+from-zero l = all-of (λ n. 0 ≤ n) (λ n. omega arith) l
 
 numbers-fit : (k : Kind) → 10 ^ digits k ≤ most
 unfolding digits
