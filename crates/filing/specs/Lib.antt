@@ -1,13 +1,9 @@
 pub mod SheetLaws
 pub mod FileCallLaws
-pub mod Volumes
-pub mod VolumesLaws
-pub mod SeriesSums
 pub mod Partners
 pub mod PartnersLaws
-pub mod SeriesSumsLaws
-pub mod SeriesSumsWritten
-pub mod SeriesSumsWrittenLaws
+pub mod Observations
+pub mod ObservationsLaws
 pub mod PartnerRows
 pub mod LayingLaws
 pub mod PartnerRowsLaws

@@ -8,8 +8,7 @@ use Rattle.book.specs.declared.Supply.{Supply}
 use Rattle.book.specs.declared.Direction.{Direction}
 use Rattle.book.specs.Book.{Book}
 use Rattle.volumes.specs.Quarters.{monthQuarters}
-use Rattle.volumes.specs.Series.{Kind, grainsAt}
-use Rattle.volumes.specs.SeriesLaws.{seriesOf}
+use Rattle.volumes.specs.Series.{Kind, grainsAt, seriesOf}
 use Rattle.message.specs.Contents.{Observation}
 use Rattle.message.specs.Rows.{Row, numbers}
 use Rattle.reports.specs.FileRows.{supplyNumber, deliveryNumber, directions, Volumes, observationsBy}

@@ -33,8 +33,7 @@ use Rattle.book.specs.declared.Direction.{Direction}
 use Rattle.book.specs.declared.Direction.the-variants.{Up, Down}
 use Rattle.book.specs.Book.{Book}
 use Rattle.volumes.specs.Quarters.{monthQuarters}
-use Rattle.volumes.specs.Series.{Kind, grainsAt}
-use Rattle.volumes.specs.SeriesLaws.{seriesOf}
+use Rattle.volumes.specs.Series.{Kind, grainsAt, seriesOf}
 use Rattle.volumes.specs.Sound.{Sound}
 use Rattle.volumes.specs.Settlement.{rows}
 use Rattle.settlement.specs.StoresLaws.{sets-append}
@@ -51,9 +50,9 @@ use Rattle.writer.specs.WriterRows.{rowAt, Paired}
 use Rattle.writer.specs.WriterContents.{partnersIn, Writable}
 use Rattle.reports.specs.FileRows.{supplyNumber, deliveryNumber, directions, partnerNumbers, observationsOf, isWritten, partnerAt, partnersOf, fileText, Volumes, observationsBy, timeSeriesBy, partnerBy, partnersBy}
 use Rattle.filing.specs.Partners.{partnerIf, partnerColumn, noPartner, Next}
-use Rattle.filing.specs.SeriesSums.{cellAt}
-use Rattle.filing.specs.SeriesSumsWritten.{observationIf, observationsIn}
-use Rattle.filing.specs.SeriesSumsWrittenLaws.{no-observation, one-observation, observations-none, observations-more}
+use Rattle.series.specs.Sums.{cellAt}
+use Rattle.filing.specs.Observations.{observationIf, observationsIn}
+use Rattle.filing.specs.ObservationsLaws.{no-observation, one-observation, observations-none, observations-more}
 use Rattle.reports.specs.Registered.{Registered}
 use Rattle.reports.specs.FormLaws.{partners-valid}
 use Rattle.filing.specs.PartnerRows.{rowsBy, seriesRowsOf, partnerRowsOf, Filled, seriesRowsBy, partnerRowsBy}

@@ -1,5 +1,4 @@
 // The file call: a receiver's file of a book, and the book's settlement rows.
-use crate::delivered::fill_volumes;
 use crate::laying::measure_file;
 use crate::laying::write_measured;
 use crate::partners::Asked;
@@ -8,6 +7,7 @@ use crate::partners::kind_of;
 use formats::Mark;
 use kinds::Kind;
 use reports::FileAnswer;
+use series::delivered::fill_volumes;
 use settlement::judge::Verdict;
 use settlement::judge::judge_settlement;
 use settlement::rows::ROW_WIDTH;
@@ -22,7 +22,7 @@ ghost use Rattle.book.specs.Book.{bookOf};
 ghost use Rattle.volumes.specs.Settlement.{rowWidth, rowCount, bookRefusal};
 ghost use Rattle.settlement.specs.Verdicts.{refusalIn};
 ghost use Rattle.reports.specs.FileRows.{fileText};
-ghost use Rattle.filing.specs.SeriesSums.{DeliveredIn};
+ghost use Rattle.series.specs.Sums.{DeliveredIn};
 ghost use Rattle.reports.specs.Calls.{FileCalled};
 ghost use Rattle.filing.specs.FileCallLaws.{askedVerdict, FileFilled};
 

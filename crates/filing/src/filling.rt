@@ -1,19 +1,38 @@
 // A partner's file rows, filled from a book's delivered volumes: six numbers each, as the write call takes them.
-use crate::series::delivery_number;
-use crate::series::series_watts;
-use crate::series::supply_number;
 use book::Direction;
 use book::Supply;
 use kinds::Kind;
+use series::sums::series_watts;
 use sheets::cells::month_quarters;
+ghost use mathlib.Core.Path.{_≡_};
 ghost use mathlib.Core.List.{_∷_, []};
-ghost use Prim.Native.Nat.{_+_, _*_, _≤_};
+ghost use Prim.Native.Nat.{_+_, _*_, _≤_, _<_};
 ghost use lib.ListN.{length};
 ghost use Rattle.book.specs.Book.{bookOf};
 ghost use Rattle.message.specs.ObservationForm.{observed};
-ghost use Rattle.filing.specs.SeriesSums.{DeliveredIn};
-ghost use Rattle.filing.specs.SeriesSumsWritten.{observationIf, observationsIn};
+ghost use Rattle.reports.specs.FileRows.{supplyNumber, deliveryNumber};
+ghost use Rattle.series.specs.Sums.{DeliveredIn};
+ghost use Rattle.filing.specs.Observations.{observationIf, observationsIn};
 ghost use Rattle.filing.specs.PartnerRows.{rowsBy, seriesRowsOf, partnerRowsOf, Filled};
+
+// The directions as a file's rows have them.
+fn supply_number(supply: Supply) -> u64
+    ensures { λ r. ⌜ (r ≡ supplyNumber supply) × (r < 2) ⌝ }
+{
+    match supply {
+        Supply::OffTake => 0,
+        Supply::Injection => 1,
+    }
+}
+
+fn delivery_number(delivery: Direction) -> u64
+    ensures { λ r. ⌜ (r ≡ deliveryNumber delivery) × (r < 2) ⌝ }
+{
+    match delivery {
+        Direction::Up => 0,
+        Direction::Down => 1,
+    }
+}
 
 // The six numbers of a row, from `at` on; the place behind them.
 fn push_row(

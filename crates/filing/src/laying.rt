@@ -17,7 +17,7 @@ ghost use Rattle.book.specs.Book.{bookOf};
 ghost use Rattle.message.specs.Bytes.{partnerBytes};
 ghost use Rattle.emitter.specs.Laid.{Laid, Stands};
 ghost use Rattle.reports.specs.FileRows.{partnerNumbers, partnersOf, fileText};
-ghost use Rattle.filing.specs.SeriesSums.{DeliveredIn};
+ghost use Rattle.series.specs.Sums.{DeliveredIn};
 ghost use Rattle.filing.specs.Partners.{partnerIf};
 
 // What is laid: the place behind it, and how many partners it has.

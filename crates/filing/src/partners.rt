@@ -38,7 +38,7 @@ pub fn in_role(register: &[u8], kind: Kind, receiver: u64) -> bool
     let mut i = 0;
     while i < n {
         let point = book::register::point_at(register, i);
-        if crate::series::receiver_of(kind, point) == receiver {
+        if series::sums::receiver_of(kind, point) == receiver {
             return true;
         }
         i += 1;
@@ -52,7 +52,7 @@ fn is_taken(kind: Kind, receiver: u64, point: Point) -> bool
     ensures { λ r. ⌜ r ≡ isTaken kind receiver point ⌝ }
 {
     let takers = point.takers;
-    crate::series::takes(kind, takers) & (crate::series::receiver_of(kind, point) == receiver)
+    series::sums::takes(kind, takers) & (series::sums::receiver_of(kind, point) == receiver)
 }
 
 // The nearer of two: a taken point's partner that is not below `low`, if it is below `next`.
@@ -74,7 +74,7 @@ pub fn next_partner(register: &[u8], kind: Kind, receiver: u64, low: u64) -> u64
     let mut i = 0;
     while i < n {
         let point = book::register::point_at(register, i);
-        let partner = crate::series::partner_of(kind, point);
+        let partner = series::sums::partner_of(kind, point);
         next = nearer(is_taken(kind, receiver, point), low, partner, next);
         i += 1;
     }

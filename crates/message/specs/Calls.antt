@@ -16,7 +16,7 @@ use Rattle.message.specs.declared.WriteAnswer.{WriteAnswer}
 use Rattle.message.specs.declared.WriteAnswer.the-variants.{Bytes, Refused as WriteRefused}
 use Rattle.message.specs.Bytes.{opening, element, root}
 use Rattle.message.specs.Rows.{numbers, Message}
-use Rattle.message.specs.FileLaws.{readMessage}
+use Rattle.message.specs.Messages.{readMessage}
 
 -- what a call decides: what it accepts, or a refusal's number and item
 pub data Verdict (A : Type 0) : Type 0 where

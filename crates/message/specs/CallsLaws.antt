@@ -18,7 +18,7 @@ use Rattle.message.specs.declared.ReadAnswer.{ReadAnswer}
 use Rattle.message.specs.declared.ReadAnswer.the-variants.{File, Refused}
 use Rattle.message.specs.Bytes.{opening, element, closing, root, counter, partnerBytes, fileBytes}
 use Rattle.message.specs.Rows.{numbers, partnersOf, Message, contents}
-use Rattle.message.specs.FileLaws.{messageBytes, readMessage}
+use Rattle.message.specs.Messages.{messageBytes, readMessage}
 use Rattle.message.specs.Calls.{Verdict, accepted, refused, unless, over, afterwards, kindNumbered, kindNumber, idPlace, momentPlace, factsOf, readVerdict, readSays, messageNumbers, ReadCalled}
 
 -- ---- kinds by their numbers

@@ -15,7 +15,8 @@ use Rattle.message.specs.Group.{spread}
 use Rattle.message.specs.Rows.{rowNumbers, numbers, rowsOf, message, IsMessage}
 use Rattle.message.specs.FileForm.{file}
 use Rattle.message.specs.MessageForm.{message-recast}
-use Rattle.message.specs.FileLaws.{messageBytes, readMessage, written-is-read}
+use Rattle.message.specs.Messages.{messageBytes, readMessage}
+use Rattle.message.specs.FileLaws.{written-is-read}
 use Rattle.message.specs.CaseF.{observations, series, caseF, text, renders, valid}
 use Rattle.message.specs.Calls.{over, idPlace, momentPlace, factsOf, ReadCalled}
 use Rattle.message.specs.CallsLaws.{called-file}

@@ -12,7 +12,8 @@ use Rattle.message.specs.Valid.{IsFile}
 use Rattle.message.specs.FileForm.{file}
 use Rattle.message.specs.Rows.{Message, contents, message, IsMessage}
 use Rattle.message.specs.MessageForm.{message-recast}
-use Rattle.message.specs.FileLaws.{messageBytes, readMessage, written-is-read, read-is-written, refused-is-none}
+use Rattle.message.specs.Messages.{messageBytes, readMessage}
+use Rattle.message.specs.FileLaws.{written-is-read, read-is-written, refused-is-none}
 use Rattle.message.specs.Calls.{ReadCalled}
 use Rattle.message.specs.CallsLaws.{says-no-file, says-file, refused-is}
 use Rattle.message.specs.Exact.{OfValidFile, ReaderExact}

@@ -2,18 +2,11 @@
 use mathlib.Core.Path.{_≡_}
 use mathlib.Core.List.{List, []}
 use Prim.Native.Nat.{ℕ}
-use Rattle.formats.specs.Format.{Res, got, bad, readAll}
+use Rattle.formats.specs.Format.{got, bad}
 use Rattle.formats.specs.FormatLaws.{there-and-back, back-and-there, refused, one-contents}
-use Rattle.message.specs.Bytes.{fileBytes}
-use Rattle.message.specs.Rows.{Message, contents, IsMessage}
+use Rattle.message.specs.Rows.{Message, IsMessage}
 use Rattle.message.specs.MessageForm.{messageForm}
-
--- the bytes of a file by its rows, and what bytes are read as
-abbrev pub messageBytes : Message → List ℕ
-messageBytes m = fileBytes (contents m)
-
-abbrev pub readMessage : List ℕ → Res Message
-readMessage s = readAll messageForm s
+use Rattle.message.specs.Messages.{messageBytes, readMessage}
 
 pub written-is-read : (m : Message) → IsMessage m → readMessage (messageBytes m) ≡ got m []
 unfolding messageForm

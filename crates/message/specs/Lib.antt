@@ -15,6 +15,7 @@ pub mod Rows
 pub mod RowsLaws
 pub mod SixesLaws
 pub mod MessageForm
+pub mod Messages
 pub mod FileLaws
 pub mod Calls
 pub mod CallsLaws

@@ -20,7 +20,7 @@ use Rattle.message.specs.Valid.{IsFile}
 use Rattle.message.specs.FileForm.{Parts, fileOf, fileBody, file}
 use Rattle.message.specs.MessageForm.{messageForm}
 use Rattle.message.specs.Rows.{rowsOf, Message, message}
-use Rattle.message.specs.FileLaws.{readMessage}
+use Rattle.message.specs.Messages.{readMessage}
 use Rattle.message.specs.Calls.{over, idPlace, momentPlace, factsOf}
 use Rattle.message.specs.CallsLaws.{judged, says-no-file, says-short, says-file}
 use Rattle.reader.specs.ReaderItems.{folded}

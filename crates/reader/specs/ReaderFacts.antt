@@ -17,7 +17,7 @@ use Rattle.message.specs.declared.ReadAnswer.the-variants.{File, Refused}
 use Rattle.message.specs.Bytes.{opening, ending}
 use Rattle.message.specs.FileForm.{Parts, fileBody}
 use Rattle.message.specs.Rows.{Row, numbers}
-use Rattle.message.specs.FileLaws.{readMessage}
+use Rattle.message.specs.Messages.{readMessage}
 use Rattle.message.specs.Calls.{over, afterwards, readVerdict, messageNumbers, ReadCalled}
 use Rattle.message.specs.CallsLaws.{judged, accepted-is}
 use Rattle.reader.specs.declared.file.FileRead.{FileRead}

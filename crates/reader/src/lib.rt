@@ -9,7 +9,7 @@ use message::FileFacts;
 use message::ReadAnswer;
 ghost use mathlib.Core.Path.{_≡_};
 ghost use Prim.Native.Nat.{_+_, _-_};
-ghost use Rattle.message.specs.FileLaws.{readMessage};
+ghost use Rattle.message.specs.Messages.{readMessage};
 ghost use Rattle.message.specs.Calls.{readVerdict, readSays, ReadCalled};
 ghost use Rattle.reader.specs.ReaderFacts.{factsRead};
 

@@ -19,11 +19,10 @@ use Rattle.book.specs.Book.{bookOf}
 use Rattle.volumes.specs.Quarters.{monthQuarters}
 use Rattle.volumes.specs.Settlement.{rowWidth, rowCount, Accepted}
 use Rattle.volumes.specs.Sheets.{parties, sheet, requestedVolume}
-use Rattle.volumes.specs.Series.{Kind, Toe01, Toe02, grainsAt}
-use Rattle.volumes.specs.SeriesLaws.{seriesOf}
+use Rattle.volumes.specs.Series.{Kind, Toe01, Toe02, grainsAt, seriesOf}
 use Rattle.message.specs.Valid.{isMoment}
 use Rattle.message.specs.Rows.{Row, Message}
-use Rattle.message.specs.FileLaws.{readMessage}
+use Rattle.message.specs.Messages.{readMessage}
 use Rattle.message.specs.Calls.{kindNumber}
 use Rattle.reports.specs.FileRows.{supplyNumber, deliveryNumber, fileText, messageOf}
 use Rattle.reports.specs.Roles.{receivers}

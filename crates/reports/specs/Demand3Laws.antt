@@ -27,7 +27,7 @@ use Rattle.volumes.specs.Sound.{Sound}
 use Rattle.volumes.specs.SoundLaws.{sound}
 use Rattle.volumes.specs.BookLaws.{getD-map-range}
 use Rattle.message.specs.Rows.{Row}
-use Rattle.message.specs.FileLaws.{readMessage}
+use Rattle.message.specs.Messages.{readMessage}
 use Rattle.message.specs.Calls.{kindNumbered, kindNumber}
 use Rattle.reports.specs.FileRows.{supplyNumber, deliveryNumber, fileText, fileRows, messageOf}
 use Rattle.reports.specs.Roles.{receivers}

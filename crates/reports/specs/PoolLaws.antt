@@ -36,8 +36,7 @@ use Rattle.volumes.specs.Ranking.{insert, ranked}
 use Rattle.volumes.specs.Baseline.{pointOf, watts, known, complete, mean, ownReading, dayReading, dayReadings, dayWindow, windowed, allowed, eligible, before, eligibleDays, latest, daySum, taken, high, baselineBy, baseline}
 use Rattle.volumes.specs.Settlement.{neededBy, needed, tooFew, refusalNumber, rowRefusal, refusalFrom, settlementRefusal, limited, deliveredBy, delivered, orElse, bookRefusal}
 use Rattle.volumes.specs.Sheets.{covers, quarterAt}
-use Rattle.volumes.specs.Series.{Kind, Toe01, Toe02, Toe03, takes, receiverOf, partnerOf, sameSupply, sameDirection, isPoint, isEngagement, grainsOf, grainsAt, seriesWatts}
-use Rattle.volumes.specs.SeriesLaws.{seriesOf}
+use Rattle.volumes.specs.Series.{Kind, Toe01, Toe02, Toe03, takes, receiverOf, partnerOf, sameSupply, sameDirection, isPoint, isEngagement, grainsOf, grainsAt, seriesWatts, seriesOf}
 use Rattle.reports.specs.Small.{Carries}
 use Rattle.reports.specs.SmallLaws.{no-change, none-first, passes, carries-by, accepted-by}
 use Rattle.reports.specs.Pool.{header, calendar, pairs, register, words, wattAt, readings, engagements, pool, volume, Shown}

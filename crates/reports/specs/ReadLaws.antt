@@ -17,7 +17,8 @@ use Rattle.message.specs.Rows.{Row, rowsOf, partnersOf as regrouped, message}
 use Rattle.message.specs.RowsLaws.{partners-undo, first-month}
 use Rattle.message.specs.FileForm.{file}
 use Rattle.message.specs.MessageForm.{message-recast}
-use Rattle.message.specs.FileLaws.{readMessage, written-is-read}
+use Rattle.message.specs.Messages.{readMessage}
+use Rattle.message.specs.FileLaws.{written-is-read}
 use Rattle.reports.specs.FileRows.{partnersOf, fileOf, fileText, fileRows, monthIn, messageOf}
 use Rattle.reports.specs.Roles.{receivers}
 use Rattle.reports.specs.Registered.{Registered}

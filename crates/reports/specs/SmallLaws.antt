@@ -34,8 +34,7 @@ use Rattle.volumes.specs.Baseline.{pointOf, watts, known, complete, readingBefo
 use Rattle.volumes.specs.Settlement.{neededBy, needed, tooFew, refusalNumber, rowRefusal, refusalFrom, settlementRefusal, limited, deliveredBy, delivered, rowWidth, rowCount, orElse, bookRefusal, Accepted}
 use Rattle.volumes.specs.SettlementLaws.{settling-long}
 use Rattle.volumes.specs.Sheets.{covers, quarterAt}
-use Rattle.volumes.specs.Series.{Kind, Toe01, takes, receiverOf, partnerOf, sameSupply, sameDirection, isPoint, isEngagement, grainsOf, grainsAt, seriesWatts}
-use Rattle.volumes.specs.SeriesLaws.{seriesOf}
+use Rattle.volumes.specs.Series.{Kind, Toe01, takes, receiverOf, partnerOf, sameSupply, sameDirection, isPoint, isEngagement, grainsOf, grainsAt, seriesWatts, seriesOf}
 use Rattle.volumes.specs.SoundLaws.{sound}
 use Rattle.reports.specs.FileRows.{supplyNumber, deliveryNumber, fileRows}
 use Rattle.reports.specs.Watts.{wattsIn}

@@ -15,8 +15,8 @@ use Rattle.book.specs.declared.Supply.{Supply}
 use Rattle.book.specs.declared.Direction.{Direction}
 use Rattle.book.specs.declared.Point.{Point}
 use Rattle.book.specs.Book.{Book}
-use Rattle.volumes.specs.Series.{Kind, Toe01, Toe02, receiverOf, partnerOf, seriesWatts}
-use Rattle.volumes.specs.SeriesLaws.{seriesOf, pair-watts}
+use Rattle.volumes.specs.Series.{Kind, Toe01, Toe02, receiverOf, partnerOf, seriesWatts, seriesOf}
+use Rattle.volumes.specs.SeriesLaws.{pair-watts}
 use Rattle.message.specs.Rows.{Row}
 use Rattle.reports.specs.FileRows.{supplyNumber, deliveryNumber, isTaken, partnerNumbers, directions, positions, observationAt, fileRows, observationBy}
 use Rattle.reports.specs.Roles.{receivers}

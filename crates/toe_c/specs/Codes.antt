@@ -14,7 +14,7 @@ use Rattle.message.specs.declared.ReadAnswer.the-variants.{File as FileRead, Re
 use Rattle.message.specs.declared.WriteAnswer.{WriteAnswer}
 use Rattle.message.specs.declared.WriteAnswer.the-variants.{Bytes, Refused as WriteRefused}
 use Rattle.message.specs.Rows.{Message}
-use Rattle.message.specs.FileLaws.{readMessage}
+use Rattle.message.specs.Messages.{readMessage}
 use Rattle.message.specs.Calls.{Verdict, accepted, refused, unless, afterwards, kindNumbered, kindNumber, factsOf, readVerdict, readSays, messageNumbers, writeSays}
 use Rattle.writer.specs.WriteCalls.{writeVerdict}
 use Rattle.volumes.specs.Settlement.{rows, rowCount, settlingRefusal}

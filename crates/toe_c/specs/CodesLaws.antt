@@ -10,7 +10,7 @@ use borrow.Author.Tests.{le-leb, lt-leb}
 use Rattle.message.specs.declared.ReadAnswer.{ReadAnswer}
 use Rattle.message.specs.declared.ReadAnswer.the-variants.{File, Refused}
 use Rattle.message.specs.Rows.{Message}
-use Rattle.message.specs.FileLaws.{readMessage}
+use Rattle.message.specs.Messages.{readMessage}
 use Rattle.message.specs.Calls.{Verdict, accepted, refused, over, afterwards, factsOf, readVerdict, readSays, messageNumbers, ReadCalled}
 use Rattle.toe_c.specs.Codes.{refusalCode, readCode, shortCode, factNumbers, messageFacts, withFacts, codedVerdict, ReadCoded}
 use Rattle.toe_c.specs.ToldLaws.{read-told}

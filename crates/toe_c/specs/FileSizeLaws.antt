@@ -32,8 +32,7 @@ use Rattle.volumes.specs.Settlement.{delivered, rowCount, orElse, bookRefusal}
 use Rattle.volumes.specs.Sound.{Sound}
 use Rattle.volumes.specs.SoundLaws.{never, sound}
 use Rattle.volumes.specs.Sheets.{startPosition, covers, quarterAt}
-use Rattle.volumes.specs.Series.{Kind, takes, receiverOf, partnerOf, Series, sameSupply, sameDirection, isPoint, isEngagement, grainsOf, grainsAt, seriesWatts}
-use Rattle.volumes.specs.SeriesLaws.{seriesOf}
+use Rattle.volumes.specs.Series.{Kind, takes, receiverOf, partnerOf, Series, sameSupply, sameDirection, isPoint, isEngagement, grainsOf, grainsAt, seriesWatts, seriesOf}
 use Rattle.volumes.specs.SettlementLaws.{passing}
 use Rattle.message.specs.Contents.{Partner}
 use Rattle.message.specs.Valid.{IsPartner}
@@ -45,7 +44,7 @@ use Rattle.reports.specs.RegisteredLaws.{registered}
 use Rattle.reports.specs.FileRows.{isTaken, partnerNumbers, directions, positions, observationAt, partnersOf, fileOf, fileText, fileRows, observationBy}
 use Rattle.reports.specs.CarryLaws.{rowAt, rows-sum}
 use Rattle.reports.specs.FormLaws.{partners-few, partners-valid, file-valid}
-use Rattle.filing.specs.VolumesLaws.{volumes-most}
+use Rattle.series.specs.VolumesLaws.{volumes-most}
 use Rattle.reports.specs.Calls.{textOf, fileRefusal, fileSays, fileAnswer}
 use Rattle.reports.specs.CallsLaws.{kind-is, InForm, file-in-form}
 use Rattle.reports.specs.Demand3.{isFile}

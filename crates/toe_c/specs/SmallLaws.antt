@@ -34,7 +34,8 @@ use Rattle.kinds.specs.declared.Kind.{Kind as FileKind}
 use Rattle.message.specs.declared.ReadAnswer.{ReadAnswer}
 use Rattle.message.specs.declared.WriteAnswer.{WriteAnswer}
 use Rattle.message.specs.Valid.{isMoment}
-use Rattle.message.specs.FileLaws.{messageBytes, readMessage, read-is-written}
+use Rattle.message.specs.Messages.{messageBytes, readMessage}
+use Rattle.message.specs.FileLaws.{read-is-written}
 use Rattle.message.specs.SizeLaws.{file-least}
 use Rattle.message.specs.RowsLaws.{rows-undo}
 use Rattle.message.specs.Calls.{Verdict, accepted, refused as sent, unless as judge, kindNumbered, readVerdict, readSays, ReadCalled, writeSays}

@@ -13,13 +13,13 @@ use Rattle.volumes.specs.SettlementLaws.{passing}
 use Rattle.volumes.specs.SoundLaws.{sound}
 use Rattle.settlement.specs.Settling.{answerBy}
 use Rattle.message.specs.Rows.{Message}
-use Rattle.message.specs.FileLaws.{readMessage}
+use Rattle.message.specs.Messages.{readMessage}
 use Rattle.message.specs.Calls.{Verdict, accepted, refused, kindNumbered, factsOf, readVerdict, readSays, writeSays}
 use Rattle.message.specs.declared.WriteAnswer.{WriteAnswer}
 use Rattle.writer.specs.WriteCalls.{writeVerdict, WriteCalled}
 use Rattle.reports.specs.Calls.{sheetRefusal, sheetSays, sheetAnswer, textOf, fileRefusal, fileSays, fileAnswer}
-use Rattle.filing.specs.VolumesLaws.{volumes-most}
-use Rattle.filing.specs.SeriesSumsWrittenLaws.{month-most}
+use Rattle.series.specs.VolumesLaws.{volumes-most}
+use Rattle.filing.specs.ObservationsLaws.{month-most}
 use Rattle.toe_c.specs.Codes.{Tells, VerdictTells, settleCode, sheetCode, fileCode, readCode, writeCode, codedVerdict}
 use Rattle.toe_c.specs.SmallLaws.{AllSmall, VerdictSmall, RowsRoom, decoded, settling-small, sheet-judged, file-judged, verdict-written, read-judged, facts-judged}
 use Rattle.toe_c.specs.FileSizeLaws.{first-none, file-few}

@@ -74,6 +74,9 @@ pub record Series : Type 0 where
   pub supply : Supply
   pub delivery : Direction
 
+abbrev pub seriesOf : ℕ → Supply → Direction → Series
+seriesOf partner supply delivery = record { partner = partner; supply = supply; delivery = delivery }
+
 unfoldable pub sameSupply : Supply → Supply → Bool
 sameSupply OffTake OffTake = true
 sameSupply OffTake Injection = false

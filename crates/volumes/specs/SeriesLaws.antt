@@ -17,7 +17,7 @@ use Rattle.book.specs.Book.{Book}
 use Rattle.volumes.specs.Baseline.{pointOf}
 use Rattle.volumes.specs.Settlement.{delivered}
 use Rattle.volumes.specs.Sheets.{covers, quarterAt}
-use Rattle.volumes.specs.Series.{Kind, Toe01, Toe02, Toe03, takes, takenBy, Told, receiverOf, partnerOf, Series, sameSupply, sameDirection, isPoint, isEngagement, grainsOf, grainsAt, seriesWatts}
+use Rattle.volumes.specs.Series.{Kind, Toe01, Toe02, Toe03, takes, takenBy, Told, receiverOf, partnerOf, Series, sameSupply, sameDirection, isPoint, isEngagement, grainsOf, grainsAt, seriesWatts, seriesOf}
 
 -- up to each position: "the series' grains up to it, over 30,240 rounded down"
 pub series-prefix : (book : Book) (kind : Kind) (receiver : ℕ) (s : Series) (p : ℕ) → upTo (seriesWatts book kind receiver s) p ≡ wholeWatts (upTo (grainsAt book kind receiver s) p)
@@ -47,9 +47,6 @@ pub told-at : (register : List ℕ) (i : ℕ) → Told (pointAt register i)
 told-at register i = record { law = λ kind. takes-by kind (situationIn (registerRow register i)) }
 
 -- FSP f by supplier s, and supplier s by FSP f: the same points, grains and watts
-abbrev pub seriesOf : ℕ → Supply → Direction → Series
-seriesOf partner supply delivery = record { partner = partner; supply = supply; delivery = delivery }
-
 alike : (z : Situation) → takes Toe01 z ≡ takes Toe02 z
 unfolding takes
 alike Transfer = refl

@@ -20,7 +20,8 @@ use Rattle.message.specs.declared.WriteAnswer.the-variants.{Bytes}
 use Rattle.message.specs.FileForm.{moment-length}
 use Rattle.message.specs.Rows.{numbers, rowsIn, inSixes, Message, contents, IsMessage}
 use Rattle.message.specs.SixesLaws.{numbers-rows, length-numbers, rows-numbers, numbers-sixes}
-use Rattle.message.specs.FileLaws.{messageBytes, readMessage, written-is-read, read-is-written}
+use Rattle.message.specs.Messages.{messageBytes, readMessage}
+use Rattle.message.specs.FileLaws.{written-is-read, read-is-written}
 use Rattle.message.specs.Calls.{over, kindNumbered, kindNumber, idPlace, momentPlace, factsOf, ReadCalled}
 use Rattle.message.specs.CallsLaws.{kind-numbered, over-first, called-file, Accepted, accepted-is, refused-is, one-reading, id-stands, moment-stands}
 use Rattle.writer.specs.WriterRows.{isRows, ofMonth, rowsMessage}

@@ -10,7 +10,7 @@ use Rattle.moments.specs.Ids.{isTransactionId}
 use Rattle.kinds.specs.declared.Kind.{Kind}
 use Rattle.message.specs.declared.WriteAnswer.{WriteAnswer}
 use Rattle.message.specs.Valid.{isMoment}
-use Rattle.message.specs.FileLaws.{messageBytes}
+use Rattle.message.specs.Messages.{messageBytes}
 use Rattle.message.specs.Calls.{Verdict, accepted, refused, unless, afterwards, kindNumbered, writeSays}
 use Rattle.writer.specs.WriterRows.{isRows, rowsMessage}
 

@@ -14,7 +14,7 @@ use Rattle.kinds.specs.declared.Kind.{Kind}
 use Rattle.message.specs.declared.WriteAnswer.{WriteAnswer}
 use Rattle.message.specs.declared.WriteAnswer.the-variants.{Bytes, Refused}
 use Rattle.message.specs.Valid.{isMoment}
-use Rattle.message.specs.FileLaws.{messageBytes}
+use Rattle.message.specs.Messages.{messageBytes}
 use Rattle.message.specs.Calls.{accepted, unless, over, afterwards, kindNumbered, writeSays}
 use Rattle.writer.specs.WriterRows.{isRows, rowsMessage}
 use Rattle.writer.specs.WriteCalls.{fitting, writeVerdict, WriteCalled}

@@ -9,7 +9,7 @@ use Rattle.moments.specs.Ids.{isTransactionId}
 use Rattle.kinds.specs.declared.Kind.{Kind}
 use Rattle.message.specs.declared.WriteAnswer.the-variants.{Bytes, Refused}
 use Rattle.message.specs.Valid.{isMoment}
-use Rattle.message.specs.FileLaws.{messageBytes}
+use Rattle.message.specs.Messages.{messageBytes}
 use Rattle.message.specs.Calls.{over, kindNumber}
 use Rattle.message.specs.CallsLaws.{kind-numbered}
 use Rattle.writer.specs.WriterRows.{isRows, rowsMessage}

@@ -16,7 +16,7 @@ use Rattle.message.specs.ObservationForm.{observed, isPeriod, to-period}
 use Rattle.message.specs.Keys.{numberKeys, pairKeys}
 use Rattle.message.specs.Group.{group, first-group}
 use Rattle.message.specs.Rows.{rowsFrom, rowsIn, inSixes, seriesOf, partnerOf, partnersOf, contents}
-use Rattle.message.specs.FileLaws.{messageBytes}
+use Rattle.message.specs.Messages.{messageBytes}
 use Rattle.writer.specs.WriterOrder.{every, ordered}
 use Rattle.writer.specs.WriterRows.{isObservation, isPair, isNumber, isRow, rowBefore, ofMonth, isRows, rowsMessage, rowAt, Paired}
 use Rattle.writer.specs.WriterRuns.{PartnerRun, PairRun}

@@ -23,7 +23,7 @@ ghost use lib.ListN.{length};
 ghost use Rattle.moments.specs.Ids.{isTransactionId};
 ghost use Rattle.message.specs.Valid.{isMoment};
 ghost use Rattle.message.specs.Bytes.{observationBytes, seriesBytes, partnerBytes};
-ghost use Rattle.message.specs.FileLaws.{messageBytes};
+ghost use Rattle.message.specs.Messages.{messageBytes};
 ghost use Rattle.message.specs.Calls.{kindNumber};
 ghost use Rattle.writer.specs.WriterRows.{isRows, rowsMessage};
 ghost use Rattle.writer.specs.WriteCalls.{WriteCalled};

@@ -3,7 +3,7 @@ use native.Mathlib.Omega.{arith}
 use lib.ListN.{replicate, length-replicate}
 use borrow.Author.Needs.{needs}
 use Rattle.book.specs.Book.{bookOf}
-use Rattle.filing.specs.VolumesLaws.{volumes-most, volumes-stand}
+use Rattle.series.specs.VolumesLaws.{volumes-most, volumes-stand}
 use Rattle.filing.proofs.file.fill_file.Statement.{statement}
 use Rattle.filing.proofs.file.fill_file.Tie as tie
 

@@ -3,10 +3,10 @@ use mathlib.Core.Path.{_≡_, refl, ap, _∙_}
 use Prim.Native.Nat.{_≤_}
 use Rattle.book.specs.Book.{bookOf}
 use Rattle.volumes.specs.Quarters.{monthQuarters}
-use Rattle.volumes.specs.SeriesLaws.{seriesOf}
+use Rattle.volumes.specs.Series.{seriesOf}
 use Rattle.reports.specs.FileRows.{observationsOf}
-use Rattle.filing.specs.SeriesSumsWritten.{observationsIn}
-use Rattle.filing.specs.SeriesSumsWrittenLaws.{observations-are, Dated, dated}
+use Rattle.filing.specs.Observations.{observationsIn}
+use Rattle.filing.specs.ObservationsLaws.{observations-are, Dated, dated}
 use Rattle.filing.specs.PartnerRowsLaws.{filled-is, positions-few, series-rows-are}
 use native.Mathlib.Omega.{arith}
 use borrow.Author.Needs.{needs}

@@ -3,7 +3,7 @@ use mathlib.Core.Path.{_≡_}
 use Prim.Native.Nat.{_-_, _≤_}
 use borrow.Author.Needs.{needs}
 use native.Mathlib.Omega.{arith}
-use Rattle.filing.specs.SeriesSumsWritten.{observationsIn}
+use Rattle.filing.specs.Observations.{observationsIn}
 use Rattle.filing.specs.PartnerRows.{rowsBy, Filled}
 use Rattle.filing.specs.PartnerRowsLaws.{filled-is, filled-none, filled-then, filled-length, positions-none, positions-more, positions-few}
 use Rattle.filing.proofs.filling.push_watts.Statement.{statement}

@@ -11,8 +11,8 @@ use Rattle.message.specs.Bytes.{partnerBytes}
 use Rattle.message.specs.Rows.{rowsFrom}
 use Rattle.emitter.specs.Laid.{laid-is}
 use Rattle.writer.specs.WriterContents.{partnersIn}
-use Rattle.filing.specs.SeriesSumsLaws.{parts-of}
-use Rattle.filing.specs.SeriesSumsWrittenLaws.{period-of, Dated, dated}
+use Rattle.series.specs.SumsLaws.{parts-of}
+use Rattle.filing.specs.ObservationsLaws.{period-of, Dated, dated}
 use Rattle.reports.specs.RegisteredLaws.{registered}
 use Rattle.filing.specs.PartnerRows.{partnerRowsOf}
 use Rattle.filing.specs.PartnerRowsLaws.{filled-stand, filled-length, partner-writable, partner-bytes, partner-count}

@@ -3,7 +3,7 @@ use mathlib.Core.Path.{sym, ap, _∙_}
 use Prim.Native.Nat.{_/_}
 use lib.ListN.{length}
 use borrow.Author.Needs.{needs}
-use Rattle.message.specs.FileLaws.{messageBytes}
+use Rattle.message.specs.Messages.{messageBytes}
 use Rattle.writer.specs.WriterContentsLaws.{partners-count, message-parts, rows-writable}
 use Rattle.writer.specs.WriterRows.{rowsMessage}
 use Rattle.writer.specs.WriterContents.{partnersIn}

@@ -1,0 +1,53 @@
+-- With its own engagements the book is the one that the bytes say, so their volumes are its volumes.
+use mathlib.Core.Path.{_≡_, ap, _∙_}
+use mathlib.Core.List.{List}
+use mathlib.Core.Option.{none}
+use Prim.Native.Nat.{ℕ}
+use lib.Seq.{sets}
+use Rattle.book.specs.Book.{Book}
+use Rattle.book.specs.Judged.{refusalOf}
+use Rattle.volumes.specs.SettlementLaws.{passing}
+use Rattle.settlement.specs.Sections.{bookWith}
+use Rattle.settlement.specs.SectionsLaws.{bytes-long, same-book, opened, count-book, own-settled}
+use borrow.Author.Needs.{needs}
+use Rattle.series.specs.Volumes.{bookVolumes}
+use Rattle.series.proofs.delivered.fill_volumes.Statement.{statement}
+use Rattle.series.proofs.delivered.fill_volumes.Tie as tie
+
+-- the book passes refusals 1 to 7
+passed : (c : tie.Start) → refusalOf (c .args .book .now) ≡ none
+passed c = passing (c .args .book .now) (c .pre .0) .passed
+
+section-requires : tie.Need-section-requires
+section-requires c κs = (passed (c .before .before), search needs)
+
+calendar-of-requires : tie.Need-calendar-of-requires
+calendar-of-requires c κs = bytes-long (c .before .before .before .args .book .now) (passed (c .before .before .before))
+
+fill-engagements-requires : tie.Need-fill-engagements-requires
+fill-engagements-requires c κs =
+    let s = c .before .before .before .before .before in
+    let bytes = s .args .book .now in
+    let e = c .before .before .section .ensures in
+    (rw e (opened bytes (passed s)), c .before .calendar-of .ensures, rw e (own-settled bytes (s .pre .0)), rw (e, count-book bytes (passed s)) (s .pre .1))
+
+same-length : tie.Need-same-length
+same-length c = search needs
+
+returns : tie.Need-returns
+returns c =
+    let s = c .before .before .before .before .before .before .before .before in
+    let bytes = s .args .book .now in
+    c .before .before .fill-engagements .ensures
+    ∙ ap (λ (l : List ℕ). sets (s .args .volumes .now) 0 (bookVolumes (bookWith bytes l))) (c .before .before .before .before .before .section .ensures)
+    ∙ ap (λ (b : Book). sets (s .args .volumes .now) 0 (bookVolumes b)) (same-book bytes (passed s))
+
+pub fill-volumes-spec : {M : Type 1} → statement M
+fill-volumes-spec =
+    tie.close
+    (tie.spec
+    section-requires
+    calendar-of-requires
+    fill-engagements-requires
+    same-length
+    returns)

@@ -1,0 +1,23 @@
+-- Its point and its direction are the series'.
+use mathlib.Core.Path.{ap, ap₂, _∙_}
+use mathlib.Core.Bool.{_&&_}
+use borrow.Author.Needs.{needs}
+use Rattle.volumes.specs.Series.{isPoint, isEngagement, seriesOf}
+use Rattle.series.proofs.sums.is_engagement.Statement.{statement}
+use Rattle.series.proofs.sums.is_engagement.Tie as tie
+
+is-point-requires : tie.Need-is-point-requires
+is-point-requires c κs = search needs
+
+same-direction-requires : tie.Need-same-direction-requires
+same-direction-requires c κs = search needs
+
+returns : tie.Need-returns
+unfolding isEngagement
+returns c = λ b own.
+    let a = c .before .before .args in
+    let s = seriesOf (a .partner) (a .supply) (a .delivery) in
+    ap₂ _&&_ (c .before .is-point .ensures (a .delivery) ∙ ap (isPoint (a .kind) (a .receiver) s) own) (c .same-direction .ensures)
+
+pub is-engagement-spec : {M : Type 1} → statement M
+is-engagement-spec = tie.close (tie.spec is-point-requires same-direction-requires returns)

@@ -1,0 +1,4 @@
+pub mod Volumes
+pub mod VolumesLaws
+pub mod Sums
+pub mod SumsLaws
