@@ -3,7 +3,7 @@ use mathlib.Core.Path.{_≡_, refl, sym, ap, _∙_}
 use mathlib.Core.Logic.{⊎-elim}
 use mathlib.Core.Bool.{Bool, true, false, cond, false≢true}
 use mathlib.Core.List.{List, [], _∷_, _++_, map, List·Memᴰ, List·Memᴰ·head, List·Memᴰ·tail, List·Memᴰ·not-nil, List·Memᴰ·cases-cons}
-use Prim.Native.Nat.{ℕ, suc, _≤_, _<_}
+use Prim.Native.Nat.{ℕ, suc, _≤_}
 use native.Mathlib.Omega.{arith}
 use lib.Dec.{leb}
 use lib.ListN.{length}
@@ -91,13 +91,3 @@ pub not-some : {A : Type 0} (l : List A) → isSome l ≡ false → l ≡ []
 unfolding isSome
 not-some [] e = refl
 not-some (a ∷ l) e = absurd (false≢true (sym e))
-
-pub length-none : {A : Type 0} (l : List A) → length l ≡ 0 → isSome l ≡ false
-unfolding isSome
-length-none [] e = refl
-length-none (a ∷ l) e = absurd (omega arith)
-
-pub length-some : {A : Type 0} (l : List A) → 0 < length l → isSome l ≡ true
-unfolding isSome
-length-some [] h = absurd (omega arith)
-length-some (a ∷ l) h = refl

@@ -25,7 +25,7 @@ use Rattle.volumes.specs.SheetsLaws.{balance, sheet-length}
 use Rattle.volumes.specs.Series.{Kind, Toe01, Toe02}
 use Rattle.volumes.specs.Sound.{Sound}
 use Rattle.volumes.specs.SoundLaws.{sound}
-use Rattle.volumes.specs.BookLaws.{getD-map-range}
+use Rattle.integers.specs.Ranges.{getD-map-range}
 use Rattle.message.specs.Rows.{Row}
 use Rattle.message.specs.Messages.{readMessage}
 use Rattle.message.specs.Calls.{kindNumbered, kindNumber}

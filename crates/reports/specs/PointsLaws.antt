@@ -24,7 +24,7 @@ use Rattle.volumes.specs.Baseline.{noPoint, pointOf}
 use Rattle.volumes.specs.Settlement.{delivered}
 use Rattle.volumes.specs.Sheets.{covers, quarterAt}
 use Rattle.volumes.specs.Series.{Kind, takes, receiverOf, partnerOf, Series, sameSupply, sameDirection, isPoint, isEngagement, grainsOf, grainsAt, seriesWatts}
-use Rattle.settlement.specs.EngagedLaws.{getD-mem}
+use Rattle.integers.specs.Ranges.{getD-mem}
 use Rattle.reports.specs.FileRows.{isTaken, partnerNumbers}
 
 -- a sum that isn't 0 has a term that isn't

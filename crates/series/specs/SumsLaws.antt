@@ -10,7 +10,7 @@ use lib.Dec.{leb, ltb}
 use lib.ListN.{length, getD, take, drop, set, length-append, length-take, length-drop, length-map, length-set}
 use lib.Seq.{take-all, take-suc, drop-cons, drop-at, getD-at, getD-take, getD-set-other}
 use borrow.Author.Tests.{leb-true, ltb-true, ltb-false, le-leb, lt-ltb, le-ltb}
-use Rattle.integers.specs.Ranges.{range, length-range, range-more}
+use Rattle.integers.specs.Ranges.{range, length-range, range-more, getD-made, getD-mem}
 use Rattle.integers.specs.Running.{upTo, floorAt, floorAt-cong}
 use Rattle.integers.specs.Z.{inside}
 use Rattle.integers.specs.Sums.{naturals, sumBy, sumOf, sum-append}
@@ -37,7 +37,7 @@ use Rattle.volumes.specs.SoundLaws.{sound}
 use Rattle.volumes.specs.WidthsLaws.{most, delivered-most}
 use Rattle.settlement.specs.Sections.{engagementCountIn, engagementsIn, rowCountIn}
 use Rattle.settlement.specs.SectionsLaws.{rows-counted, same-book, opened}
-use Rattle.settlement.specs.EngagedLaws.{getD-made, getD-mem, engaged}
+use Rattle.settlement.specs.EngagedLaws.{engaged}
 use Rattle.settlement.specs.PartsLaws.{rowCountTo, count-more, count-most}
 use Rattle.baseline.specs.BasesLaws.{next-cell}
 use Rattle.series.specs.Sums.{byPosition, cellAt, grainsTo, added, Addable, Parts, DeliveredIn}

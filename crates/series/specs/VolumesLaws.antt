@@ -12,7 +12,7 @@ use lib.ListN.{length, getD, take, drop, set, length-map, List·getD-append}
 use lib.Seq.{sets, sets-eq, split-at, getD-append-add, take-at}
 use mir.Syntax.{w64}
 use mir.Val.{Fits, SFits}
-use Rattle.integers.specs.Ranges.{range, length-range, range-more}
+use Rattle.integers.specs.Ranges.{range, length-range, range-more, getD-made}
 use Rattle.integers.specs.Sums.{sumOf}
 use Rattle.integers.specs.Z.{up, dn, inside}
 use Rattle.book.specs.declared.Engagement.{Engagement}
@@ -24,7 +24,6 @@ use Rattle.volumes.specs.SettlementLaws.{row-length, rowsOf-length, passing}
 use Rattle.volumes.specs.SoundLaws.{sound}
 use Rattle.volumes.specs.RunningLaws.{rows-few}
 use Rattle.settlement.specs.Sections.{engagementCountIn, bookWith}
-use Rattle.settlement.specs.EngagedLaws.{getD-made}
 use Rattle.settlement.specs.StoresLaws.{sets-append}
 use Rattle.settlement.specs.PartsLaws.{partsTo, parts-all, parts-length}
 use Rattle.series.specs.Volumes.{volumesOf, bookVolumes, volumeIn}

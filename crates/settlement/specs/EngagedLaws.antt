@@ -1,15 +1,15 @@
 -- Each engagement of an opened book can be judged and settled from the sections of its bytes.
 use mathlib.Core.Path.{_≡_, refl, ap, _∙_}
 use mathlib.Core.Bool.{Bool, true, false}
-use mathlib.Core.List.{List, [], _∷_, map, List·Memᴰ, List·Memᴰ·head, List·Memᴰ·tail}
+use mathlib.Core.List.{List, List·Memᴰ}
 use mathlib.Core.Option.{none}
-use Prim.Native.Nat.{ℕ, zero, suc, _+_, _*_, _≤_, _<_}
+use Prim.Native.Nat.{ℕ, suc, _+_, _*_, _≤_, _<_}
 use native.Mathlib.Nat.{mul-le-mul-left, mul-assoc, mul-suc}
 use native.Mathlib.Omega.{arith}
 use lib.Dec.{ltb}
 use lib.ListN.{length, getD, length-map, List·getD-eq-default}
 use borrow.Author.Tests.{ltb-true, ltb-false}
-use Rattle.integers.specs.Ranges.{range, length-range}
+use Rattle.integers.specs.Ranges.{length-range, getD-made, getD-mem}
 use Rattle.book.specs.declared.Calendar.{Calendar}
 use Rattle.book.specs.declared.Engagement.{Engagement}
 use Rattle.book.specs.Calendars.{quartersOf}
@@ -27,21 +27,6 @@ use Rattle.volumes.specs.SettlementLaws.{refusalAt, refusal-next, refusal-end}
 use Rattle.baseline.specs.Shown.{Shows, Fits}
 use Rattle.settlement.specs.Sections.{engagementCountIn, engagementsIn, bookWith, Opened}
 use Rattle.settlement.specs.SectionsLaws.{all-held}
-
--- the i-th of the values of a function at numbers in a row; an element is a member
-made-from : {A : Type 0} (f : ℕ → A) (a n i : ℕ) (d : A) → i < n → getD (map f (range a n)) i d ≡ f (a + i)
-unfolding range
-made-from f a zero i d h = absurd (omega arith)
-made-from f a (suc n) zero d h = let e : a + 0 ≡ a = omega arith in rw e
-made-from f a (suc n) (suc i) d h = let e : a + suc i ≡ suc a + i = omega arith in rw e (made-from f (suc a) n i d (omega arith))
-
-pub getD-made : {A : Type 0} (f : ℕ → A) (n i : ℕ) (d : A) → i < n → getD (map f (range 0 n)) i d ≡ f i
-getD-made f n i d h = let e : 0 + i ≡ i = omega arith in made-from f 0 n i d h ∙ ap f e
-
-pub getD-mem : {A : Type 0} (l : List A) (i : ℕ) (d : A) → i < length l → List·Memᴰ (getD l i d) l
-getD-mem [] i d h = absurd (omega arith)
-getD-mem (a ∷ l) zero d h = List·Memᴰ·head refl
-getD-mem (a ∷ l) (suc i) d h = List·Memᴰ·tail (getD-mem l i d (omega arith))
 
 -- a calendar and sections that show engagement e of a book: all that judging and settling it ask
 pub record Engaged (c : Calendar) (calendar pairs register readings : List ℕ) (e : Engagement) (book : Book) : Type 0 where

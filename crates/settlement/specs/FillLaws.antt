@@ -4,6 +4,7 @@ use mathlib.Core.Bool.{true}
 use mathlib.Core.List.{List, map}
 use Prim.Native.Nat.{ℕ, _+_, _*_}
 use native.Mathlib.Omega.{arith}
+use Rattle.integers.specs.Tests.{both}
 use Rattle.integers.specs.Ranges.{range}
 use Rattle.wire.specs.Readings.{readingAt}
 use Rattle.book.specs.declared.Calendar.{Calendar}
@@ -20,7 +21,6 @@ use Rattle.volumes.specs.QuartersLaws.{map-range-cong}
 use Rattle.baseline.specs.ShownLaws.{start-at}
 use Rattle.baseline.specs.Filled.{Unrefused, Filled}
 use Rattle.settlement.specs.Rows.{readingsFrom, rowsFrom}
-use Rattle.settlement.specs.RaisedLaws.{both}
 use Rattle.settlement.specs.RowsLaws.{rows-from}
 
 module _ {c : Calendar} {calendar readings : List ℕ} {point : Point} {e : Engagement} {x y : ℕ} {book : Book} (s : Unrefused c calendar readings point e x y book) where

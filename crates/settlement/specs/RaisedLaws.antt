@@ -1,13 +1,14 @@
 -- What raised numbers stand for, as equations and in ℕ: their differences need no sign.
 use mathlib.Core.Path.{_≡_, refl, sym, ap, _∙_}
 use mathlib.Core.Logic.{⊎-elim}
-use mathlib.Core.Bool.{Bool, true, false, _&&_}
+use mathlib.Core.Bool.{Bool, true, false}
 use mathlib.Core.List.{List, map}
 use Prim.Native.Nat.{ℕ, zero, suc, _+_, _-_, _*_, _≤_, _<_}
 use native.Mathlib.Nat.{eq-or-lt-of-le}
 use native.Mathlib.Omega.{arith}
 use lib.Dec.{eqb}
 use lib.IntN.{ℤ, pos, negsuc, negℤ, _-ℤ_}
+use Rattle.integers.specs.Tests.{both}
 use Rattle.integers.specs.Ranges.{range}
 use Rattle.integers.specs.Z.{up, Over, over-sub, is-sub, mul, neg, dif}
 use Rattle.wire.specs.declared.Reading.{Reading}
@@ -73,10 +74,6 @@ raised-watts {xs} {i} {r} h k =
     ap wattsOf (h .is) ∙ sym (is-watts (raised-over (wattsAt xs i) (h .range))) ∙ sym (known-watts (wattsAt xs i) k)
 
 -- of readings none of which is missing, one
-pub both : (t u : Bool) → (t && u) ≡ true → (t ≡ true) × (u ≡ true)
-both true u h = (refl, h)
-both false u h = let z : _≡_ {A = ℕ} 0 1 = cc in absurd (omega arith)
-
 pub known-at : (f : ℕ → Reading) (a n i : ℕ) → complete (map f (range a n)) ≡ true → a ≤ i → i < a + n → known (f i) ≡ true
 unfolding range complete
 known-at f a zero i h p q = absurd (omega arith)

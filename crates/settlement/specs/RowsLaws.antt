@@ -7,6 +7,7 @@ use native.Mathlib.Nat.{add-assoc}
 use native.Mathlib.Omega.{arith}
 use lib.IntN.{ℤ, pos, negsuc, negℤ, _-ℤ_}
 use lib.ListN.{length, getD}
+use Rattle.integers.specs.Tests.{both}
 use Rattle.integers.specs.Ranges.{range}
 use Rattle.integers.specs.Z.{up, Over, eqZ, neg, dif}
 use Rattle.wire.specs.Readings.{readingAt}
@@ -25,7 +26,7 @@ use Rattle.volumes.specs.BaselineLaws.{complete-append}
 use Rattle.volumes.specs.Settlement.{neededBy, needed, requestedAt, limited, deliveredBy, delivered, signed, sourceCorrection, fspCorrection, corrections, rowWidth, row, rowsOf}
 use Rattle.volumes.specs.SettlementLaws.{Settles}
 use Rattle.settlement.specs.Raised.{bias}
-use Rattle.settlement.specs.RaisedLaws.{is-base, both}
+use Rattle.settlement.specs.RaisedLaws.{is-base}
 use Rattle.settlement.specs.Rows.{rowFrom, firstReading, readingsFrom, rowAt, rowsFrom, largest}
 use Rattle.settlement.specs.StoresLaws.{flatMap-range-cong}
 

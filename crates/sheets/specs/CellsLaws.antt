@@ -9,8 +9,7 @@ use lib.IntN.{ℤ, pos, _+ℤ_, +ℤ-idr}
 use lib.ListN.{length, getD, set, replicate, length-set, length-map, List·getD-append}
 use lib.Seq.{set-append-left, ext-getD}
 use borrow.Author.Tests.{ltb-true, ltb-false}
-use Rattle.integers.specs.Ranges.{range, length-range, range-shift}
-use Rattle.settlement.specs.EngagedLaws.{getD-made}
+use Rattle.integers.specs.Ranges.{range, length-range, range-shift, getD-made}
 use Rattle.sheets.specs.Adds.{addAt, adds}
 use Rattle.sheets.specs.AddsLaws.{length-adds, adds-before, adds-behind, adds-within}
 

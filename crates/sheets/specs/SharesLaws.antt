@@ -10,11 +10,10 @@ use lib.ListN.{length, getD, length-map}
 use mir.Syntax.{w64}
 use mir.Val.{SFits}
 use borrow.Author.Needs.{needs}
-use Rattle.integers.specs.Ranges.{range, length-range}
+use Rattle.integers.specs.Ranges.{range, length-range, getD-made}
 use Rattle.integers.specs.Sums.{sumBy}
 use Rattle.book.specs.declared.Point.{Point}
 use Rattle.volumes.specs.Sheets.{partiesOf, shareOf}
-use Rattle.settlement.specs.EngagedLaws.{getD-made}
 use Rattle.sheets.specs.Adds.{adds, Addable}
 use Rattle.sheets.specs.AddsLaws.{adds-next, adds-behind}
 use Rattle.sheets.specs.Shares.{gets, sourceIn, fspIn, getsOf}

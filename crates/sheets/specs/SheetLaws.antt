@@ -8,7 +8,7 @@ use native.Mathlib.Omega.{arith}
 use lib.IntN.{ℤ, pos, _+ℤ_, +ℤ-idr}
 use lib.ListN.{length, getD, take, drop, replicate, take-append-drop, length-append, length-take, length-map, List·getD-append}
 use lib.Seq.{take-all, take-suc}
-use Rattle.integers.specs.Ranges.{range, length-range}
+use Rattle.integers.specs.Ranges.{range, length-range, getD-made}
 use Rattle.integers.specs.Sums.{integers, sumBy, sumZ, sum-append}
 use Rattle.book.specs.declared.Calendar.{Calendar}
 use Rattle.book.specs.declared.Engagement.{Engagement}
@@ -19,7 +19,6 @@ use Rattle.volumes.specs.Sheets.{startPosition, covers, correctionAt, sheetAt, 
 use Rattle.volumes.specs.SheetsLaws.{covers-before, covers-after}
 use Rattle.volumes.specs.Sound.{Placed, Sound}
 use Rattle.volumes.specs.WidthsLaws.{sheet-part-fits}
-use Rattle.settlement.specs.EngagedLaws.{getD-made}
 use Rattle.sheets.specs.Adds.{adds, Addable}
 use Rattle.sheets.specs.Shares.{correctionsFor, firstCell}
 use Rattle.sheets.specs.CellsLaws.{cells-length, cell, cells-zero, adds-cells}

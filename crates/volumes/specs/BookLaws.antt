@@ -1,23 +1,16 @@
 -- The points and engagements of a book, as its sections have them.
 use mathlib.Core.Path.{_≡_, ap, _∙_}
-use mathlib.Core.List.{List, map}
-use Prim.Native.Nat.{ℕ, zero, suc, _+_, _<_}
+use mathlib.Core.List.{List}
+use Prim.Native.Nat.{ℕ, _<_}
 use native.Mathlib.Nat.{zero-add}
-use native.Mathlib.Omega.{arith}
 use lib.ListN.{length, getD, length-map}
-use Rattle.integers.specs.Ranges.{range, length-range}
+use Rattle.integers.specs.Ranges.{range, length-range, getD-map-range}
 use Rattle.book.specs.declared.Engagement.{Engagement}
 use Rattle.book.specs.Header.{pointCount, engagementCount, registerSection, engagementSection}
 use Rattle.book.specs.Register.{pointAt}
 use Rattle.book.specs.Engagements.{engagementAt}
 use Rattle.book.specs.Book.{bookOf}
 use Rattle.volumes.specs.Baseline.{noPoint, pointOf}
-
-pub getD-map-range : {A : Type 0} (f : ℕ → A) (a n i : ℕ) (z : A) → i < n → getD (map f (range a n)) i z ≡ f (a + i)
-unfolding range
-getD-map-range f a zero i z h = absurd (omega arith)
-getD-map-range f a (suc n) zero z h = ap f (omega arith)
-getD-map-range f a (suc n) (suc i) z h = getD-map-range f (suc a) n i z (omega arith) ∙ ap f (omega arith)
 
 module _ (bytes : List ℕ) where
   pub points-length : length (bookOf bytes .points) ≡ pointCount bytes

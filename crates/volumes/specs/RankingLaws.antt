@@ -9,6 +9,7 @@ use native.Mathlib.Omega.{arith}
 use lib.IntN.{ℤ}
 use lib.ListN.{length, take, drop, getD, take-append-drop}
 use lib.Signed.{leZ}
+use Rattle.integers.specs.Ranges.{getD-mem}
 use Rattle.integers.specs.Z.{le-yes, le-no}
 use Rattle.volumes.specs.Order.{Le, le-refl, le-trans, le-of-no}
 use Rattle.volumes.specs.Ranking.{insert, ranked}
@@ -111,11 +112,6 @@ le-all a b c p q r = omega (arith, le-yes a b p, le-yes b c q, le-no a c r)
 le-none : (a b c : ℤ) → leZ a b ≡ false → leZ b c ≡ false → leZ a c ≡ true → ⊥
 le-none a b c p q r = omega (arith, le-no a b p, le-no b c q, le-yes a c r)
 
-pub getD-mem {ℓ} : {A : Type ℓ} (z : A) (l : List A) (i : ℕ) → i < length l → List·Memᴰ (getD l i z) l
-getD-mem z [] i h = absurd (omega arith)
-getD-mem z (b ∷ l) zero h = List·Memᴰ·head refl
-getD-mem z (b ∷ l) (suc i) h = List·Memᴰ·tail (getD-mem z l i (omega arith))
-
 module _ {ℓ} {A : Type ℓ} (key : A → ℤ) where
   -- c comes in front of its equals, a behind its own: in either order
   insert-swap : (c a : A) (l : List A) → insert key c (insertLast key a l) ≡ insertLast key a (insert key c l)
@@ -153,6 +149,6 @@ module _ {ℓ} {A : Type ℓ} (key : A → ℤ) where
   pub falling-at : (z : A) (l : List A) → Falling key l → (i j : ℕ) → i ≤ j → j < length l → Le (key (getD l j z)) (key (getD l i z))
   falling-at z [] r i j h k = absurd (omega arith)
   falling-at z (b ∷ l) r zero zero h k = le-refl (key b)
-  falling-at z (b ∷ l) (next f r) zero (suc j) h k = f (getD l j z) (getD-mem z l j (omega arith))
+  falling-at z (b ∷ l) (next f r) zero (suc j) h k = f (getD l j z) (getD-mem l j z (omega arith))
   falling-at z (b ∷ l) r (suc i) zero h k = absurd (omega arith)
   falling-at z (b ∷ l) (next f r) (suc i) (suc j) h k = falling-at z l r i j (omega arith) (omega arith)

@@ -96,11 +96,7 @@ pub rows-length : (book : Book) → length (rows book) ≡ rowWidth * rowCount b
 unfolding rows rowCount
 rows-length book = rows-length-of book (book .engagements)
 
--- the rows of the first i engagements and one more, and of the first k quarter-hours of an engagement and one more
-pub rows-next : (book : Book) (es : List Engagement) (i : ℕ) (e : Engagement) → i < length es → flatMap (rowsOf book) (take (suc i) es) ≡ flatMap (rowsOf book) (take i es) ++ rowsOf book (getD es i e)
-unfolding flatMap
-rows-next book es i e h = ap (flatMap (rowsOf book)) (take-suc es i e h) ∙ flatMap-append (rowsOf book) (take i es) (getD es i e ∷ []) ∙ ap (λ l. flatMap (rowsOf book) (take i es) ++ l) (append-nil (rowsOf book (getD es i e)))
-
+-- the rows that the first i engagements count and one more, and those of the first k quarter-hours of an engagement and one more
 pub count-next : (es : List Engagement) (i : ℕ) (e : Engagement) → i < length es → sumOf (λ e. e .count) (take (suc i) es) ≡ sumOf (λ e. e .count) (take i es) + getD es i e .count
 unfolding sumBy
 count-next es i e h = ap (sumOf (λ e. e .count)) (take-suc es i e h) ∙ sum-append naturals (λ e. e .count) (take i es) (getD es i e ∷ []) ∙ omega arith
