@@ -2,7 +2,8 @@
 """Prints what has to be believed: every definition that the contract of a call or of the program, or a theorem, reaches.
 
 Run it at the top of the repository: docs/believe.py > docs/BELIEVE.md. A definition is reached if its name stands in the contract, or in the
-text of a definition that is reached. Laws and proofs are the prover's business and are not followed.
+text of a definition that is reached. Laws and proofs are the prover's business and are not followed. Types that the code declares (structs and enums
+in src/) and what the prover's own libraries define are not listed.
 """
 import re
 from pathlib import Path
@@ -138,7 +139,7 @@ def main():
     order = [line.split(":")[0] for line in Path("crates.txt").read_text().split("\n") if ":" in line and not line.startswith("#")]
     print("# What has to be believed\n")
     print("Every definition that the contract of a call or of the program, or a theorem, reaches; `docs/believe.py` prints this page. All else is")
-    print(f"proved about these. {len(found)} definitions.")
+    print(f"proved about these, and about the structs and enums that src/ declares, which are not listed here. {len(found)} definitions.")
     for crate in order:
         mine = sorted((all_modules[key[:2]].path, all_modules[key[:2]].definitions[key[2]]["line"], key[2]) for key in found if key[0] == crate)
         if not mine:
