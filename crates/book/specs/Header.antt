@@ -6,7 +6,6 @@ use lib.Dec.{eqb, leb}
 use lib.ListN.{length, take, drop}
 use Rattle.wire.specs.Numbers.{numberAt}
 use Rattle.book.specs.declared.Calendar.{Calendar}
-use Rattle.book.specs.declared.header.Places.{Places}
 use Rattle.book.specs.Calendars.{daysOf, quartersOf}
 
 -- "Header: version u16 = 1; year u16 ..; month u8; lead days L u8 ..; points P u16 ..; engagements E u16 ..; six zero bytes."
@@ -75,17 +74,6 @@ adjoining book k at (n ∷ ns) = isPair book k at n && adjoining book (suc k) (a
 -- "The first section starts at 56, each next where the last ended, the last ends with the book."
 unfoldable pub layoutGood : List ℕ → Bool
 layoutGood book = adjoining book 0 56 (sizes (calendarOf book) (pointCount book) (engagementCount book))
-
--- where these sections start, and where the last ends
-abbrev pub placesOf : Calendar → ℕ → ℕ → Places
-placesOf c points rows =
-    record {
-      pairs = 56 + daysOf c;
-      register = 56 + daysOf c + 8;
-      readings = 56 + daysOf c + 8 + pointWidth * points;
-      engagements = 56 + daysOf c + 8 + pointWidth * points + 4 * quartersOf c * points;
-      end = 56 + daysOf c + 8 + pointWidth * points + 4 * quartersOf c * points + engagementWidth * rows;
-    }
 
 -- "Each section is a part of the book and is read as such."
 abbrev pub sectionOf : List ℕ → ℕ → List ℕ

@@ -1,11 +1,11 @@
 -- Refusals 1 to 7 of a book's bytes, in the order of document 01, "What is sent back".
 use mathlib.Core.Bool.{Bool, not, _&&_}
 use mathlib.Core.List.{List}
-use mathlib.Core.Option.{Option, none, some}
+use mathlib.Core.Option.{Option, none}
 use Prim.Native.Nat.{ℕ}
 use Rattle.calendar.specs.Dates.{hasClockChange}
 use Rattle.integers.specs.First.{first}
-use Rattle.book.specs.Refusals.{Refusal, refused, unless, unlessFound}
+use Rattle.book.specs.Refusals.{Refusal, unless, unlessFound}
 use Rattle.book.specs.declared.Calendar.{Calendar}
 use Rattle.book.specs.Calendars.{daysOf}
 use Rattle.book.specs.Header.{calendarOf, pointCount, engagementCount, headerGood, layoutGood, calendarSection, pairSection, registerSection, readingSection, engagementSection}
@@ -13,10 +13,6 @@ use Rattle.book.specs.Tables.{calendarGood, pairsGood}
 use Rattle.book.specs.Register.{badPoint}
 use Rattle.book.specs.Metering.{firstBadReading}
 use Rattle.book.specs.Engagements.{badEngagement}
-use Rattle.book.specs.declared.Judged.{Judged}
-use Rattle.book.specs.declared.Judged.the-variants.{Passed, Header, Layout, ClockChange, Tables, Register, Readings, Engagements}
-use Rattle.book.specs.declared.Found.{Found}
-use Rattle.book.specs.declared.Found.the-variants.{At, Nothing}
 
 -- "a clock-change day in the calendar"
 abbrev pub clockChangeIn : Calendar → Bool
@@ -49,19 +45,3 @@ refusalOf book =
     (registerSection book)
     (readingSection book)
     (engagementSection book))))
-
--- the number and item of each answer of `judge_book`
-abbrev pub sentBack : Judged → Option Refusal
-sentBack Passed = none
-sentBack Header = refused 1 0
-sentBack Layout = refused 2 0
-sentBack ClockChange = refused 3 0
-sentBack Tables = refused 4 0
-sentBack (Register row) = refused 5 row
-sentBack (Readings point) = refused 6 point
-sentBack (Engagements row) = refused 7 row
-
--- what a search answers
-abbrev pub foundAt : Found → Option ℕ
-foundAt (At i) = some i
-foundAt Nothing = none

@@ -7,7 +7,6 @@ pub mod Tables
 pub mod Register
 pub mod RegisterLaws
 pub mod Metering
-pub mod MeteringLaws
 pub mod Engagements
 pub mod EngagementsLaws
 pub mod Book

@@ -1,9 +1,8 @@
 -- Document 01, "The book", section 4: the readings.
-use mathlib.Core.Bool.{Bool, true, not, _&&_, _||_}
+use mathlib.Core.Bool.{Bool, true, not, _&&_}
 use mathlib.Core.List.{List}
 use mathlib.Core.Option.{Option, none, some}
 use Prim.Native.Nat.{ℕ, _+_, _*_, _/_, _^_}
-use lib.Dec.{eqb, ltb}
 use lib.IntN.{pos, negℤ}
 use lib.Signed.{leZ}
 use Rattle.integers.specs.First.{first}
@@ -24,10 +23,6 @@ readingGood Missing = true
 
 abbrev pub badReading : List ℕ → ℕ → Bool
 badReading readings i = not (readingGood (readingAt readings i))
-
--- the same of a reading that is raised by 2^31, 0 being missing: `outside-is` of MeteringLaws
-abbrev pub isOutside : ℕ → Bool
-isOutside r = not (eqb r 0) && (ltb r 1147483648 || ltb 3147483648 r)
 
 abbrev pub pointOfReading : ℕ → Option ℕ → Option ℕ
 pointOfReading quarters none = none

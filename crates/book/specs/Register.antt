@@ -1,5 +1,5 @@
 -- Document 01, "The book", section 3: the register of delivery points.
-use mathlib.Core.Bool.{Bool, true, false, not, _&&_, _||_}
+use mathlib.Core.Bool.{Bool, false, not, _&&_, _||_}
 use mathlib.Core.List.{List}
 use Prim.Native.Nat.{ℕ, zero, suc, _/_, _%_, _^_}
 use lib.Dec.{eqb, leb, ltb}
@@ -30,12 +30,6 @@ takersOf (suc zero) = Individual
 takersOf (suc (suc zero)) = Neither
 takersOf (suc (suc (suc zero))) = Neither
 takersOf (suc (suc (suc (suc n)))) = Refused
-
-abbrev pub isKnown : Takers → Bool
-isKnown Aggregated = true
-isKnown Individual = true
-isKnown Neither = true
-isKnown Refused = false
 
 -- "supply direction (0 off-take, 1 injection)"
 abbrev pub supplyOf : ℕ → Supply

@@ -1,8 +1,6 @@
-// The month's book: its layout, its sections as parts of the book, and refusals 1 to 7.
+// The month's book: its layout, and its sections as parts of the book.
 pub mod engagements;
 pub mod header;
-pub mod judge;
-pub mod metering;
 pub mod register;
 pub mod sections;
 pub mod tables;
@@ -77,22 +75,4 @@ pub struct Engagement {
     pub direction: Direction,
     pub notice: u8,
     pub requested: u32,
-}
-
-// Where a search ended.
-pub enum Found {
-    At(usize),
-    Nothing,
-}
-
-// What judging a book finds, in the order in which it is tried.
-pub enum Judged {
-    Passed,
-    Header,
-    Layout,
-    ClockChange,
-    Tables,
-    Register(usize),
-    Readings(usize),
-    Engagements(usize),
 }

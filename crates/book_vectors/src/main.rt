@@ -1,6 +1,6 @@
 // Judges the book of each line of standard input, and prints `passed` or the refusal.
-use book::Judged;
 use cases::Loaded;
+use judging::Judged;
 
 fn answer(judged: Judged) {
     match judged {
@@ -21,7 +21,7 @@ fn run_case(line: &[u8], buffer: &mut [u8]) {
         cases::answers::no_case();
         return;
     };
-    answer(book::judge::judge_book(&buffer[..n]));
+    answer(judging::judge::judge_book(&buffer[..n]));
 }
 
 fn run(text: &[u8], buffer: &mut [u8]) {

@@ -1,12 +1,12 @@
 // Refusals 1 to 9: those of the book, then by engagement.
 use baseline::judge::Lack;
 use book::Calendar;
-use book::Judged;
+use judging::Judged;
 ghost use mathlib.Core.Path.{_≡_};
 ghost use Prim.Native.Nat.{_<_};
 ghost use Rattle.book.specs.Header.{calendarOf};
 ghost use Rattle.book.specs.Engagements.{engagementAt};
-ghost use Rattle.book.specs.Judged.{sentBack};
+ghost use Rattle.judging.specs.JudgedInner.{sentBack};
 ghost use Rattle.volumes.specs.Settlement.{refusalNumber, settlementRefusal, bookRefusal};
 ghost use Rattle.baseline.specs.Needs.{numberOf};
 ghost use Rattle.settlement.specs.Sections.{engagementCountIn, bookWith, Opened};
@@ -73,7 +73,7 @@ pub fn judge_rows(c: Calendar, book: &[u8], engagements: &[u8]) -> Verdict
 pub fn judge_settlement(book: &[u8]) -> Verdict
     ensures { λ r. ⌜ refusalIn r ≡ bookRefusal (now (book .entry)) ⌝ }
 {
-    let verdict = verdict_of(book::judge::judge_book(book));
+    let verdict = verdict_of(judging::judge::judge_book(book));
     if let Verdict::Refused(number, item) = verdict {
         return Verdict::Refused(number, item);
     }

@@ -1,0 +1,2 @@
+pub mod JudgedInner
+pub mod HeaderInner
