@@ -4,8 +4,12 @@
 Run it at the top of the repository: docs/believe.py > docs/BELIEVE.md. A definition is reached if its name stands in the contract, or in the
 text of a definition that is reached. Laws and proofs are the prover's business and are not followed. Types that the code declares (structs and enums
 in src/) and what the prover's own libraries define are not listed.
+
+docs/believe.py --stray prints each definition that stands in the wrong file, and ends with 1 if there is one: files named ..Laws and ..Inner have
+nothing that is reached, and all other files nothing else. A form of a text has its proofs with it, so crate formats and files named ..Form are left out.
 """
 import re
+import sys
 from pathlib import Path
 
 # the calls, the program and the theorems, by file and function
@@ -133,9 +137,24 @@ def reached(all_modules):
     return seen
 
 
+def stray(all_modules, found):
+    """The definitions that their file's name puts on the wrong side."""
+    for (crate, name), module in all_modules.items():
+        if crate == "formats" or name.endswith("Form"):
+            continue
+        inner = name.endswith(("Laws", "Inner"))
+        for definition, known in module.definitions.items():
+            if known["kind"] != "law" and ((crate, name, definition) in found) == inner:
+                yield f"{module.path}:{known['line']}: {definition} is {'reached' if inner else 'not reached'}"
+
+
 def main():
     all_modules = modules()
     found = reached(all_modules)
+    if sys.argv[1:] == ["--stray"]:
+        lines = list(stray(all_modules, found))
+        print("\n".join(lines))
+        sys.exit(1 if lines else 0)
     order = [line.split(":")[0] for line in Path("crates.txt").read_text().split("\n") if ":" in line and not line.startswith("#")]
     print("# What has to be believed\n")
     print("Every definition that the contract of a call or of the program, or a theorem, reaches; `docs/believe.py` prints this page. All else is")
