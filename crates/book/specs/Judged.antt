@@ -5,7 +5,7 @@ use mathlib.Core.Option.{Option, none}
 use Prim.Native.Nat.{ℕ}
 use Rattle.calendar.specs.Dates.{hasClockChange}
 use Rattle.integers.specs.First.{first}
-use Rattle.book.specs.Refusals.{Refusal, unless, unlessFound}
+use Rattle.refusals.specs.Refusals.{Refusal, unless, unlessFound}
 use Rattle.book.specs.declared.Calendar.{Calendar}
 use Rattle.book.specs.Calendars.{daysOf}
 use Rattle.book.specs.Header.{calendarOf, pointCount, engagementCount, headerGood, layoutGood, calendarSection, pairSection, registerSection, readingSection, engagementSection}

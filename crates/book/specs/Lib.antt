@@ -1,4 +1,3 @@
-pub mod Refusals
 pub mod Calendars
 pub mod CalendarsLaws
 pub mod Header

@@ -5,7 +5,7 @@
 use calendar::dates;
 use libc::STDIN_FILENO;
 use libc::STDOUT_FILENO;
-use moments::Judged;
+use moments::MomentRead;
 use moments::ids;
 ghost use Prim.Native.Nat.{_≤_};
 ghost use Rattle.calendar.specs.Dates.{IsMonth};
@@ -86,11 +86,11 @@ fn print_months() {
 
 fn print_judged(line: &[u8]) {
     match moments::read_moment(line) {
-        Judged::Real(m) => {
+        MomentRead::Real(m) => {
             io::write_all(STDOUT_FILENO, b"moment");
             field(moments::instant(m));
         }
-        Judged::Malformed => {
+        MomentRead::Malformed => {
             io::write_all(STDOUT_FILENO, b"malformed");
         }
     }

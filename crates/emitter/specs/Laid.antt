@@ -13,7 +13,7 @@ use Rattle.text.specs.WrittenLaws.{written-nil, written-both, wrote-length}
 use Rattle.formats.specs.PlaceLaws.{no-at, same-at}
 use Rattle.formats.specs.declared.Mark.{Mark}
 use Rattle.formats.specs.declared.Mark.the-variants.{At, No}
-use Rattle.message.specs.Calls.{over}
+use Rattle.refusals.specs.Buffers.{over}
 
 -- the place n further on, in a list of that length
 unfoldable pub ahead : ℕ → Mark → ℕ → Mark

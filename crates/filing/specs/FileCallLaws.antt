@@ -1,33 +1,34 @@
 -- A file call is one of seven: refused as the book is, for its kind, its receiver, its ID or moment, its rows, its file, or filled.
 use mathlib.Core.Path.{_≡_, refl, ap, _∙_}
-use mathlib.Core.Bool.{Bool, true, false, cond, _&&_}
-use mathlib.Core.List.{List, _++_}
+use mathlib.Core.Bool.{true, false, _&&_}
+use mathlib.Core.List.{List}
 use mathlib.Core.Option.{Option, none, some}
 use Prim.Native.Nat.{ℕ, _*_, _≤_, _<_}
 use lib.Dec.{leb}
 use lib.IntN.{ℤ}
-use native.Mathlib.Nat.{zero-add}
 use native.Mathlib.Omega.{arith}
-use lib.ListN.{length, drop}
-use lib.Seq.{sets, sets-eq}
+use lib.ListN.{length}
+use lib.Seq.{sets}
 use borrow.Author.Tests.{leb-true, le-leb, lt-leb}
 use Rattle.formats.specs.declared.Mark.{Mark}
 use Rattle.formats.specs.declared.Mark.the-variants.{At, No}
 use Rattle.moments.specs.Ids.{isTransactionId}
-use Rattle.book.specs.Refusals.{Refusal, refused, unless}
+use Rattle.refusals.specs.Refusals.{Refusal, refused, unless, orElse, short}
 use Rattle.book.specs.Book.{Book, bookOf}
-use Rattle.volumes.specs.Settlement.{rowWidth, rows, rowCount, orElse, bookRefusal}
+use Rattle.volumes.specs.Settlement.{rowWidth, rows, rowCount, bookRefusal}
 use Rattle.volumes.specs.SettlementLaws.{rows-length}
-use Rattle.volumes.specs.SoundLaws.{not-refused}
+use Rattle.refusals.specs.RefusalsLaws.{not-refused, unless-else}
 use Rattle.volumes.specs.Series.{Kind}
 use Rattle.message.specs.Valid.{isMoment}
-use Rattle.message.specs.Calls.{kindNumbered}
+use Rattle.kinds.specs.Numbers.{kindNumbered}
 use Rattle.emitter.specs.Laid.{Laid, laid-over, laid-no-room}
 use Rattle.reports.specs.declared.FileAnswer.{FileAnswer}
 use Rattle.reports.specs.declared.FileAnswer.the-variants.{File, Refused}
 use Rattle.reports.specs.FileRows.{fileText}
 use Rattle.reports.specs.Roles.{receivers}
-use Rattle.reports.specs.Calls.{stands, over, afterwards, textOf, shortRefusal, askedRefusal, fileRefusal, fileSays, fileAnswer, FileCalled}
+use Rattle.refusals.specs.Buffers.{afterwards}
+use Rattle.refusals.specs.BuffersLaws.{sets-over}
+use Rattle.reports.specs.Calls.{stands, textOf, shortRefusal, askedRefusal, fileRefusal, fileSays, fileAnswer, FileCalled}
 
 -- ---- what is asked of an accepted book, before its file is written
 
@@ -59,14 +60,14 @@ module _ (book : Book) (kind : Kind) (receiver : ℕ) (id moment : List ℕ) (le
   pub asked-room : askedVerdict book kind receiver id moment lent ≡ none → rowWidth * rowCount book ≤ lent
   unfolding askedVerdict
   asked-room e =
-      let short = unless (leb (rowWidth * rowCount book) lent) 10 none in
-      let e₁ = not-refused (stands receiver (receivers book kind)) 11 (unless (isTransactionId id && isMoment moment) 12 short) e in
-      let e₂ = not-refused (isTransactionId id && isMoment moment) 12 short (e₁ .1) in
+      let room = unless (leb (rowWidth * rowCount book) lent) 10 none in
+      let e₁ = not-refused (stands receiver (receivers book kind)) 11 (unless (isTransactionId id && isMoment moment) 12 room) e in
+      let e₂ = not-refused (isTransactionId id && isMoment moment) 12 room (e₁ .1) in
       leb-true (rowWidth * rowCount book) lent (not-refused (leb (rowWidth * rowCount book) lent) 10 none (e₂ .1) .0)
 
 -- and then 10 with item 1
 unfoldable pub roomFor : List ℕ → List ℕ → Option Refusal
-roomFor text before = cond (leb (length text) (length before)) none (refused 10 1)
+roomFor text before = short 1 (length text) (length before)
 
 -- what writing a file and its rows leaves, where the rows have room
 pub record FileFilled (book : Book) (text : List ℕ) (rowsBefore rowsAfter : List ℤ) (before after : List ℕ) (r : FileAnswer) : Type 0 where
@@ -74,21 +75,9 @@ pub record FileFilled (book : Book) (text : List ℕ) (rowsBefore rowsAfter : Li
   pub rows : rowsAfter ≡ afterwards (roomFor text before) (rows book) rowsBefore
   pub file : after ≡ afterwards (roomFor text before) text before
 
-short-then : (rowNumbers rowsLent fileLength fileLent : ℕ) → shortRefusal rowNumbers rowsLent fileLength fileLent ≡ orElse (unless (leb rowNumbers rowsLent) 10 none) (cond (leb fileLength fileLent) none (refused 10 1))
+short-then : (rowNumbers rowsLent fileLength fileLent : ℕ) → shortRefusal rowNumbers rowsLent fileLength fileLent ≡ orElse (unless (leb rowNumbers rowsLent) 10 none) (short 1 fileLength fileLent)
 unfolding shortRefusal orElse
-short-then rowNumbers rowsLent fileLength fileLent = go (leb rowNumbers rowsLent)
-  where
-    later : Option Refusal
-    later = cond (leb fileLength fileLent) none (refused 10 1)
-
-    go : (b : Bool) → unless b 10 later ≡ orElse (unless b 10 none) later
-    go true = refl
-    go false = refl
-
-unless-then : (b : Bool) (number : ℕ) (first later : Option Refusal) → unless b number (orElse first later) ≡ orElse (unless b number first) later
-unfolding orElse
-unless-then true number first later = refl
-unless-then false number first later = refl
+short-then rowNumbers rowsLent fileLength fileLent = unless-else (leb rowNumbers rowsLent) 10 none (short 1 fileLength fileLent)
 
 asked-then : (book : Book) (kind : Kind) (receiver : ℕ) (id moment : List ℕ) (lent : ℕ) (before : List ℕ)
     → askedRefusal book (some kind) receiver id moment lent (length before) ≡ orElse (askedVerdict book kind receiver id moment lent) (roomFor (fileText book kind receiver id moment) before)
@@ -98,10 +87,10 @@ asked-then book kind receiver id moment lent before =
     let f = isTransactionId id && isMoment moment in
     let n = rowWidth * rowCount book in
     let later = roomFor (fileText book kind receiver id moment) before in
-    let short = unless (leb n lent) 10 none in
+    let room = unless (leb n lent) 10 none in
     ap (λ q. unless s 11 (unless f 12 q)) (short-then n lent (length (fileText book kind receiver id moment)) (length before))
-    ∙ ap (λ q. unless s 11 q) (unless-then f 12 short later)
-    ∙ unless-then s 11 (unless f 12 short) later
+    ∙ ap (λ q. unless s 11 q) (unless-else f 12 room later)
+    ∙ unless-else s 11 (unless f 12 room) later
 
 module _ (bytes : List ℕ) (kind receiver : ℕ) (id moment : List ℕ) (lent : List ℤ) (before : List ℕ) where
   -- a refusal changes nothing
@@ -154,9 +143,9 @@ module _ (book : Book) (text : List ℕ) (lent : List ℤ) (before : List ℕ) w
   pub file-fits : (count n : ℕ) (rowsAfter : List ℤ) (dry after : List ℕ) (m r : Mark) → rowWidth * rowCount book ≤ length lent → count ≡ rowCount book → m ≡ At n
       → Laid false before (At 0) text dry m → rowsAfter ≡ sets lent 0 (rows book) → Laid true dry (At 0) text after r
       → FileFilled book text lent rowsAfter before after (File count n)
-  unfolding fileSays afterwards roomFor over
+  unfolding fileSays afterwards roomFor
   file-fits count n rowsAfter dry after m r room c e v f w =
       let k = laid-over (rw e at v) w in
       let b = le-leb (length text) (length before) (k .room) in
-      let all : sets lent 0 (rows book) ≡ rows book ++ drop (length (rows book)) lent = sets-eq (rows book) lent 0 (omega (arith, rows-length book)) ∙ ap (λ (i : ℕ). rows book ++ drop i lent) (zero-add (length (rows book))) in
+      let all = sets-over (rows book) lent (omega (arith, rows-length book)) in
       record { answer = rw (b, c, k .count); rows = rw b (f ∙ all); file = rw b (k .list) }

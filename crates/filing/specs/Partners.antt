@@ -1,6 +1,5 @@
 -- The partners of a receiver one after another, as the register's rows give them.
 use mathlib.Core.List.{List, [], _∷_, map, List·Memᴰ}
-use mathlib.Core.Option.{Option, none, some}
 use Prim.Native.Nat.{ℕ, _≤_, _<_}
 use lib.Dec.{leb}
 use Rattle.integers.specs.Ranges.{range}
@@ -11,14 +10,7 @@ use Rattle.book.specs.Book.{Book}
 use Rattle.settlement.specs.Sections.{pointCountIn}
 use Rattle.volumes.specs.Series.{Kind, partnerOf}
 use Rattle.message.specs.Contents.{Partner}
-use Rattle.filing.specs.declared.partners.Asked.{Asked}
-use Rattle.filing.specs.declared.partners.Asked.the-variants.{Of, Unknown}
 use Rattle.reports.specs.FileRows.{isTaken, partnerNumbers, partnerAt}
-
--- the kind that a call asks for
-abbrev pub kindAsked : Asked → Option Kind
-kindAsked (Of form) = some form
-kindAsked Unknown = none
 
 -- the delivery points of a register's bytes
 unfoldable pub pointsIn : List ℕ → List Point

@@ -1,11 +1,10 @@
 // The file call: a receiver's file of a book, and the book's settlement rows.
 use crate::laying::measure_file;
 use crate::laying::write_measured;
-use crate::partners::Asked;
 use crate::partners::in_role;
-use crate::partners::kind_of;
 use formats::Mark;
 use kinds::Kind;
+use kinds::Numbered;
 use reports::FileAnswer;
 use series::delivered::fill_volumes;
 use settlement::judge::Verdict;
@@ -132,8 +131,8 @@ pub fn file(
     if let Verdict::Refused(number, item) = judged {
         return FileAnswer::Refused(number, item);
     }
-    let asked = kind_of(kind);
-    let Asked::Of(known) = asked else {
+    let numbered = kinds::kind_numbered(kind as u64);
+    let Numbered::Of(known) = numbered else {
         return FileAnswer::Refused(12, 0);
     };
     let verdict = judge_asked(book, known, receiver, id, moment, rows.len());

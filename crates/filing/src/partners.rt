@@ -4,31 +4,13 @@ use kinds::Kind;
 ghost use mathlib.Core.Path.{_≡_};
 ghost use mathlib.Core.List.{map};
 ghost use Rattle.volumes.specs.Series.{Told, receiverOf};
-ghost use Rattle.message.specs.Calls.{kindNumbered};
 ghost use Rattle.reports.specs.FileRows.{isTaken};
 ghost use Rattle.reports.specs.Calls.{stands};
-ghost use Rattle.filing.specs.Partners.{kindAsked, pointsIn, partnerColumn, Next};
+ghost use Rattle.filing.specs.Partners.{pointsIn, partnerColumn, Next};
 ghost use Rattle.filing.specs.PartnersLaws.{nearer};
 
 // Partner numbers are company numbers and EANs: all are below this one.
 pub const NO_PARTNER: u64 = 1000000000000000000;
-
-// The kind that a call asks for, if there is one.
-pub enum Asked {
-    Of(Kind),
-    Unknown,
-}
-
-pub fn kind_of(kind: u8) -> Asked
-    ensures { λ r. ⌜ kindAsked r ≡ kindNumbered kind ⌝ }
-{
-    match kind {
-        1 => Asked::Of(Kind::Toe01),
-        2 => Asked::Of(Kind::Toe02),
-        3 => Asked::Of(Kind::Toe03),
-        _ => Asked::Unknown,
-    }
-}
 
 // Whether a receiver is in its role in the register.
 pub fn in_role(register: &[u8], kind: Kind, receiver: u64) -> bool

@@ -1,6 +1,6 @@
 -- What judging a book answers, in document 01's numbers and items.
 use mathlib.Core.Option.{Option, none}
-use Rattle.book.specs.Refusals.{Refusal, refused}
+use Rattle.refusals.specs.Refusals.{Refusal, refused}
 use Rattle.judging.specs.declared.Judged.{Judged}
 use Rattle.judging.specs.declared.Judged.the-variants.{Passed, Header, Layout, ClockChange, Tables, Register, Readings, Engagements}
 

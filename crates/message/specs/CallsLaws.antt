@@ -2,86 +2,64 @@
 use mathlib.Core.Path.{_≡_, refl, sym, ap, _∙_}
 use mathlib.Core.Bool.{Bool, true, false}
 use mathlib.Core.List.{List, _++_, append-assoc, flatMap}
-use mathlib.Core.Option.{none, some}
-use Prim.Native.Nat.{ℕ, zero, suc, _*_, _≤_, _<_}
+use mathlib.Core.Option.{Option, none, some}
+use Prim.Native.Nat.{ℕ, _*_, _≤_, _<_}
 use lib.Dec.{leb}
 use lib.ListN.{length, take, drop}
-use lib.Seq.{take-at, take-append-seam, drop-append-seam}
+use lib.Seq.{take-append-seam, drop-append-seam}
+use native.Mathlib.Nat.{zero-add}
 use native.Mathlib.Omega.{arith}
 use borrow.Author.Tests.{leb-true, le-leb, lt-leb}
 use Rattle.text.specs.Decimal.{fixed, plain}
+use Rattle.text.specs.Written.{written}
 use Rattle.formats.specs.Format.{Res, got, bad}
-use Rattle.kinds.specs.declared.Kind.{Kind}
-use Rattle.kinds.specs.declared.Kind.the-variants.{Toe01, Toe02, Toe03}
+use Rattle.refusals.specs.Refusals.{Refusal, unless}
+use Rattle.refusals.specs.Buffers.{over, afterwards}
 use Rattle.message.specs.declared.FileFacts.{FileFacts}
 use Rattle.message.specs.declared.ReadAnswer.{ReadAnswer}
 use Rattle.message.specs.declared.ReadAnswer.the-variants.{File, Refused}
 use Rattle.message.specs.Bytes.{opening, element, closing, root, counter, partnerBytes, fileBytes}
 use Rattle.message.specs.Rows.{numbers, partnersOf, Message, contents}
 use Rattle.message.specs.Messages.{messageBytes, readMessage}
-use Rattle.message.specs.Calls.{Verdict, accepted, refused, unless, over, afterwards, kindNumbered, kindNumber, idPlace, momentPlace, factsOf, readVerdict, readSays, messageNumbers, ReadCalled}
-
--- ---- kinds by their numbers
-
-pub kind-numbered : (kind : Kind) → kindNumbered (kindNumber kind) ≡ some kind
-kind-numbered Toe01 = refl
-kind-numbered Toe02 = refl
-kind-numbered Toe03 = refl
-
-pub no-kind : (n : ℕ) → (n ≡ 1 → ⊥) → (n ≡ 2 → ⊥) → (n ≡ 3 → ⊥) → kindNumbered n ≡ none
-no-kind zero h i j = refl
-no-kind (suc zero) h i j = absurd (h refl)
-no-kind (suc (suc zero)) h i j = absurd (i refl)
-no-kind (suc (suc (suc zero))) h i j = absurd (j refl)
-no-kind (suc (suc (suc (suc n)))) h i j = refl
-
--- ---- buffers
-
--- the first places of a buffer that was written over
-pub over-first : {A : Type 0} (new old : List A) (n : ℕ) → length new ≡ n → take n (over new old) ≡ new
-unfolding over
-over-first new old n e = take-at new (drop (length new) old) n e
+use Rattle.message.specs.Calls.{idPlace, momentPlace, factsOf, readRefusal, messageIn, readSays, readAnswer, ReadCalled}
 
 -- ---- from what is known to the record
 
--- what a reading answers where so many numbers are lent
-abbrev pub judged : List ℕ → ℕ → ReadAnswer
-judged file lent = readSays (readVerdict (readMessage file) lent)
-
 module _ (file : List ℕ) (lent : ℕ) where
   -- 13
-  pub says-no-file : readMessage file ≡ bad → Refused 13 0 ≡ judged file lent
-  unfolding readVerdict readSays
+  pub says-no-file : readMessage file ≡ bad → Refused 13 0 ≡ readAnswer file lent
+  unfolding readAnswer readRefusal readSays
   says-no-file e = rw e
 
   module _ (m : Message) (rest : List ℕ) (e : readMessage file ≡ got m rest) where
     -- 10
-    pub says-short : lent < 6 * length (m .rows) → Refused 10 0 ≡ judged file lent
-    unfolding readVerdict readSays
+    pub says-short : lent < 6 * length (m .rows) → Refused 10 0 ≡ readAnswer file lent
+    unfolding readAnswer readRefusal readSays
     says-short h = rw (e, lt-leb (6 * length (m .rows)) lent h)
 
     -- what the file says
-    pub says-file : 6 * length (m .rows) ≤ lent → File (factsOf m) ≡ judged file lent
-    unfolding readVerdict readSays
+    pub says-file : 6 * length (m .rows) ≤ lent → File (factsOf m) ≡ readAnswer file lent
+    unfolding readAnswer readRefusal readSays messageIn
     says-file h = rw (e, le-leb (6 * length (m .rows)) lent h)
 
 module _ (file before : List ℕ) where
   -- a refusal leaves the rows
-  kept-rows : (number item : ℕ) (v : Verdict Message) → Refused number item ≡ readSays v → before ≡ afterwards messageNumbers v before
+  kept-rows : (number item : ℕ) (x : Option Refusal) (facts : FileFacts) (new : List ℕ) → Refused number item ≡ readSays x facts → before ≡ afterwards x new before
   unfolding readSays afterwards
-  kept-rows number item (accepted m) e = let z : _≡_ {A = ℕ} 0 1 = cc in absurd (omega arith)
-  kept-rows number item (refused n i) e = refl
+  kept-rows number item none facts new e = let z : _≡_ {A = ℕ} 0 1 = cc in absurd (omega arith)
+  kept-rows number item (some r) facts new e = refl
 
-  pub called-refused : (number item : ℕ) → Refused number item ≡ judged file (length before) → ReadCalled file before before (Refused number item)
-  called-refused number item e = record { answer = e; rows = kept-rows number item (readVerdict (readMessage file) (length before)) e }
+  pub called-refused : (number item : ℕ) → Refused number item ≡ readAnswer file (length before) → ReadCalled file before before (Refused number item)
+  unfolding readAnswer
+  called-refused number item e = record { answer = e; rows = kept-rows number item (readRefusal (readMessage file) (length before)) _ _ e }
 
   pub called-file : (m : Message) (rest : List ℕ) → readMessage file ≡ got m rest → 6 * length (m .rows) ≤ length before → ReadCalled file before (over (numbers (m .rows)) before) (File (factsOf m))
-  unfolding readVerdict readSays afterwards
-  called-file m rest e h = let f = le-leb (6 * length (m .rows)) (length before) h in record { answer = rw (e, f); rows = rw (e, f) }
+  unfolding readRefusal messageIn afterwards
+  called-file m rest e h = record { answer = says-file file (length before) m rest e h; rows = rw (e, le-leb (6 * length (m .rows)) (length before) h) }
 
 -- ---- from the record to what was read
 
-pub record Accepted (file before after : List ℕ) (facts : FileFacts) : Type 0 where
+pub record ReadAccepted (file before after : List ℕ) (facts : FileFacts) : Type 0 where
   pub message : Message
   pub rest : List ℕ
   pub read : readMessage file ≡ got message rest
@@ -91,35 +69,44 @@ pub record Accepted (file before after : List ℕ) (facts : FileFacts) : Type 0 
 
 module _ (file before after : List ℕ) (facts : FileFacts) where
   accepted-message : (m : Message) (rest : List ℕ) → readMessage file ≡ got m rest → (b : Bool) → leb (6 * length (m .rows)) (length before) ≡ b
-      → File facts ≡ readSays (unless b 10 0 (accepted m)) → after ≡ afterwards messageNumbers (unless b 10 0 (accepted m)) before → Accepted file before after facts
+      → File facts ≡ readSays (unless b 10 none) (factsOf m) → after ≡ afterwards (unless b 10 none) (numbers (m .rows)) before → ReadAccepted file before after facts
   unfolding readSays afterwards
   accepted-message m rest e true f a w =
       record { message = m; rest = rest; read = e; long = leb-true (6 * length (m .rows)) (length before) f; says = cc; rows = w }
   accepted-message m rest e false f a w = let z : _≡_ {A = ℕ} 0 1 = cc in absurd (omega arith)
 
-  accepted-reading : (x : Res Message) → readMessage file ≡ x → File facts ≡ readSays (readVerdict x (length before)) → after ≡ afterwards messageNumbers (readVerdict x (length before)) before
-      → Accepted file before after facts
-  unfolding readVerdict readSays
+  accepted-reading : (x : Res Message) → readMessage file ≡ x → File facts ≡ readSays (readRefusal x (length before)) (factsOf (messageIn x))
+      → after ≡ afterwards (readRefusal x (length before)) (numbers (messageIn x .rows)) before → ReadAccepted file before after facts
+  unfolding readRefusal messageIn readSays
   accepted-reading bad e a w = let z : _≡_ {A = ℕ} 0 1 = cc in absurd (omega arith)
   accepted-reading (got m rest) e a w = accepted-message m rest e (leb (6 * length (m .rows)) (length before)) refl a w
 
-  pub accepted-is : ReadCalled file before after (File facts) → Accepted file before after facts
+  pub accepted-is : ReadCalled file before after (File facts) → ReadAccepted file before after facts
+  unfolding readAnswer
   accepted-is c = accepted-reading (readMessage file) refl (c .answer) (c .rows)
 
 -- 13 is answered of no file only
 module _ (file before after : List ℕ) where
-  refused-message : (m : Message) (b : Bool) → Refused 13 0 ≡ readSays (unless b 10 0 (accepted m)) → ⊥
+  refused-message : (facts : FileFacts) (b : Bool) → Refused 13 0 ≡ readSays (unless b 10 none) facts → ⊥
   unfolding readSays
-  refused-message m true e = let z : _≡_ {A = ℕ} 0 1 = cc in omega arith
-  refused-message m false e = let z : _≡_ {A = ℕ} 13 10 = cc in omega arith
+  refused-message facts true e = let z : _≡_ {A = ℕ} 0 1 = cc in omega arith
+  refused-message facts false e = let z : _≡_ {A = ℕ} 13 10 = cc in omega arith
 
-  refused-reading : (x : Res Message) → Refused 13 0 ≡ readSays (readVerdict x (length before)) → x ≡ bad
-  unfolding readVerdict
+  refused-reading : (x : Res Message) → Refused 13 0 ≡ readSays (readRefusal x (length before)) (factsOf (messageIn x)) → x ≡ bad
+  unfolding readRefusal
   refused-reading bad e = refl
-  refused-reading (got m rest) e = absurd (refused-message m (leb (6 * length (m .rows)) (length before)) e)
+  refused-reading (got m rest) e = absurd (refused-message _ (leb (6 * length (m .rows)) (length before)) e)
 
   pub refused-is : ReadCalled file before after (Refused 13 0) → readMessage file ≡ bad
+  unfolding readAnswer
   refused-is c = refused-reading (readMessage file) (c .answer)
+
+-- ---- buffers
+
+-- a write from the first place on
+pub written-over : (d bs : List ℕ) → written d 0 bs ≡ over bs d
+unfolding written over
+written-over d bs = rw (zero-add (length bs))
 
 -- one call has one answer
 pub one-reading : {file before a b : List ℕ} {r s : ReadAnswer} → ReadCalled file before a r → ReadCalled file before b s → (r ≡ s) × (a ≡ b)

@@ -18,7 +18,8 @@ use Rattle.message.specs.MessageForm.{message-recast}
 use Rattle.message.specs.Messages.{messageBytes, readMessage}
 use Rattle.message.specs.FileLaws.{written-is-read}
 use Rattle.message.specs.CaseF.{observations, series, caseF, text, renders, valid}
-use Rattle.message.specs.Calls.{over, idPlace, momentPlace, factsOf, ReadCalled}
+use Rattle.refusals.specs.Buffers.{over}
+use Rattle.message.specs.Calls.{idPlace, momentPlace, factsOf, ReadCalled}
 use Rattle.message.specs.CallsLaws.{called-file}
 
 abbrev pub facts : FileFacts

@@ -18,8 +18,8 @@ use Rattle.formats.specs.Combine.{strip, pre, post, seq, seqBy, Recast, recast}
 use Rattle.formats.specs.Exactly.{exactly, fixedDigits}
 use Rattle.formats.specs.Name.{nameByte, each, Name, name}
 use Rattle.formats.specs.Rising.{risingItems}
-use Rattle.moments.specs.declared.Judged.{Judged}
-use Rattle.moments.specs.declared.Judged.the-variants.{Real, Malformed}
+use Rattle.moments.specs.declared.MomentRead.{MomentRead}
+use Rattle.moments.specs.declared.MomentRead.the-variants.{Real, Malformed}
 use Rattle.moments.specs.Moments.{momentOf}
 use Rattle.moments.specs.MomentsLaws.{judged-is, length-moment}
 use Rattle.moments.specs.Ids.{isTransactionId}
@@ -131,7 +131,7 @@ id-from s e =
 pub moment-length : (s : List ℕ) → isMoment s ≡ true → length s ≡ 29
 moment-length s e = go (momentOf s) refl e
   where
-    go : (j : Judged) → momentOf s ≡ j → isReal j ≡ true → length s ≡ 29
+    go : (j : MomentRead) → momentOf s ≡ j → isReal j ≡ true → length s ≡ 29
     go (Real m) f e = ap length (judged-is s m f .form) ∙ length-moment m
     go Malformed f e = absurd (true-false (sym e))
 

@@ -7,8 +7,8 @@ use lib.ListN.{length}
 use Rattle.integers.specs.Rises.{rises}
 use Rattle.integers.specs.All.{All}
 use Rattle.calendar.specs.Dates.{monthLength}
-use Rattle.moments.specs.declared.Judged.{Judged}
-use Rattle.moments.specs.declared.Judged.the-variants.{Real, Malformed}
+use Rattle.moments.specs.declared.MomentRead.{MomentRead}
+use Rattle.moments.specs.declared.MomentRead.the-variants.{Real, Malformed}
 use Rattle.moments.specs.Moments.{momentOf}
 use Rattle.moments.specs.Ids.{isTransactionId}
 use Rattle.kinds.specs.declared.Kind.{Kind}
@@ -69,7 +69,7 @@ pub record IsPartner (k : Kind) (p : Partner) : Type 0 where
   pub one : OneSupply k (p .series)
 
 -- "moment in the form shown, a real date and time of 2018 to 2099, with either offset"
-abbrev pub isReal : Judged → Bool
+abbrev pub isReal : MomentRead → Bool
 isReal (Real m) = true
 isReal Malformed = false
 

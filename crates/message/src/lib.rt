@@ -78,7 +78,7 @@ pub fn moment_at(s: &[u8], m: Mark) -> Mark
         return Mark::No;
     }
     let j = moments::read_moment(&s[p..p + 29]);
-    let moments::Judged::Real(_) = j else {
+    let moments::MomentRead::Real(_) = j else {
         return Mark::No;
     };
     Mark::At(p + 29)

@@ -11,8 +11,8 @@ use Rattle.text.specs.declared.Number.{Number}
 use Rattle.text.specs.declared.Number.the-variants.{Value, NotDigits}
 use Rattle.calendar.specs.Dates.{monthLength, dayNumber, offsetHours, nextYear, nextMonth}
 use Rattle.moments.specs.declared.Moment.{Moment}
-use Rattle.moments.specs.declared.Judged.{Judged}
-use Rattle.moments.specs.declared.Judged.the-variants.{Real, Malformed}
+use Rattle.moments.specs.declared.MomentRead.{MomentRead}
+use Rattle.moments.specs.declared.MomentRead.the-variants.{Real, Malformed}
 
 -- "moment in the form shown": 2021-08-02, T09:00:00, .000+02:00
 unfoldable pub dateBytes : Moment → List ℕ
@@ -64,14 +64,14 @@ parts s =
       offset = valueAt s 24 2;
     }
 
-abbrev pub pickJudged : Bool → Judged → Judged
-pickJudged true r = r
-pickJudged false r = Malformed
+abbrev pub pickRead : Bool → MomentRead → MomentRead
+pickRead true r = r
+pickRead false r = Malformed
 
 -- bytes are a moment where what stands at the places is real and has these bytes: so they are the bytes of a real
 -- moment, and the bytes of each real moment are read as it (`judged-is`, `is-judged` of MomentsLaws)
-unfoldable pub momentOf : List ℕ → Judged
-momentOf s = pickJudged (eqb (length s) 29 && real (parts s) && begins (momentBytes (parts s)) s) (Real (parts s))
+unfoldable pub momentOf : List ℕ → MomentRead
+momentOf s = pickRead (eqb (length s) 29 && real (parts s) && begins (momentBytes (parts s)) s) (Real (parts s))
 
 -- milliseconds from the start of day 0, of a day number and a time of that day
 abbrev pub millis : ℕ → ℕ → ℕ → ℕ → ℕ → ℕ

@@ -15,9 +15,9 @@ use Rattle.text.specs.TagLaws.{begins-append, begins-split}
 use Rattle.text.specs.Written.{written}
 use Rattle.calendar.specs.Dates.{IsMonth, monthLength, dayNumber, nextYear, nextMonth}
 use Rattle.calendar.specs.DatesLaws.{is-month, month-length, first-offset}
-use Rattle.moments.specs.Moments.{momentBytes, dateBytes, timeBytes, tailBytes, within, realDate, realTime, real, valueAt, parts, momentOf, pickJudged, clock, instant, periodStart, periodEnd}
+use Rattle.moments.specs.Moments.{momentBytes, dateBytes, timeBytes, tailBytes, within, realDate, realTime, real, valueAt, parts, momentOf, pickRead, clock, instant, periodStart, periodEnd}
 use Rattle.moments.specs.declared.Moment.{Moment}
-use Rattle.moments.specs.declared.Judged.the-variants.{Real, Malformed}
+use Rattle.moments.specs.declared.MomentRead.the-variants.{Real, Malformed}
 
 -- the form has 29 bytes
 pub length-moment : (m : Moment) → length (momentBytes m) ≡ 29
@@ -105,7 +105,7 @@ pub judged-is : (s : List ℕ) (m : Moment) → momentOf s ≡ Real m → IsMome
 unfolding momentOf
 judged-is s m e = go (eqb (length s) 29) (real (parts s)) (begins (momentBytes (parts s)) s) refl refl refl e
   where
-    go : (a b c : Bool) → eqb (length s) 29 ≡ a → real (parts s) ≡ b → begins (momentBytes (parts s)) s ≡ c → pickJudged (a && b && c) (Real (parts s)) ≡ Real m → IsMoment s m
+    go : (a b c : Bool) → eqb (length s) 29 ≡ a → real (parts s) ≡ b → begins (momentBytes (parts s)) s ≡ c → pickRead (a && b && c) (Real (parts s)) ≡ Real m → IsMoment s m
     go true true true l r f e =
         let p : parts s ≡ m = cc in
         let short : length s ≤ length (momentBytes (parts s)) = omega (arith, eqb-true (length s) 29 l, length-moment (parts s)) in
@@ -140,7 +140,7 @@ pub not-real : (s : List ℕ) → length s ≡ 29 → real (parts s) ≡ false �
 unfolding momentOf
 not-real s l e = rw (eq-eqb (length s) 29 l, e)
 
-pub by-form : (s : List ℕ) → length s ≡ 29 → real (parts s) ≡ true → momentOf s ≡ pickJudged (begins (momentBytes (parts s)) s) (Real (parts s))
+pub by-form : (s : List ℕ) → length s ≡ 29 → real (parts s) ≡ true → momentOf s ≡ pickRead (begins (momentBytes (parts s)) s) (Real (parts s))
 unfolding momentOf
 by-form s l e = rw (eq-eqb (length s) 29 l, e)
 

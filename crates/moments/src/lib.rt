@@ -27,7 +27,7 @@ pub struct Moment {
 }
 
 // What bytes are judged to be.
-pub enum Judged {
+pub enum MomentRead {
     Real(Moment),
     Malformed,
 }
@@ -157,22 +157,22 @@ pub fn write_moment(out: &mut [u8], at: usize, m: Moment) -> usize
 }
 
 // The moment that bytes are, or that they are none.
-pub fn read_moment(s: &[u8]) -> Judged
+pub fn read_moment(s: &[u8]) -> MomentRead
     ensures { λ r. ⌜ r ≡ momentOf (now (s .entry)) ⌝ }
 {
     if s.len() != 29 {
-        return Judged::Malformed;
+        return MomentRead::Malformed;
     }
     let m = parts_of(s);
     if !is_real(m) {
-        return Judged::Malformed;
+        return MomentRead::Malformed;
     }
     let mut form = [0u8; 29];
     write_moment(&mut form, 0, m);
     if text::matches(s, 0, &form) {
-        Judged::Real(m)
+        MomentRead::Real(m)
     } else {
-        Judged::Malformed
+        MomentRead::Malformed
     }
 }
 

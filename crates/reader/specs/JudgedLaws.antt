@@ -5,8 +5,6 @@ use Prim.Native.Nat.{ℕ, suc, _+_, _*_, _≤_, _<_}
 use lib.ListN.{length, drop, getD, length-append, drop-of-length-le}
 use lib.Seq.{drop-cons}
 use native.Mathlib.Omega.{arith}
-use native.Mathlib.Nat.{zero-add}
-use Rattle.text.specs.Written.{written}
 use Rattle.formats.specs.Format.{Res, got, bad, readAll}
 use Rattle.formats.specs.FormatLaws.{got-bad, sound-of}
 use Rattle.formats.specs.Combine.{mapParse}
@@ -21,8 +19,8 @@ use Rattle.message.specs.FileForm.{Parts, fileOf, fileBody, file}
 use Rattle.message.specs.MessageForm.{messageForm}
 use Rattle.message.specs.Rows.{rowsOf, Message, message}
 use Rattle.message.specs.Messages.{readMessage}
-use Rattle.message.specs.Calls.{over, idPlace, momentPlace, factsOf}
-use Rattle.message.specs.CallsLaws.{judged, says-no-file, says-short, says-file}
+use Rattle.message.specs.Calls.{idPlace, momentPlace, factsOf, readAnswer}
+use Rattle.message.specs.CallsLaws.{says-no-file, says-short, says-file}
 use Rattle.reader.specs.ReaderItems.{folded}
 use Rattle.reader.specs.ReaderPartners.{adding}
 use Rattle.reader.specs.ReaderFile.{partners-rows, partners-month}
@@ -49,11 +47,11 @@ module _ (s : List ℕ) where
 -- ---- 13
 
 module _ (s : List ℕ) (lent : ℕ) (p : Parts) where
-  pub judged-none : Parsed (fileBody .parse) s (At 0) No p → Refused 13 0 ≡ judged s lent
+  pub judged-none : Parsed (fileBody .parse) s (At 0) No p → Refused 13 0 ≡ readAnswer s lent
   judged-none h = says-no-file s lent (no-body s (h .run .run))
 
   -- bytes are left behind the file
-  pub judged-left : (q : ℕ) → Parsed (fileBody .parse) s (At 0) (At q) p → (q ≡ length s → ⊥) → Refused 13 0 ≡ judged s lent
+  pub judged-left : (q : ℕ) → Parsed (fileBody .parse) s (At 0) (At q) p → (q ≡ length s → ⊥) → Refused 13 0 ≡ readAnswer s lent
   judged-left q h n =
       let k : q < length s = omega (arith, h .within, n) in
       says-no-file s lent (bytes-left s p (getD s q 0) (drop (suc q) s) (h .run .run ∙ ap (got p) (drop-cons s q 0 k)))
@@ -78,7 +76,7 @@ module _ (s : List ℕ) (q : ℕ) (k : Kind) (id moment : List ℕ) (receiver co
     row-count : length (rowsOf partners) ≡ t .1
     row-count = omega (arith, partners-rows ((0, 0), 0) partners, ap (λ (x : (ℕ × ℕ) × ℕ). x .1) is)
 
-    pub judged-short : lent < 6 * t .1 → Refused 10 0 ≡ judged s lent
+    pub judged-short : lent < 6 * t .1 → Refused 10 0 ≡ readAnswer s lent
     unfolding message fileOf
     judged-short l = says-short s lent judgedMessage [] message-read (omega (arith, row-count))
 
@@ -99,14 +97,14 @@ module _ (s : List ℕ) (q : ℕ) (k : Kind) (id moment : List ℕ) (receiver co
         }
 
     pub judged-file : (i n p : ℕ) → i ≡ idPlace k → n ≡ length id → p ≡ momentPlace k id → 6 * t .1 ≤ lent
-        → File (record { kind = k; receiver = receiver; year = t .0 .0; month = t .0 .1; rows = t .1; id = i; «id_length» = n; moment = p }) ≡ judged s lent
+        → File (record { kind = k; receiver = receiver; year = t .0 .0; month = t .0 .1; rows = t .1; id = i; «id_length» = n; moment = p }) ≡ readAnswer s lent
     unfolding message fileOf
     judged-file i n p a b c l = sym (ap File (judged-facts i n p a b c)) ∙ says-file s lent judgedMessage [] message-read (omega (arith, row-count))
 
 -- ---- the rows of what was judged a file
 
 -- the parts behind a file's reading
-pub record Read (s : List ℕ) (m : Message) : Type 0 where
+pub record PartsRead (s : List ℕ) (m : Message) : Type 0 where
   pub parts : Parts
   pub rest : List ℕ
   pub parsed : fileBody .parse s ≡ got parts rest
@@ -116,18 +114,13 @@ same-rows : (p : Parts) (m : Message) (a b : List ℕ) → got (message (fileOf 
 unfolding message fileOf
 same-rows p m a b e = let f : message (fileOf p) ≡ m = cc in ap (λ (x : Message). x .rows) f
 
-pub parts-read : (s : List ℕ) (m : Message) (r : List ℕ) → readMessage s ≡ got m r → Read s m
+pub parts-read : (s : List ℕ) (m : Message) (r : List ℕ) → readMessage s ≡ got m r → PartsRead s m
 parts-read s m r e = go (fileBody .parse s) refl
   where
-    go : (x : Res Parts) → fileBody .parse s ≡ x → Read s m
+    go : (x : Res Parts) → fileBody .parse s ≡ x → PartsRead s m
     go bad f = absurd (got-bad (sym e ∙ no-body s f))
     go (got p []) f = record { parts = p; rest = []; parsed = f; rows = same-rows p m [] r (sym (whole-file s p f) ∙ e) }
     go (got p (x ∷ l)) f = absurd (got-bad (sym e ∙ bytes-left s p x l f))
-
--- a write from the first place on
-pub written-over : (d bs : List ℕ) → written d 0 bs ≡ over bs d
-unfolding written over
-written-over d bs = rw (zero-add (length bs))
 
 -- ---- the places, one from the other
 

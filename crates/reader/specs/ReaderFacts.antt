@@ -18,13 +18,14 @@ use Rattle.message.specs.Bytes.{opening, ending}
 use Rattle.message.specs.FileForm.{Parts, fileBody}
 use Rattle.message.specs.Rows.{Row, numbers}
 use Rattle.message.specs.Messages.{readMessage}
-use Rattle.message.specs.Calls.{over, afterwards, readVerdict, messageNumbers, ReadCalled}
-use Rattle.message.specs.CallsLaws.{judged, accepted-is}
+use Rattle.refusals.specs.Buffers.{over, afterwards}
+use Rattle.message.specs.Calls.{readRefusal, messageIn, readAnswer, ReadCalled}
+use Rattle.message.specs.CallsLaws.{accepted-is, written-over}
 use Rattle.reader.specs.declared.file.FileRead.{FileRead}
 use Rattle.reader.specs.Filling.{Fills}
 use Rattle.reader.specs.ReaderFile.{Filed, rowsOfParts}
 use Rattle.reader.specs.ReaderPlaces.{idStart}
-use Rattle.reader.specs.JudgedLaws.{judged-none, judged-left, judged-short, judged-file, parts-read, written-over, id-place, moment-place}
+use Rattle.reader.specs.JudgedLaws.{judged-none, judged-left, judged-short, judged-file, parts-read, id-place, moment-place}
 
 -- of the ID from the cursor `id` to `end`, which stands behind the byte that ends it, and the moment
 unfoldable pub factsRead : FileRead → FileFacts
@@ -54,16 +55,16 @@ module _ (s : List ℕ) (lent : ℕ) (r : FileRead) (f : Filed s (standing s (r 
   parts = (r .root .kind, (id, (moment, (r .receiver, (f .count, f .partners)))))
 
   -- 13: no file, or bytes behind it
-  read-none : standing s (r .to) ≡ No → Refused 13 0 ≡ judged s lent
+  read-none : standing s (r .to) ≡ No → Refused 13 0 ≡ readAnswer s lent
   read-none e = judged-none s lent parts (rw e at (f .parsed))
 
-  pub read-lost : r .to .good ≡ false → Refused 13 0 ≡ judged s lent
+  pub read-lost : r .to .good ≡ false → Refused 13 0 ≡ readAnswer s lent
   read-lost g = read-none (rw g)
 
-  pub read-left : (r .to .at ≡ length s → ⊥) → Refused 13 0 ≡ judged s lent
+  pub read-left : (r .to .at ≡ length s → ⊥) → Refused 13 0 ≡ readAnswer s lent
   read-left n = go (standing s (r .to)) refl
     where
-      go : (m : Mark) → standing s (r .to) ≡ m → Refused 13 0 ≡ judged s lent
+      go : (m : Mark) → standing s (r .to) ≡ m → Refused 13 0 ≡ readAnswer s lent
       go No e = read-none e
       go (At q) e = judged-left s lent parts q (rw e at (f .parsed)) (λ i. n (stands s (r .to) q e ∙ i))
 
@@ -72,11 +73,11 @@ module _ (s : List ℕ) (lent : ℕ) (r : FileRead) (f : Filed s (standing s (r 
     there = rw (good, all, le-leb (length s) (length s) (omega arith))
 
     -- 10: no room for its rows
-    pub read-short : lent / 6 < r .told .rows → Refused 10 0 ≡ judged s lent
+    pub read-short : lent / 6 < r .told .rows → Refused 10 0 ≡ readAnswer s lent
     read-short l = judged-short s (length s) (r .root .kind) id moment (r .receiver) (f .count) (f .partners) (rw there at (f .parsed)) refl lent tally (f .is (length s) there) (omega arith)
 
     -- a file
-    pub read-file : r .told .rows ≤ lent / 6 → File (factsRead r) ≡ judged s lent
+    pub read-file : r .told .rows ≤ lent / 6 → File (factsRead r) ≡ readAnswer s lent
     unfolding factsRead
     read-file l =
         let k = r .root .kind in
@@ -90,10 +91,10 @@ module _ (s : List ℕ) (lent : ℕ) (r : FileRead) (f : Filed s (standing s (r 
 -- ---- the rows, by the second reading
 
 -- what was judged a file has its rows filled
-pub read-filled : (s before after : List ℕ) (facts : FileFacts) → File facts ≡ judged s (length before) → Fills (fileBody .parse) rowsOfParts s (At 0) 0 before after
+pub read-filled : (s before after : List ℕ) (facts : FileFacts) → File facts ≡ readAnswer s (length before) → Fills (fileBody .parse) rowsOfParts s (At 0) 0 before after
     → ReadCalled s before after (File facts)
 read-filled s before after facts e fills =
-    let a = accepted-is s before (afterwards messageNumbers (readVerdict (readMessage s) (length before)) before) facts (record { answer = e; rows = refl }) in
+    let a = accepted-is s before (afterwards (readRefusal (readMessage s) (length before)) (numbers (messageIn (readMessage s) .rows)) before) facts (record { answer = e; rows = refl }) in
     let p = parts-read s (a .message) (a .rest) (a .read) in
     let long : 6 * (0 + length (rowsOfParts (p .parts))) ≤ length before = omega (arith, a .long, ap (λ (l : List Row). length l) (p .rows)) in
     let w = fills .wrote 0 (p .parts) (p .rest) refl (p .parsed) long ∙ written-over before (numbers (rowsOfParts (p .parts))) ∙ ap (λ (l : List Row). over (numbers l) before) (p .rows) in

@@ -9,8 +9,7 @@ use message::FileFacts;
 use message::ReadAnswer;
 ghost use mathlib.Core.Path.{_≡_};
 ghost use Prim.Native.Nat.{_+_, _-_};
-ghost use Rattle.message.specs.Messages.{readMessage};
-ghost use Rattle.message.specs.Calls.{readVerdict, readSays, ReadCalled};
+ghost use Rattle.message.specs.Calls.{readAnswer, ReadCalled};
 ghost use Rattle.reader.specs.ReaderFacts.{factsRead};
 
 // The number of places between two.
@@ -50,7 +49,7 @@ fn facts(j: FileRead) -> FileFacts
 
 // What reading a file answers where so many numbers of rows are lent; none is at hand.
 pub fn judge(file: &[u8], lent: usize) -> ReadAnswer
-    ensures { λ r. ⌜ r ≡ readSays (readVerdict (readMessage (now (file .entry))) lent) ⌝ }
+    ensures { λ r. ⌜ r ≡ readAnswer (now (file .entry)) lent ⌝ }
 {
     let mut none = [0u64; 1];
     let j = crate::file::file_read(file, &mut none);

@@ -1,6 +1,6 @@
 -- The sheet call and the file call: their answers, and every buffer afterwards (document 01, "What is sent back").
 use mathlib.Core.Path.{_≡_}
-use mathlib.Core.Bool.{cond, _&&_}
+use mathlib.Core.Bool.{_&&_}
 use mathlib.Core.List.{List, []}
 use mathlib.Core.Option.{Option, none, some}
 use Prim.Native.Nat.{ℕ, _*_}
@@ -9,14 +9,14 @@ use lib.IntN.{ℤ}
 use lib.ListN.{length}
 use Rattle.moments.specs.Ids.{isTransactionId}
 use Rattle.book.specs.Book.{Book, bookOf}
-use Rattle.book.specs.Refusals.{Refusal, refused, unless}
+use Rattle.refusals.specs.Refusals.{Refusal, refused, unless, orElse, short}
+use Rattle.refusals.specs.Buffers.{afterwards}
 use Rattle.volumes.specs.Quarters.{monthQuarters}
-use Rattle.volumes.specs.Settlement.{rowWidth, rows, rowCount, orElse, bookRefusal}
+use Rattle.volumes.specs.Settlement.{rowWidth, rows, rowCount, bookRefusal}
 use Rattle.volumes.specs.Sheets.{parties, sheet}
 use Rattle.volumes.specs.Series.{Kind}
 use Rattle.message.specs.Valid.{isMoment}
-use Rattle.message.specs.Calls.{kindNumbered}
-unfoldable pub use Rattle.message.specs.Calls.{over}
+use Rattle.kinds.specs.Numbers.{kindNumbered}
 unfoldable pub use Rattle.sheets.specs.Parties.{stands}
 use Rattle.reports.specs.FileRows.{fileText}
 use Rattle.reports.specs.Roles.{receivers}
@@ -24,11 +24,6 @@ use Rattle.reports.specs.declared.SheetAnswer.{SheetAnswer}
 use Rattle.reports.specs.declared.SheetAnswer.the-variants.{Sheet, Refused as SheetRefused}
 use Rattle.reports.specs.declared.FileAnswer.{FileAnswer}
 use Rattle.reports.specs.declared.FileAnswer.the-variants.{File, Refused as FileRefused}
-
--- "A refusal changes no buffer; an acceptance changes only the places of its answer."
-unfoldable pub afterwards : {A : Type 0} → Option Refusal → List A → List A → List A
-afterwards none new old = over new old
-afterwards (some r) new old = old
 
 -- ---- a party's sheet
 
@@ -62,7 +57,7 @@ textOf book (some kind) receiver id moment = fileText book kind receiver id mome
 -- "Of two short buffers item 0 is named.": the rows, then the file
 unfoldable pub shortRefusal : ℕ → ℕ → ℕ → ℕ → Option Refusal
 shortRefusal rowNumbers rowsLent fileLength fileLent =
-    unless (leb rowNumbers rowsLent) 10 (cond (leb fileLength fileLent) none (refused 10 1))
+    unless (leb rowNumbers rowsLent) 10 (short 1 fileLength fileLent)
 
 -- "12 for the kind, 11, 12 for ID or moment, 10"
 unfoldable pub askedRefusal : Book → Option Kind → ℕ → List ℕ → List ℕ → ℕ → ℕ → Option Refusal

@@ -12,19 +12,20 @@ use Rattle.integers.specs.Counts.{times, mem-times, times-mem}
 use Rattle.integers.specs.Tests.{both}
 use Rattle.moments.specs.Ids.{isTransactionId}
 use Rattle.book.specs.Book.{Book, bookOf}
-use Rattle.book.specs.Refusals.{Refusal, unless}
+use Rattle.refusals.specs.Refusals.{Refusal, unless, orElse}
 use Rattle.volumes.specs.Quarters.{monthQuarters}
-use Rattle.volumes.specs.Settlement.{rowWidth, rowCount, orElse, bookRefusal}
-use Rattle.volumes.specs.SoundLaws.{never, not-refused}
+use Rattle.volumes.specs.Settlement.{rowWidth, rowCount, bookRefusal}
+use Rattle.refusals.specs.RefusalsLaws.{never, not-refused, not-later}
 use Rattle.volumes.specs.Sheets.{parties}
 use Rattle.volumes.specs.Series.{Kind, Toe01, Toe02, Toe03}
 use Rattle.message.specs.Valid.{isMoment}
-use Rattle.message.specs.CallsLaws.{kind-numbered}
-pub use Rattle.message.specs.CallsLaws.{over-first}
-use Rattle.message.specs.Calls.{kindNumbered, kindNumber}
+use Rattle.kinds.specs.NumbersLaws.{kind-numbered}
+use Rattle.kinds.specs.Numbers.{kindNumbered, kindNumber}
 use Rattle.reports.specs.FileRows.{fileText}
 use Rattle.reports.specs.Roles.{receivers}
-use Rattle.reports.specs.Calls.{stands, afterwards, sheetRefusal, sheetSays, sheetAnswer, textOf, shortRefusal, askedRefusal, fileRefusal, fileSays, fileAnswer}
+use Rattle.refusals.specs.Buffers.{afterwards}
+use Rattle.refusals.specs.BuffersLaws.{over-first}
+use Rattle.reports.specs.Calls.{stands, sheetRefusal, sheetSays, sheetAnswer, textOf, shortRefusal, askedRefusal, fileRefusal, fileSays, fileAnswer}
 use Rattle.reports.specs.declared.SheetAnswer.the-variants.{Sheet}
 use Rattle.reports.specs.declared.FileAnswer.the-variants.{File}
 use Rattle.reports.specs.Demand3.{isSheet, isFile, written}
@@ -36,12 +37,6 @@ stands-mem x l e = times-mem x l (leb-true 1 (times x l) e)
 pub mem-stands : (x : ℕ) (l : List ℕ) → List·Memᴰ x l → stands x l ≡ true
 unfolding stands
 mem-stands x l m = le-leb 1 (times x l) (mem-times x l m)
-
--- a refusal that did not come
-later-none : (first later : Option Refusal) → orElse first later ≡ none → later ≡ none
-unfolding orElse
-later-none none later e = e
-later-none (some r) later e = absurd (never (r .number) e)
 
 -- ---- the sheet call
 
@@ -59,7 +54,7 @@ unfolding sheetRefusal
 sheet-party bytes party lent e =
     let long = unless (leb (monthQuarters (bookOf bytes .calendar)) lent) 10 none in
     let s = stands party (parties (bookOf bytes)) in
-    stands-mem party (parties (bookOf bytes)) (not-refused s 11 long (later-none (bookRefusal bytes) (unless s 11 long) e) .0)
+    stands-mem party (parties (bookOf bytes)) (not-refused s 11 long (not-later (bookRefusal bytes) (unless s 11 long) e) .0)
 
 pub sheet-answered : (bytes : List ℕ) (party lent : ℕ) → bookRefusal bytes ≡ none → List·Memᴰ party (parties (bookOf bytes)) → monthQuarters (bookOf bytes .calendar) ≤ lent → sheetAnswer bytes party lent ≡ Sheet (monthQuarters (bookOf bytes .calendar))
 unfolding sheetAnswer sheetRefusal sheetSays orElse
@@ -78,7 +73,7 @@ unfolding fileAnswer fileRefusal askedRefusal
 kind-asked bytes n receiver id moment rowsLent fileLent e k =
     let asked : Option Kind → Option Refusal = λ o. askedRefusal (bookOf bytes) o receiver id moment rowsLent fileLent in
     let passed = file-says-none (orElse (bookRefusal bytes) (asked (kindNumbered n))) (rowCount (bookOf bytes)) (length (textOf (bookOf bytes) (kindNumbered n) receiver id moment)) e in
-    never 12 (sym (ap asked k) ∙ later-none (bookRefusal bytes) (asked (kindNumbered n)) passed)
+    never 12 (sym (ap asked k) ∙ not-later (bookRefusal bytes) (asked (kindNumbered n)) passed)
 
 pub kind-is : (bytes : List ℕ) (n receiver : ℕ) (id moment : List ℕ) (rowsLent fileLent : ℕ) → isFile (fileAnswer bytes n receiver id moment rowsLent fileLent) ≡ true → (kind : Kind) × (n ≡ kindNumber kind)
 kind-is bytes zero receiver id moment rowsLent fileLent e = absurd (kind-asked bytes zero receiver id moment rowsLent fileLent e refl)
@@ -113,7 +108,7 @@ module _ (bytes : List ℕ) (kind : Kind) (receiver : ℕ) (id moment : List ℕ
   file-in-form e =
       let asked = askedRefusal (bookOf bytes) (kindNumbered (kindNumber kind)) receiver id moment rowsLent fileLent in
       in-form (bookOf bytes) kind receiver id moment rowsLent fileLent
-      (ap (λ k. askedRefusal (bookOf bytes) k receiver id moment rowsLent fileLent) (sym (kind-numbered kind)) ∙ later-none (bookRefusal bytes) asked (file-not-refused e))
+      (ap (λ k. askedRefusal (bookOf bytes) k receiver id moment rowsLent fileLent) (sym (kind-numbered kind)) ∙ not-later (bookRefusal bytes) asked (file-not-refused e))
 
   -- the text that the call was asked for
   asked-text : textOf (bookOf bytes) (kindNumbered (kindNumber kind)) receiver id moment ≡ fileText (bookOf bytes) kind receiver id moment

@@ -23,7 +23,7 @@ use Rattle.volumes.specs.Series.{Kind, Toe01, Toe02, grainsAt, seriesOf}
 use Rattle.message.specs.Valid.{isMoment}
 use Rattle.message.specs.Rows.{Row, Message}
 use Rattle.message.specs.Messages.{readMessage}
-use Rattle.message.specs.Calls.{kindNumber}
+use Rattle.kinds.specs.Numbers.{kindNumber}
 use Rattle.reports.specs.FileRows.{supplyNumber, deliveryNumber, fileText, messageOf}
 use Rattle.reports.specs.Roles.{receivers}
 use Rattle.reports.specs.Watts.{wattsIn, directedIn, totalIn}

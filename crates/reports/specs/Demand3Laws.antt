@@ -28,7 +28,7 @@ use Rattle.volumes.specs.SoundLaws.{sound}
 use Rattle.integers.specs.Ranges.{getD-map-range}
 use Rattle.message.specs.Rows.{Row}
 use Rattle.message.specs.Messages.{readMessage}
-use Rattle.message.specs.Calls.{kindNumbered, kindNumber}
+use Rattle.kinds.specs.Numbers.{kindNumbered, kindNumber}
 use Rattle.reports.specs.FileRows.{supplyNumber, deliveryNumber, fileText, fileRows, messageOf}
 use Rattle.reports.specs.Roles.{receivers}
 use Rattle.reports.specs.Watts.{wattsIn, directedIn, totalIn}
@@ -38,8 +38,10 @@ use Rattle.reports.specs.TotalsLaws.{directed-totals, totals}
 use Rattle.reports.specs.Registered.{Registered}
 use Rattle.reports.specs.RegisteredLaws.{registered}
 use Rattle.reports.specs.ReadLaws.{file-read}
-use Rattle.reports.specs.Calls.{over, afterwards, sheetRefusal, textOf, fileRefusal, fileAnswer}
-use Rattle.reports.specs.CallsLaws.{over-first, sheet-not-refused, sheet-party, sheet-answered, kind-is, InForm, file-in-form, file-written, file-answered}
+use Rattle.refusals.specs.Buffers.{over, afterwards}
+use Rattle.reports.specs.Calls.{sheetRefusal, textOf, fileRefusal, fileAnswer}
+use Rattle.refusals.specs.BuffersLaws.{over-first}
+use Rattle.reports.specs.CallsLaws.{sheet-not-refused, sheet-party, sheet-answered, kind-is, InForm, file-in-form, file-written, file-answered}
 use Rattle.reports.specs.Demand3.{SheetCall, FileCall, isSheet, isFile, filled, wrote, sumAt, written, rowsRead, carried, filledFor, wroteFor, Whole, Agreed, Answered, Demand3}
 
 -- ---- a sheet that was filled

@@ -34,7 +34,8 @@ use Rattle.book.specs.Book.{Book, bookOf}
 use Rattle.volumes.specs.Quarters.{quarterHours, start, referenceQuarter, reference, position, monthQuarters}
 use Rattle.volumes.specs.Ranking.{insert, ranked}
 use Rattle.volumes.specs.Baseline.{pointOf, watts, known, complete, mean, ownReading, dayReading, dayReadings, dayWindow, windowed, allowed, eligible, before, eligibleDays, latest, daySum, taken, high, baselineBy, baseline}
-use Rattle.volumes.specs.Settlement.{neededBy, needed, tooFew, refusalNumber, rowRefusal, refusalFrom, settlementRefusal, limited, deliveredBy, delivered, orElse, bookRefusal}
+use Rattle.refusals.specs.Refusals.{orElse}
+use Rattle.volumes.specs.Settlement.{neededBy, needed, tooFew, refusalNumber, rowRefusal, refusalFrom, settlementRefusal, limited, deliveredBy, delivered, bookRefusal}
 use Rattle.volumes.specs.Sheets.{covers, quarterAt}
 use Rattle.volumes.specs.Series.{Kind, Toe01, Toe02, Toe03, takes, receiverOf, partnerOf, sameSupply, sameDirection, isPoint, isEngagement, grainsOf, grainsAt, seriesWatts, seriesOf}
 use Rattle.reports.specs.Small.{Carries}

@@ -20,10 +20,11 @@ use Rattle.volumes.specs.Settlement.{rowWidth, rows, rowCount, Accepted}
 use Rattle.volumes.specs.Sheets.{parties, sheet}
 use Rattle.volumes.specs.Series.{Kind, Toe01, Toe02, Toe03}
 use Rattle.message.specs.Valid.{isMoment}
-use Rattle.message.specs.Calls.{kindNumbered, kindNumber}
+use Rattle.kinds.specs.Numbers.{kindNumbered, kindNumber}
 use Rattle.reports.specs.FileRows.{fileText}
 use Rattle.reports.specs.Roles.{receivers}
-use Rattle.reports.specs.Calls.{afterwards, sheetRefusal, sheetAnswer, textOf, fileRefusal, fileAnswer}
+use Rattle.refusals.specs.Buffers.{afterwards}
+use Rattle.reports.specs.Calls.{sheetRefusal, sheetAnswer, textOf, fileRefusal, fileAnswer}
 use Rattle.reports.specs.Demand3.{SheetCall, FileCall, isSheet, isFile, filled, wrote, filledFor, wroteFor, Answered, Calls, Possible}
 use Rattle.reports.specs.Demand3Laws.{demand-3}
 

@@ -31,7 +31,8 @@ use Rattle.book.specs.Judged.{clockChangeIn, rowsRefusal, sectionsRefusal, refu
 use Rattle.book.specs.Book.{Book, bookOf}
 use Rattle.volumes.specs.Quarters.{quarterHours, start, position, monthQuarters}
 use Rattle.volumes.specs.Baseline.{pointOf, watts, known, complete, readingBefore, ownReading, lastReading, baselineBy, baseline}
-use Rattle.volumes.specs.Settlement.{neededBy, needed, tooFew, refusalNumber, rowRefusal, refusalFrom, settlementRefusal, limited, deliveredBy, delivered, rowWidth, rowCount, orElse, bookRefusal, Accepted}
+use Rattle.refusals.specs.Refusals.{orElse}
+use Rattle.volumes.specs.Settlement.{neededBy, needed, tooFew, refusalNumber, rowRefusal, refusalFrom, settlementRefusal, limited, deliveredBy, delivered, rowWidth, rowCount, bookRefusal, Accepted}
 use Rattle.volumes.specs.SettlementLaws.{settling-long}
 use Rattle.volumes.specs.Sheets.{covers, quarterAt}
 use Rattle.volumes.specs.Series.{Kind, Toe01, takes, receiverOf, partnerOf, sameSupply, sameDirection, isPoint, isEngagement, grainsOf, grainsAt, seriesWatts, seriesOf}

@@ -1,6 +1,5 @@
 -- The line that asks for a file (document 01, "The file").
 use mathlib.Core.Path.{refl}
-use mathlib.Core.Bool.{Bool}
 use mathlib.Core.List.{List}
 use Prim.Native.Nat.{ℕ, _+_}
 use lib.ListN.{length}
@@ -9,15 +8,11 @@ use Rattle.formats.specs.Format.{Res, got, bad, Format}
 use Rattle.formats.specs.Combine.{post, seq, only}
 use Rattle.formats.specs.Exactly.{exactly, fixedDigits}
 use Rattle.formats.specs.Name.{nameByte, name}
-use Rattle.moments.specs.Moments.{within}
+use Rattle.kinds.specs.Numbers.{isKind}
 use Rattle.message.specs.Valid.{isMoment}
 use Rattle.requests.specs.declared.Asked.{Asked}
 use Rattle.requests.specs.declared.Request.{Request}
 use Rattle.requests.specs.declared.Request.the-variants.{Line, NoLine}
-
--- "kind 01 to 03"
-abbrev pub isKind : ℕ → Bool
-isKind n = within 1 n 3
 
 -- kind, receiver, ID and moment
 abbrev pub Words : Type 0

@@ -3,11 +3,9 @@ use mathlib.Core.Path.{_≡_, refl, sym, ap, _∙_}
 use mathlib.Core.Bool.{true, false}
 use mathlib.Core.List.{List, _++_, append-assoc}
 use Prim.Native.Nat.{ℕ, _+_, _-_, _≤_}
-use lib.Dec.{leb}
 use lib.ListN.{length, take, drop, length-append, length-drop}
 use lib.Seq.{take-at, drop-at}
 use native.Mathlib.Omega.{arith}
-use borrow.Author.Tests.{leb-true}
 use Rattle.text.specs.Ascii.{bytes}
 use Rattle.text.specs.Decimal.{fixed}
 use Rattle.text.specs.DecimalLaws.{length-fixed}
@@ -21,11 +19,12 @@ use Rattle.formats.specs.Place.{Parsed, left}
 use Rattle.formats.specs.PlaceLaws.{parsed}
 use Rattle.formats.specs.declared.Mark.{Mark}
 use Rattle.formats.specs.declared.Mark.the-variants.{At, No}
-use Rattle.moments.specs.MomentsLaws.{and-both}
 use Rattle.message.specs.Valid.{isMoment}
 use Rattle.requests.specs.declared.Asked.{Asked}
 use Rattle.requests.specs.declared.Request.the-variants.{Line, NoLine}
-use Rattle.requests.specs.Line.{isKind, Words, line, asked, requestBy, requestOf}
+use Rattle.kinds.specs.Numbers.{isKind}
+use Rattle.kinds.specs.NumbersLaws.{kind-most}
+use Rattle.requests.specs.Line.{Words, line, asked, requestBy, requestOf}
 
 -- ---- a kind
 
@@ -66,7 +65,7 @@ line-length w ok = simp (length-append, length-fixed) (omega (arith, ok .1 .1 .1
 
 kind-small : (w : Words) → line .Ok w → w .0 ≤ 3
 unfolding line
-kind-small w ok = leb-true (w .0) 3 (and-both (leb 1 (w .0)) (leb (w .0) 3) (ok .0 .1) .1)
+kind-small w ok = kind-most (w .0) (ok .0 .1)
 
 -- where the line at the front of s ends, if q is the place behind it
 pub record Ended (s : List ℕ) (q : ℕ) (w : Words) : Type 0 where
@@ -155,17 +154,17 @@ placed s w rest e =
     }
 
 -- the words that a line's places are of, and what stands behind the line
-pub record Found (s : List ℕ) (a : Asked) : Type 0 where
+pub record FoundLine (s : List ℕ) (a : Asked) : Type 0 where
   pub words : Words
   pub rest : List ℕ
   pub parsed : line .parse s ≡ got words rest
   pub is : a ≡ asked words
 
-pub found : (s : List ℕ) (a : Asked) → Line a ≡ requestOf s → Found s a
+pub found : (s : List ℕ) (a : Asked) → Line a ≡ requestOf s → FoundLine s a
 unfolding requestOf
 found s a e = go (line .parse s) refl e
   where
-    go : (r : Res Words) → line .parse s ≡ r → Line a ≡ requestBy r → Found s a
+    go : (r : Res Words) → line .parse s ≡ r → Line a ≡ requestBy r → FoundLine s a
     go (got w rest) p e = record { words = w; rest = rest; parsed = p; is = cc }
     go bad p e = let z : _≡_ {A = ℕ} 0 1 = cc in absurd (omega arith)
 

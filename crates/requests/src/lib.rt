@@ -1,11 +1,13 @@
 // The line that asks for a file: where its parts stand, and where the book starts.
 use formats::Mark;
 use formats::Val;
+use kinds::Numbered;
 ghost use mathlib.Core.Path.{_≡_};
 ghost use Rattle.formats.specs.Combine.{onlyParse};
 ghost use Rattle.formats.specs.Exactly.{fixedDigits};
 ghost use Rattle.formats.specs.Place.{Within, Parsed};
-ghost use Rattle.requests.specs.Line.{isKind, requestOf};
+ghost use Rattle.kinds.specs.Numbers.{isKind};
+ghost use Rattle.requests.specs.Line.{requestOf};
 ghost use Rattle.requests.specs.LineLaws.{Lined};
 
 // What a line asks for: the file's kind and receiver, where ID and moment stand, and where the book starts.
@@ -29,20 +31,14 @@ fn kind(s: &[u8], m: Mark) -> Val
     ensures { λ r. ⌜ Parsed (onlyParse isKind (fixedDigits 2 .parse)) (now (s .entry)) m (r .next) (r .value) ⌝ }
 {
     let v = formats::fixed(s, m, 2);
-    let n = v.value;
-    if n < 1 {
-        return Val {
-            value: n,
+    let numbered = kinds::kind_numbered(v.value);
+    match numbered {
+        Numbered::Of(_) => v,
+        Numbered::Unknown => Val {
+            value: v.value,
             next: Mark::No,
-        };
+        },
     }
-    if 3 < n {
-        return Val {
-            value: n,
-            next: Mark::No,
-        };
-    }
-    v
 }
 
 // Kind and receiver of a line, and the place behind it.

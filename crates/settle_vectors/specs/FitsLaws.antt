@@ -1,6 +1,5 @@
 -- A settling call that is not refused answers no more rows than it was lent.
 use mathlib.Core.Path.{_≡_, refl, subst}
-use mathlib.Core.Bool.{Bool, true, false}
 use mathlib.Core.List.{List}
 use mathlib.Core.Option.{Option, none, some}
 use Prim.Native.Nat.{ℕ, _*_, _≤_}
@@ -9,28 +8,27 @@ use lib.Dec.{leb}
 use lib.ListN.{length}
 use borrow.Author.Tests.{leb-true}
 use native.Mathlib.Omega.{arith}
-use Rattle.book.specs.Refusals.{Refusal, unless}
+use Rattle.refusals.specs.Refusals.{Refusal}
+use Rattle.refusals.specs.RefusalsLaws.{not-refused, not-later}
 use Rattle.book.specs.Book.{bookOf}
-use Rattle.volumes.specs.Settlement.{rowWidth, rowCount, orElse, bookRefusal, settlingRefusal}
-use Rattle.settlement.specs.Settling.{SettleCall, answerBy}
+use Rattle.volumes.specs.Settlement.{rowWidth, rowCount, bookRefusal, settlingRefusal}
+use Rattle.settlement.specs.Calls.{settleSays, settleAnswer, SettleCalled}
 use Rattle.settlement.specs.declared.settle.Settled.{Settled}
 use Rattle.settlement.specs.declared.settle.Settled.the-variants.{Rows}
 use Rattle.settle_vectors.specs.Fits.{Fits}
 
 -- refusal 10 is where the rows are too short, so without a refusal they are long enough
 room : (bytes : List ℕ) (lent : ℕ) → settlingRefusal bytes lent ≡ none → rowWidth * rowCount (bookOf bytes) ≤ lent
-unfolding settlingRefusal orElse
-room bytes lent h = go (bookRefusal bytes) (leb (rowWidth * rowCount (bookOf bytes)) lent) refl h
-  where
-    go : (r : Option Refusal) (long : Bool) → leb (rowWidth * rowCount (bookOf bytes)) lent ≡ long → orElse r (unless long 10 none) ≡ none → rowWidth * rowCount (bookOf bytes) ≤ lent
-    go none true e h = leb-true (rowWidth * rowCount (bookOf bytes)) lent e
-    go none false e h = let z : _≡_ {A = ℕ} 0 1 = cc in absurd (omega arith)
-    go (some r) long e h = let z : _≡_ {A = ℕ} 0 1 = cc in absurd (omega arith)
+unfolding settlingRefusal
+room bytes lent h =
+    let n = rowWidth * rowCount (bookOf bytes) in
+    leb-true n lent (not-refused (leb n lent) 10 none (not-later (bookRefusal bytes) _ h) .0)
 
-pub fits : (bytes : List ℕ) (lent left : List ℤ) (answer : Settled) (n : ℕ) → SettleCall bytes lent answer left → length lent ≤ n → Fits answer n
-fits bytes lent left answer n call h = rw (call .answered) (go (settlingRefusal bytes (length lent)) (room bytes (length lent)))
+pub fits : (bytes : List ℕ) (lent left : List ℤ) (answer : Settled) (n : ℕ) → SettleCalled bytes lent left answer → length lent ≤ n → Fits answer n
+unfolding settleAnswer settleSays
+fits bytes lent left answer n call h = rw (call .answer) (go (settlingRefusal bytes (length lent)) (room bytes (length lent)))
   where
-    go : (r : Option Refusal) → (r ≡ none → rowWidth * rowCount (bookOf bytes) ≤ length lent) → Fits (answerBy r (rowCount (bookOf bytes))) n
+    go : (r : Option Refusal) → (r ≡ none → rowWidth * rowCount (bookOf bytes) ≤ length lent) → Fits (settleSays r (rowCount (bookOf bytes))) n
     go none k = omega (arith, k refl)
     go (some r) k = tt
 

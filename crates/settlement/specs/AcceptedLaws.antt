@@ -6,25 +6,30 @@ use Prim.Native.Nat.{ℕ, _*_, _≤_}
 use lib.IntN.{ℤ}
 use lib.ListN.{length}
 use native.Mathlib.Omega.{arith}
-use Rattle.book.specs.Refusals.{Refusal}
+use Rattle.refusals.specs.Refusals.{Refusal}
 use Rattle.book.specs.Book.{bookOf}
 use Rattle.volumes.specs.Settlement.{rowWidth, rowCount, bookRefusal, Accepted}
 use Rattle.volumes.specs.SettlementLaws.{settling-long, accepted}
 use Rattle.settlement.specs.declared.settle.Settled.{Settled}
-use Rattle.settlement.specs.declared.settle.Settled.the-variants.{Rows, Refused}
-use Rattle.settlement.specs.Settling.{answerBy, SettleCall}
+use Rattle.settlement.specs.declared.settle.Settled.the-variants.{Rows}
+use Rattle.settlement.specs.Calls.{settleSays, settleAnswer, SettleCalled}
 
-module _ (bytes : List ℕ) (lent left : List ℤ) (answer : Settled) (long : rowWidth * rowCount (bookOf bytes) ≤ length lent) (call : SettleCall bytes lent answer left) where
-  by-book : answer ≡ answerBy (bookRefusal bytes) (rowCount (bookOf bytes))
-  by-book = call .answered ∙ ap (λ (r : Option Refusal). answerBy r (rowCount (bookOf bytes))) (settling-long bytes (length lent) long)
+-- rows are answered where nothing is refused
+not-refused : (x : Option Refusal) (n count : ℕ) → settleSays x n ≡ Rows count → x ≡ none
+unfolding settleSays
+not-refused none n count e = refl
+not-refused (some r) n count e = let z : _≡_ {A = ℕ} 0 1 = cc in absurd (omega arith)
 
-  pub accepted-settles : Accepted bytes → answer ≡ Rows (rowCount (bookOf bytes))
-  accepted-settles a = by-book ∙ ap (λ (r : Option Refusal). answerBy r (rowCount (bookOf bytes))) (accepted bytes a)
+module _ (bytes : List ℕ) (before after : List ℤ) (r : Settled) (long : rowWidth * rowCount (bookOf bytes) ≤ length before) (call : SettleCalled bytes before after r) where
+  by-book : r ≡ settleSays (bookRefusal bytes) (rowCount (bookOf bytes))
+  unfolding settleAnswer
+  by-book = call .answer ∙ ap (λ (x : Option Refusal). settleSays x (rowCount (bookOf bytes))) (settling-long bytes (length before) long)
 
-  pub settles-accepted : (count : ℕ) → answer ≡ Rows count → Accepted bytes
+  pub accepted-settles : Accepted bytes → r ≡ Rows (rowCount (bookOf bytes))
+  unfolding settleSays
+  accepted-settles a = by-book ∙ ap (λ (x : Option Refusal). settleSays x (rowCount (bookOf bytes))) (accepted bytes a)
+
+  pub settles-accepted : (count : ℕ) → r ≡ Rows count → Accepted bytes
   unfolding Accepted
-  settles-accepted count e = settling-long bytes (rowWidth * rowCount (bookOf bytes)) (omega arith) ∙ go (bookRefusal bytes) (sym by-book ∙ e)
-    where
-      go : (r : Option Refusal) → answerBy r (rowCount (bookOf bytes)) ≡ Rows count → r ≡ none
-      go none f = refl
-      go (some r) f = let z : _≡_ {A = ℕ} 0 1 = cc in absurd (omega arith)
+  settles-accepted count e =
+      settling-long bytes (rowWidth * rowCount (bookOf bytes)) (omega arith) ∙ not-refused (bookRefusal bytes) (rowCount (bookOf bytes)) count (sym by-book ∙ e)

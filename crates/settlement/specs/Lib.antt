@@ -9,7 +9,7 @@ pub mod SectionsLaws
 pub mod EngagedLaws
 pub mod Verdicts
 pub mod VerdictsLaws
-pub mod Settling
+pub mod Calls
 pub mod PartsLaws
 pub mod SettlingLaws
 pub mod CallsLaws

@@ -1,6 +1,6 @@
 -- What judging a settlement and settling answer, in document 01's numbers and items.
 use mathlib.Core.Option.{Option, none}
-use Rattle.book.specs.Refusals.{Refusal, refused}
+use Rattle.refusals.specs.Refusals.{Refusal, refused}
 use Rattle.settlement.specs.declared.judge.Verdict.{Verdict}
 use Rattle.settlement.specs.declared.judge.Verdict.the-variants.{Passed, Refused}
 

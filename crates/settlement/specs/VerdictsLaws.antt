@@ -3,10 +3,10 @@ use mathlib.Core.Path.{_≡_}
 use mathlib.Core.List.{List}
 use mathlib.Core.Option.{none, some}
 use Prim.Native.Nat.{ℕ}
-use Rattle.book.specs.Refusals.{Refusal}
+use Rattle.refusals.specs.Refusals.{Refusal, orElse}
 use Rattle.book.specs.Judged.{refusalOf}
 use Rattle.book.specs.Book.{bookOf}
-use Rattle.volumes.specs.Settlement.{settlementRefusal, orElse, bookRefusal}
+use Rattle.volumes.specs.Settlement.{settlementRefusal, bookRefusal}
 
 pub book-refused : (bytes : List ℕ) (r : Refusal) → some r ≡ refusalOf bytes → some r ≡ bookRefusal bytes
 unfolding bookRefusal orElse

@@ -13,7 +13,7 @@ ghost use Rattle.book.specs.Judged.{refusalOf};
 ghost use Rattle.book.specs.Book.{bookOf};
 ghost use Rattle.volumes.specs.Settlement.{refusalNumber, settlementRefusal, rowWidth, rowsOf, rows, rowCount, bookRefusal};
 ghost use Rattle.settlement.specs.Sections.{engagementCountIn, rowCountIn, bookWith, Opened};
-ghost use Rattle.settlement.specs.Settling.{SettleCall};
+ghost use Rattle.settlement.specs.Calls.{SettleCalled};
 
 // The number of rows, or a refusal with its item.
 pub enum Settled {
@@ -95,7 +95,7 @@ pub fn fill_book(book: &[u8], out: &mut [i64])
 
 // Settles a book: fills its rows, or changes nothing and says why.
 pub fn settle(book: &[u8], rows: &mut [i64]) -> Settled
-    ensures { λ r. ⌜ SettleCall (now (book .entry)) (now (rows .entry)) r (now (rows .exit)) ⌝ }
+    ensures { λ r. ⌜ SettleCalled (now (book .entry)) (now (rows .entry)) (now (rows .exit)) r ⌝ }
 {
     let verdict = crate::judge::judge_settlement(book);
     if let Verdict::Refused(number, item) = verdict {

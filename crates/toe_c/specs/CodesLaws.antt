@@ -1,85 +1,101 @@
--- A reading's facts by its answer: they fill eight places, or stay; where there are fewer than eight, all stays.
-use mathlib.Core.Path.{_≡_, refl, sym, ap, _∙_}
+-- A call's record and the code of its answer are the call's at this boundary. A reading's facts fill eight places, or stay; where there are fewer than eight, all stays.
+use mathlib.Core.Path.{_≡_, refl}
 use mathlib.Core.List.{List}
 use Prim.Native.Nat.{ℕ, _^_, _≤_, _<_}
+use lib.IntN.{ℤ}
 use lib.ListN.{length}
-use lib.Seq.{sets, sets-eq}
+use lib.Seq.{sets}
 use native.Mathlib.Omega.{arith}
-use Rattle.message.specs.declared.FileFacts.{FileFacts}
 use borrow.Author.Tests.{le-leb, lt-leb}
+use Rattle.refusals.specs.Buffers.{over, afterwards}
+use Rattle.refusals.specs.BuffersLaws.{sets-over}
+use Rattle.message.specs.declared.FileFacts.{FileFacts}
 use Rattle.message.specs.declared.ReadAnswer.{ReadAnswer}
 use Rattle.message.specs.declared.ReadAnswer.the-variants.{File, Refused}
-use Rattle.message.specs.Rows.{Message}
+use Rattle.message.specs.Rows.{numbers}
 use Rattle.message.specs.Messages.{readMessage}
-use Rattle.message.specs.Calls.{Verdict, accepted, refused, over, afterwards, factsOf, readVerdict, readSays, messageNumbers, ReadCalled}
-use Rattle.toe_c.specs.Codes.{refusalCode, readCode, shortCode, factNumbers, messageFacts, withFacts, codedVerdict, ReadCoded}
-use Rattle.toe_c.specs.ToldLaws.{read-told}
+use Rattle.message.specs.Calls.{readRefusal, messageIn, readAnswer, ReadCalled}
+use Rattle.message.specs.CallsLaws.{called-refused, one-reading}
+use Rattle.message.specs.declared.WriteAnswer.{WriteAnswer}
+use Rattle.writer.specs.WriteCalls.{WriteCalled}
+use Rattle.settlement.specs.declared.settle.Settled.{Settled}
+use Rattle.settlement.specs.Calls.{SettleCalled}
+use Rattle.reports.specs.declared.SheetAnswer.{SheetAnswer}
+use Rattle.reports.specs.declared.FileAnswer.{FileAnswer}
+use Rattle.reports.specs.Calls.{SheetCalled, FileCalled}
+use Rattle.toe_c.specs.Codes.{settleReply, sheetReply, fileReply, readReply, writeReply, refusalCode, codeOf, SettleCoded, SheetCoded, FileCoded, WriteCoded, factNumbers, withFacts, rowsBy, factsBy, ReadCoded}
+use Rattle.toe_c.specs.SmallLaws.{settle-small, sheet-small, file-small, write-small, read-small, facts-small}
+use Rattle.toe_c.specs.ToldLaws.{told-by, settle-few, sheet-few, file-answer-few, write-few, read-few, facts-few}
+
+pub settle-coded : {bytes : List ℕ} {before after : List ℤ} {r : Settled} (code : ℕ) → SettleCalled bytes before after r → code ≡ codeOf (settleReply r) → SettleCoded bytes before after code
+settle-coded {r = r} code s e = record { answer = r; called = s; coded = e; told = told-by (settleReply r) code e (settle-small s) (settle-few s) }
+
+pub sheet-coded : {bytes : List ℕ} {party : ℕ} {before after : List ℤ} {r : SheetAnswer} (code : ℕ) → SheetCalled bytes party before after r → code ≡ codeOf (sheetReply r) → SheetCoded bytes party before after code
+sheet-coded {r = r} code s e = record { answer = r; called = s; coded = e; told = told-by (sheetReply r) code e (sheet-small s) (sheet-few s) }
+
+pub file-coded : {bytes : List ℕ} {kind receiver : ℕ} {id moment : List ℕ} {rowsBefore rowsAfter : List ℤ} {before after : List ℕ} {r : FileAnswer} (code : ℕ) → FileCalled bytes kind receiver id moment rowsBefore rowsAfter before after r
+    → code ≡ codeOf (fileReply r) → FileCoded bytes kind receiver id moment rowsBefore rowsAfter before after code
+file-coded {r = r} code f e = record { answer = r; called = f; coded = e; told = told-by (fileReply r) code e (file-small f) (file-answer-few f) }
+
+pub write-coded : {kind receiver year month : ℕ} {rows id moment before after : List ℕ} {r : WriteAnswer} (code : ℕ) → WriteCalled kind receiver year month rows id moment before after r → code ≡ codeOf (writeReply r)
+    → WriteCoded kind receiver year month rows id moment before after code
+write-coded {r = r} code w e = record { answer = r; called = w; coded = e; told = λ h. told-by (writeReply r) code e (write-small w) (write-few w h) }
+
+-- ---- reading
 
 -- eight stores
 pub facts-over : (f : FileFacts) (before : List ℕ) → 8 ≤ length before → sets before 0 (factNumbers f) ≡ over (factNumbers f) before
-unfolding over factNumbers
-facts-over f before h = sets-eq (factNumbers f) before 0 h
+unfolding factNumbers
+facts-over f before h = sets-over (factNumbers f) before h
 
 -- room for eight
-long-facts : (v : Verdict Message) (lent : ℕ) → 8 ≤ lent → withFacts v lent ≡ v
+enough : (lent : ℕ) (r : ReadAnswer) → 8 ≤ lent → withFacts lent r ≡ r
 unfolding withFacts
-long-facts (accepted m) lent h = rw (le-leb 8 lent h)
-long-facts (refused number item) lent h = refl
+enough lent (File f) h = rw (le-leb 8 lent h)
+enough lent (Refused number item) h = refl
 
-facts-read : (v : Verdict Message) (f : FileFacts) (before : List ℕ) → File f ≡ readSays v → over (factNumbers f) before ≡ afterwards messageFacts v before
-unfolding readSays afterwards
-facts-read (accepted m) f before h = let g : f ≡ factsOf m = cc in ap (λ (x : FileFacts). over (factNumbers x) before) g
-facts-read (refused number item) f before h = let z : _≡_ {A = ℕ} 0 1 = cc in absurd (omega arith)
+-- fewer are as good as none
+too-few : (lent : ℕ) (r : ReadAnswer) → lent < 8 → withFacts lent r ≡ withFacts 0 r
+unfolding withFacts
+too-few lent (File f) h = rw (lt-leb 8 lent h)
+too-few lent (Refused number item) h = refl
 
-facts-kept : (v : Verdict Message) (number item : ℕ) (before : List ℕ) → Refused number item ≡ readSays v → before ≡ afterwards messageFacts v before
-unfolding readSays afterwards
-facts-kept (accepted m) number item before h = let z : _≡_ {A = ℕ} 0 1 = cc in absurd (omega arith)
-facts-kept (refused n i) number item before h = refl
+-- with none nothing changes
+rows-kept : (r : ReadAnswer) (filled before : List ℕ) → before ≡ rowsBy (withFacts 0 r) filled before
+unfolding withFacts
+rows-kept (File f) filled before = refl
+rows-kept (Refused number item) filled before = refl
 
--- the three equations, of the verdict that the facts leave as it is
-coded : {file rowsBefore rowsAfter factsBefore factsAfter : List ℕ} {code : ℕ} → length file < 2 ^ 64 → 8 ≤ length factsBefore
-    → code ≡ readCode (readSays (readVerdict (readMessage file) (length rowsBefore)))
-    → rowsAfter ≡ afterwards messageNumbers (readVerdict (readMessage file) (length rowsBefore)) rowsBefore
-    → factsAfter ≡ afterwards messageFacts (readVerdict (readMessage file) (length rowsBefore)) factsBefore
-    → ReadCoded file rowsBefore rowsAfter factsBefore factsAfter code
-coded {file} {rowsBefore} {rowsAfter} {factsBefore} {factsAfter} {code} fits h a r f =
-    let e = sym (long-facts (readVerdict (readMessage file) (length rowsBefore)) (length factsBefore) h) in
-    let answer : code ≡ readCode (readSays (codedVerdict file (length rowsBefore) (length factsBefore))) = a ∙ ap (λ (v : Verdict Message). readCode (readSays v)) e in
-    record {
-      answered = answer;
-      rows = r ∙ ap (λ (v : Verdict Message). afterwards messageNumbers v rowsBefore) e;
-      facts = f ∙ ap (λ (v : Verdict Message). afterwards messageFacts v factsBefore) e;
-      told = read-told file (length rowsBefore) (length factsBefore) code fits answer;
-    }
+facts-kept : (r : ReadAnswer) (before : List ℕ) → before ≡ factsBy (withFacts 0 r) before
+unfolding withFacts
+facts-kept (File f) before = refl
+facts-kept (Refused number item) before = refl
+
+-- a reading, by its own record and what is done with its answer
+module _ (file rowsBefore factsBefore : List ℕ) (r : ReadAnswer) (filled : List ℕ) (fits : length file < 2 ^ 64) (called : ReadCalled file rowsBefore filled r) where
+  coded : (rowsAfter factsAfter : List ℕ) (code : ℕ) → rowsAfter ≡ rowsBy (withFacts (length factsBefore) r) filled rowsBefore → factsAfter ≡ factsBy (withFacts (length factsBefore) r) factsBefore
+      → code ≡ codeOf (readReply (withFacts (length factsBefore) r)) → ReadCoded file rowsBefore rowsAfter factsBefore factsAfter code
+  coded rowsAfter factsAfter code e f g =
+      let lent = length factsBefore in
+      let small = facts-small lent r (read-small file (length rowsBefore) (called .answer)) in
+      let few = facts-few lent r (read-few file (length rowsBefore) fits (called .answer)) in
+      record { answer = r; filled = filled; called = called; rows = e; facts = f; coded = g; told = told-by (readReply (withFacts lent r)) code g small few }
 
 module _ (file rowsBefore rowsAfter factsBefore : List ℕ) (fits : length file < 2 ^ 64) (long : 8 ≤ length factsBefore) where
   pub read-accepted : (f : FileFacts) → ReadCalled file rowsBefore rowsAfter (File f) → ReadCoded file rowsBefore rowsAfter factsBefore (over (factNumbers f) factsBefore) (f .rows)
-  read-accepted f c = coded fits long (ap readCode (c .answer)) (c .rows) (facts-read (readVerdict (readMessage file) (length rowsBefore)) f factsBefore (c .answer))
+  read-accepted f c =
+      let e = enough (length factsBefore) (File f) long in
+      coded file rowsBefore factsBefore (File f) rowsAfter fits c rowsAfter (over (factNumbers f) factsBefore) (f .rows) (rw e) (rw e) (rw e)
 
   pub read-refused : (number item : ℕ) → ReadCalled file rowsBefore rowsAfter (Refused number item) → ReadCoded file rowsBefore rowsAfter factsBefore factsBefore (refusalCode number item)
   read-refused number item c =
-      coded fits long (ap readCode (c .answer)) (c .rows) (facts-kept (readVerdict (readMessage file) (length rowsBefore)) number item factsBefore (c .answer))
+      let k = one-reading c (called-refused file rowsBefore number item (c .answer)) .1 in
+      let e = enough (length factsBefore) (Refused number item) long in
+      coded file rowsBefore factsBefore (Refused number item) rowsAfter fits c rowsAfter factsBefore (refusalCode number item) (rw e k) (rw e) (rw e)
 
--- ---- fewer than eight
-
-short-code : (v : Verdict Message) (lent : ℕ) → lent < 8 → shortCode (readSays v) ≡ readCode (readSays (withFacts v lent))
-unfolding withFacts readSays
-short-code (accepted m) lent h = rw (lt-leb 8 lent h)
-short-code (refused number item) lent h = refl
-
-short-kept : (answer : Message → List ℕ) (v : Verdict Message) (lent : ℕ) (before : List ℕ) → lent < 8 → before ≡ afterwards answer (withFacts v lent) before
-unfolding withFacts afterwards
-short-kept answer (accepted m) lent before h = rw (lt-leb 8 lent h)
-short-kept answer (refused number item) lent before h = refl
-
-pub read-short : (file rows facts : List ℕ) (answer : ReadAnswer) → length file < 2 ^ 64 → length facts < 8 → answer ≡ readSays (readVerdict (readMessage file) (length rows))
-    → ReadCoded file rows rows facts facts (shortCode answer)
-read-short file rows facts answer fits h e =
-    let v = readVerdict (readMessage file) (length rows) in
-    let said : shortCode answer ≡ readCode (readSays (codedVerdict file (length rows) (length facts))) = ap shortCode e ∙ short-code v (length facts) h in
-    record {
-      answered = said;
-      rows = short-kept messageNumbers v (length facts) rows h;
-      facts = short-kept messageFacts v (length facts) facts h;
-      told = read-told file (length rows) (length facts) (shortCode answer) fits said;
-    }
+pub read-short : (file rows facts : List ℕ) (r : ReadAnswer) (code : ℕ) → length file < 2 ^ 64 → length facts < 8 → r ≡ readAnswer file (length rows) → code ≡ codeOf (readReply (withFacts 0 r))
+    → ReadCoded file rows rows facts facts code
+read-short file rows facts r code fits h e g =
+    let filled = afterwards (readRefusal (readMessage file) (length rows)) (numbers (messageIn (readMessage file) .rows)) rows in
+    let s = too-few (length facts) r h in
+    coded file rows facts r filled fits (record { answer = e; rows = refl }) rows facts code (rw s (rows-kept r filled rows)) (rw s (facts-kept r facts)) (rw s g)

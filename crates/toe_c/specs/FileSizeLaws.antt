@@ -24,13 +24,14 @@ use Rattle.book.specs.declared.Direction.{Direction}
 use Rattle.book.specs.declared.Direction.the-variants.{Up, Down}
 use Rattle.book.specs.declared.Point.{Point}
 use Rattle.book.specs.declared.Engagement.{Engagement}
-use Rattle.book.specs.Refusals.{Refusal}
+use Rattle.refusals.specs.Refusals.{Refusal}
 use Rattle.book.specs.Book.{Book, bookOf}
 use Rattle.volumes.specs.Quarters.{monthQuarters}
 use Rattle.volumes.specs.Baseline.{pointOf}
-use Rattle.volumes.specs.Settlement.{delivered, rowCount, orElse, bookRefusal}
+use Rattle.volumes.specs.Settlement.{delivered, rowCount, bookRefusal}
 use Rattle.volumes.specs.Sound.{Sound}
-use Rattle.volumes.specs.SoundLaws.{never, sound}
+use Rattle.refusals.specs.RefusalsLaws.{not-first}
+use Rattle.volumes.specs.SoundLaws.{sound}
 use Rattle.volumes.specs.Sheets.{startPosition, covers, quarterAt}
 use Rattle.volumes.specs.Series.{Kind, takes, receiverOf, partnerOf, Series, sameSupply, sameDirection, isPoint, isEngagement, grainsOf, grainsAt, seriesWatts, seriesOf}
 use Rattle.volumes.specs.SettlementLaws.{passing}
@@ -48,8 +49,8 @@ use Rattle.series.specs.VolumesLaws.{volumes-most}
 use Rattle.reports.specs.Calls.{textOf, fileRefusal, fileSays, fileAnswer}
 use Rattle.reports.specs.CallsLaws.{kind-is, InForm, file-in-form}
 use Rattle.reports.specs.Demand3.{isFile}
-use Rattle.message.specs.Calls.{kindNumbered, kindNumber}
-use Rattle.message.specs.CallsLaws.{kind-numbered}
+use Rattle.kinds.specs.Numbers.{kindNumbered, kindNumber}
+use Rattle.kinds.specs.NumbersLaws.{kind-numbered}
 use Rattle.toe_c.specs.FileSize.{fileMost}
 
 -- ---- sums
@@ -236,11 +237,6 @@ module _ (book : Book) (kind : Kind) (receiver : ℕ) where
 
 -- ---- and its bytes
 
-pub first-none : (first later : Option Refusal) → orElse first later ≡ none → first ≡ none
-unfolding orElse
-first-none none later e = refl
-first-none (some r) later e = absurd (never (r .number) e)
-
 file-answered : (x : Option Refusal) (m n : ℕ) → x ≡ none → isFile (fileSays x m n) ≡ true
 unfolding isFile fileSays
 file-answered x m n e = rw e
@@ -268,7 +264,7 @@ module _ (bytes : List ℕ) (number receiver : ℕ) (id moment : List ℕ) (rows
   few-of : (kind : Kind) → number ≡ kindNumber kind → fileRefusal bytes number receiver id moment rowsLent fileLent ≡ none → length (textOf (bookOf bytes) (kindNumbered number) receiver id moment) ≤ fileMost
   unfolding fileRefusal fileAnswer textOf
   few-of kind k e =
-      let b = first-none (bookRefusal bytes) _ e in
+      let b = not-first (bookRefusal bytes) _ e in
       let e′ : fileRefusal bytes (kindNumber kind) receiver id moment rowsLent fileLent ≡ none = rw (← k) e in
       let f = file-in-form bytes kind receiver id moment rowsLent fileLent (file-answered (fileRefusal bytes (kindNumber kind) receiver id moment rowsLent fileLent) _ _ e′) in
       rw (k, kind-numbered kind) (file-fits bytes kind receiver id moment b f)

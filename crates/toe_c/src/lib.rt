@@ -1,5 +1,4 @@
 // The calls as functions that C and Rust can link: each answers one number.
-use kinds::Kind;
 use message::FileFacts;
 use message::ReadAnswer;
 use message::WriteAnswer;
@@ -9,9 +8,9 @@ use settlement::settle::Settled;
 ghost use mathlib.Core.Path.{_≡_};
 ghost use Prim.Native.Nat.{_≤_};
 ghost use lib.ListN.{length};
-ghost use Rattle.message.specs.Calls.{over, kindNumber};
-ghost use Rattle.toe_c.specs.Codes.{refusalCode, settleCode, sheetCode, fileCode, shortCode, writeCode, factNumbers, SettleCoded, SheetCoded, FileCoded, ReadCoded, WriteCoded};
-ghost use Rattle.toe_c.specs.Small.{Small, SettledSmall, SheetSmall, FiledSmall, ReadSmall, WrittenSmall};
+ghost use Rattle.refusals.specs.Buffers.{over};
+ghost use Rattle.toe_c.specs.Codes.{settleReply, sheetReply, fileReply, readReply, writeReply, refusalCode, codeOf, SettleCoded, SheetCoded, FileCoded, WriteCoded, factNumbers, withFacts, ReadCoded};
+ghost use Rattle.toe_c.specs.Small.{Small, SmallReply};
 
 // A refusal as one number.
 fn refusal_code(number: u64, item: usize) -> u64
@@ -22,8 +21,8 @@ fn refusal_code(number: u64, item: usize) -> u64
 }
 
 fn settle_code(answer: Settled) -> u64
-    requires { ⌜ SettledSmall answer ⌝ }
-    ensures { λ r. ⌜ r ≡ settleCode answer ⌝ }
+    requires { ⌜ SmallReply (settleReply answer) ⌝ }
+    ensures { λ r. ⌜ r ≡ codeOf (settleReply answer) ⌝ }
 {
     match answer {
         Settled::Rows(count) => count as u64,
@@ -32,8 +31,8 @@ fn settle_code(answer: Settled) -> u64
 }
 
 fn sheet_code(answer: SheetAnswer) -> u64
-    requires { ⌜ SheetSmall answer ⌝ }
-    ensures { λ r. ⌜ r ≡ sheetCode answer ⌝ }
+    requires { ⌜ SmallReply (sheetReply answer) ⌝ }
+    ensures { λ r. ⌜ r ≡ codeOf (sheetReply answer) ⌝ }
 {
     match answer {
         SheetAnswer::Sheet(count) => count as u64,
@@ -42,8 +41,8 @@ fn sheet_code(answer: SheetAnswer) -> u64
 }
 
 fn file_code(answer: FileAnswer) -> u64
-    requires { ⌜ FiledSmall answer ⌝ }
-    ensures { λ r. ⌜ r ≡ fileCode answer ⌝ }
+    requires { ⌜ SmallReply (fileReply answer) ⌝ }
+    ensures { λ r. ⌜ r ≡ codeOf (fileReply answer) ⌝ }
 {
     match answer {
         FileAnswer::File(_, count) => count as u64,
@@ -52,8 +51,8 @@ fn file_code(answer: FileAnswer) -> u64
 }
 
 fn write_code(answer: WriteAnswer) -> u64
-    requires { ⌜ WrittenSmall answer ⌝ }
-    ensures { λ r. ⌜ r ≡ writeCode answer ⌝ }
+    requires { ⌜ SmallReply (writeReply answer) ⌝ }
+    ensures { λ r. ⌜ r ≡ codeOf (writeReply answer) ⌝ }
 {
     match answer {
         WriteAnswer::Bytes(count) => count as u64,
@@ -64,7 +63,7 @@ fn write_code(answer: WriteAnswer) -> u64
 // Settles a book into rows; answers how many.
 #[no_mangle]
 pub extern "C" fn toe_settle(book: &[u8], rows: &mut [i64]) -> u64
-    ensures { λ r. ⌜ SettleCoded (now (book .entry)) (now (rows .entry)) r (now (rows .exit)) ⌝ }
+    ensures { λ r. ⌜ SettleCoded (now (book .entry)) (now (rows .entry)) (now (rows .exit)) r ⌝ }
 {
     settle_code(settlement::settle::settle(book, rows))
 }
@@ -93,23 +92,13 @@ pub extern "C" fn toe_file(
     file_code(filing::file::file(book, kind, receiver, id, moment, rows, file))
 }
 
-fn kind_number(kind: Kind) -> u64
-    ensures { λ r. ⌜ r ≡ kindNumber kind ⌝ }
-{
-    match kind {
-        Kind::Toe01 => 1,
-        Kind::Toe02 => 2,
-        Kind::Toe03 => 3,
-    }
-}
-
 // Kind, receiver, year and month of a file, and where its ID and its moment stand.
 fn put_facts(f: FileFacts, facts: &mut [u64])
     requires { ⌜ 8 ≤ length (now facts) ⌝ }
     ensures { λ r. ⌜ now (facts .exit) ≡ over (factNumbers f) (now (facts .entry)) ⌝ }
 {
     let kind = f.kind;
-    facts[0] = kind_number(kind);
+    facts[0] = kinds::kind_number(kind);
     facts[1] = f.receiver;
     facts[2] = f.year;
     facts[3] = f.month;
@@ -121,8 +110,8 @@ fn put_facts(f: FileFacts, facts: &mut [u64])
 
 // What a reading answers that is lent fewer than eight facts: 13 and 10 with item 0 come first.
 fn short_facts(answer: ReadAnswer) -> u64
-    requires { ⌜ ReadSmall answer ⌝ }
-    ensures { λ r. ⌜ r ≡ shortCode answer ⌝ }
+    requires { ⌜ SmallReply (readReply answer) ⌝ }
+    ensures { λ r. ⌜ r ≡ codeOf (readReply (withFacts 0 answer)) ⌝ }
 {
     match answer {
         ReadAnswer::File(_) => refusal_code(10, 1),

@@ -21,7 +21,7 @@ use Rattle.book.specs.declared.Calendar.{Calendar}
 use Rattle.book.specs.declared.Point.{Point}
 use Rattle.book.specs.declared.Engagement.{Engagement}
 use Rattle.book.specs.Calendars.{quarters}
-use Rattle.book.specs.Refusals.{refused}
+use Rattle.refusals.specs.Refusals.{refused}
 use Rattle.book.specs.Book.{Book}
 use Rattle.volumes.specs.Baseline.{mean, ownWindow, dayWindow, latest, daySum, taken, high, addend, baseline}
 use Rattle.volumes.specs.Settlement.{settlementRefusal, delivered, fspCorrection, rows}

@@ -16,7 +16,7 @@ use Rattle.book.specs.declared.Direction.{Direction}
 use Rattle.book.specs.declared.Direction.the-variants.{Up, Down}
 use Rattle.book.specs.declared.Point.{Point}
 use Rattle.book.specs.declared.Engagement.{Engagement}
-use Rattle.book.specs.Refusals.{Refusal, refused, unless}
+use Rattle.refusals.specs.Refusals.{Refusal, refused, unless, orElse}
 use Rattle.book.specs.Book.{Book, bookOf}
 use Rattle.book.specs.Judged.{refusalOf}
 use Rattle.volumes.specs.Quarters.{quarterHours}
@@ -108,11 +108,6 @@ rows book = flatMap (rowsOf book) (book .engagements)
 -- "the number of rows"
 unfoldable pub rowCount : Book → ℕ
 rowCount book = sumOf (λ e. e .count) (book .engagements)
-
--- what comes first counts
-unfoldable pub orElse : Option Refusal → Option Refusal → Option Refusal
-orElse none later = later
-orElse (some refusal) later = some refusal
 
 -- refusals 1 to 9 of a book's bytes: "1 to 7; then by engagement, 8 before 9"
 unfoldable pub bookRefusal : List ℕ → Option Refusal

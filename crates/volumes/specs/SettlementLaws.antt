@@ -14,14 +14,15 @@ use Rattle.integers.specs.Sums.{naturals, sumBy, sumOf, sum-append}
 use Rattle.book.specs.declared.Method.{Method}
 use Rattle.book.specs.declared.Method.the-variants.{LastQuarter, HighXOfY, Adjusted}
 use Rattle.book.specs.declared.Engagement.{Engagement}
-use Rattle.book.specs.Refusals.{Refusal}
+use Rattle.refusals.specs.Refusals.{Refusal, orElse}
+use Rattle.refusals.specs.RefusalsLaws.{not-first, not-later, else-none}
 use Rattle.book.specs.Book.{Book, bookOf}
 use Rattle.book.specs.Judged.{refusalOf}
 use Rattle.volumes.specs.Quarters.{quarterHours}
 use Rattle.volumes.specs.QuartersLaws.{range-next, flatMap-append, length-flatMap}
 use Rattle.volumes.specs.Baseline.{pointOf, complete, eligibleDays, taken, xOf, yOf}
 use Rattle.volumes.specs.BaselineLaws.{taken-length}
-use Rattle.volumes.specs.Settlement.{needed, tooFew, refusalNumber, rowRefusal, refusalFrom, settlementRefusal, corrections, rowWidth, row, rowsOf, rows, rowCount, orElse, bookRefusal, settlingRefusal, Accepted}
+use Rattle.volumes.specs.Settlement.{needed, tooFew, refusalNumber, rowRefusal, refusalFrom, settlementRefusal, corrections, rowWidth, row, rowsOf, rows, rowCount, bookRefusal, settlingRefusal, Accepted}
 
 -- an engagement that is not refused
 pub record Settles (book : Book) (e : Engagement) : Type 0 where
@@ -108,11 +109,7 @@ row-next book e k = ap (flatMap (row book e)) (range-next 0 k ∙ ap (λ n. rang
 -- with a buffer that is long enough refusals 1 to 9 decide
 pub settling-long : (bytes : List ℕ) (lent : ℕ) → rowWidth * rowCount (bookOf bytes) ≤ lent → settlingRefusal bytes lent ≡ bookRefusal bytes
 unfolding settlingRefusal orElse
-settling-long bytes lent h = rw (le-leb (rowWidth * rowCount (bookOf bytes)) lent h) (go (bookRefusal bytes))
-  where
-    go : (r : Option Refusal) → orElse r none ≡ r
-    go none = refl
-    go (some r) = refl
+settling-long bytes lent h = rw (le-leb (rowWidth * rowCount (bookOf bytes)) lent h) (else-none (bookRefusal bytes))
 
 pub accepted : (bytes : List ℕ) → Accepted bytes → bookRefusal bytes ≡ none
 unfolding Accepted
@@ -124,9 +121,7 @@ pub record Passing (bytes : List ℕ) : Type 0 where
   pub settled : settlementRefusal (bookOf bytes) ≡ none
 
 pub passing : (bytes : List ℕ) → bookRefusal bytes ≡ none → Passing bytes
-unfolding bookRefusal orElse
-passing bytes e = go (refusalOf bytes) refl e
-  where
-    go : (r : Option Refusal) → refusalOf bytes ≡ r → orElse r (settlementRefusal (bookOf bytes)) ≡ none → Passing bytes
-    go none p e = record { passed = p; settled = e }
-    go (some r) p e = let z : _≡_ {A = ℕ} 0 1 = cc in absurd (omega arith)
+unfolding bookRefusal
+passing bytes e =
+    let later = settlementRefusal (bookOf bytes) in
+    record { passed = not-first (refusalOf bytes) later e; settled = not-later (refusalOf bytes) later e }

@@ -28,25 +28,14 @@ use Rattle.book.specs.Register.{pointAt, registerRow, deliveryIn, accessIn, sup
 use Rattle.book.specs.Metering.{readingGood, badReading, pointOfReading, firstBadReading}
 use Rattle.book.specs.declared.Calendar.{Calendar}
 use Rattle.book.specs.Engagements.{engagementOf, engagementAt, engagementRow, pointIn, dayIn, firstIn, countIn, directionIn, noticeIn, requestedIn, placeGood, termsGood, outOfOrder, badEngagement}
-use Rattle.book.specs.Refusals.{Refusal, refused, unless, unlessFound}
+use Rattle.refusals.specs.Refusals.{unless, unlessFound}
+use Rattle.refusals.specs.RefusalsLaws.{not-refused, not-found}
 use Rattle.book.specs.Judged.{clockChangeIn, rowsRefusal, sectionsRefusal, refusalOf}
 use Rattle.book.specs.Book.{bookOf}
 use Rattle.book.specs.declared.Point.{Point}
 use Rattle.book.specs.declared.Engagement.{Engagement}
 use Rattle.volumes.specs.Baseline.{watts}
 use Rattle.volumes.specs.Sound.{Bounded, Paired, Limited, Placed, OnTerms, Sound}
-
--- what a refusal that did not come says of its test, and of what came later
-pub never : {item : ℕ} (number : ℕ) → refused number item ≡ none → ⊥
-never number e = let z : _≡_ {A = ℕ} 0 1 = cc in omega arith
-
-pub not-refused : (test : Bool) (number : ℕ) (later : Option Refusal) → unless test number later ≡ none → (test ≡ true) × (later ≡ none)
-not-refused true number later e = (refl, e)
-not-refused false number later e = absurd (never number e)
-
-not-found : (found : Option ℕ) (number : ℕ) (later : Option Refusal) → unlessFound found number later ≡ none → (found ≡ none) × (later ≡ none)
-not-found none number later e = (refl, e)
-not-found (some i) number later e = absurd (never number e)
 
 -- a search that found nothing: the test names none
 pub first-none : (test : ℕ → Bool) (a n : ℕ) → first test a n ≡ none → (i : ℕ) → a ≤ i → i < a + n → test i ≡ false

@@ -10,7 +10,7 @@ use Rattle.message.specs.Valid.{periods, firstOf}
 use Rattle.message.specs.Rows.{numbers, message}
 use Rattle.message.specs.CaseF.{series, caseF, text}
 use Rattle.message.specs.CaseFRead.{rowNumbersF, filled, valid-message, message-bytes}
-use Rattle.message.specs.Calls.{over}
+use Rattle.refusals.specs.Buffers.{over}
 use Rattle.writer.specs.WriteCalls.{WriteCalled}
 use Rattle.writer.specs.RoundTripLaws.{message-written}
 

@@ -8,7 +8,8 @@ use Rattle.message.specs.declared.ReadAnswer.{ReadAnswer}
 use Rattle.message.specs.declared.ReadAnswer.the-variants.{File, Refused}
 use Rattle.message.specs.declared.WriteAnswer.{WriteAnswer}
 use Rattle.message.specs.declared.WriteAnswer.the-variants.{Bytes, Refused as WriteRefused}
-use Rattle.message.specs.Calls.{kindNumber, ReadCalled}
+use Rattle.kinds.specs.Numbers.{kindNumber}
+use Rattle.message.specs.Calls.{ReadCalled}
 use Rattle.writer.specs.WriteCalls.{WriteCalled}
 
 -- ID and moment, where a reading names them in the file; a moment has 29 bytes

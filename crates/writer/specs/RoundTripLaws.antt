@@ -3,7 +3,7 @@ use mathlib.Core.Path.{_≡_, refl, sym, ap, _∙_, subst}
 use mathlib.Core.Bool.{true, _&&_}
 use mathlib.Core.List.{List, []}
 use mathlib.Core.Option.{some}
-use Prim.Native.Nat.{ℕ, zero, suc, _*_, _^_, _≤_}
+use Prim.Native.Nat.{ℕ, _*_, _^_, _≤_}
 use lib.Dec.{ltb}
 use lib.ListN.{length, take, drop}
 use native.Mathlib.Omega.{arith}
@@ -12,7 +12,6 @@ use Rattle.formats.specs.Format.{got}
 use Rattle.formats.specs.FormatLaws.{got-bad}
 use Rattle.text.specs.DecimalLaws.{true-false}
 use Rattle.kinds.specs.declared.Kind.{Kind}
-use Rattle.kinds.specs.declared.Kind.the-variants.{Toe01, Toe02, Toe03}
 use Rattle.message.specs.declared.FileFacts.{FileFacts}
 use Rattle.message.specs.declared.ReadAnswer.{ReadAnswer}
 use Rattle.message.specs.declared.WriteAnswer.{WriteAnswer}
@@ -22,21 +21,17 @@ use Rattle.message.specs.Rows.{numbers, rowsIn, inSixes, Message, contents, IsM
 use Rattle.message.specs.SixesLaws.{numbers-rows, length-numbers, rows-numbers, numbers-sixes}
 use Rattle.message.specs.Messages.{messageBytes, readMessage}
 use Rattle.message.specs.FileLaws.{written-is-read, read-is-written}
-use Rattle.message.specs.Calls.{over, kindNumbered, kindNumber, idPlace, momentPlace, factsOf, ReadCalled}
-use Rattle.message.specs.CallsLaws.{kind-numbered, over-first, called-file, Accepted, accepted-is, refused-is, one-reading, id-stands, moment-stands}
+use Rattle.refusals.specs.Buffers.{over}
+use Rattle.kinds.specs.Numbers.{kindNumbered, kindNumber}
+use Rattle.message.specs.Calls.{idPlace, momentPlace, factsOf, ReadCalled}
+use Rattle.kinds.specs.NumbersLaws.{kind-numbered, number-kind}
+use Rattle.refusals.specs.BuffersLaws.{over-first}
+use Rattle.message.specs.CallsLaws.{called-file, ReadAccepted, accepted-is, refused-is, one-reading, id-stands, moment-stands}
 use Rattle.writer.specs.WriterRows.{isRows, ofMonth, rowsMessage}
 use Rattle.writer.specs.WriterRowsLaws.{rows-message, message-rows}
 use Rattle.writer.specs.WriteCalls.{WriteCalled}
 use Rattle.writer.specs.WriteCallsLaws.{WriteAccepted, write-accepted, wrote-file, refused-rows, one-write}
 use Rattle.writer.specs.RoundTrip.{idIn, momentIn, GivesBack, NoRows, RoundTrip}
-
--- a number's kind has that number
-number-kind : (n : ℕ) (k : Kind) → kindNumbered n ≡ some k → kindNumber k ≡ n
-number-kind zero k e = let z : _≡_ {A = ℕ} 0 1 = cc in absurd (omega arith)
-number-kind (suc zero) k e = let z : Toe01 ≡ k = cc in sym (ap kindNumber z)
-number-kind (suc (suc zero)) k e = let z : Toe02 ≡ k = cc in sym (ap kindNumber z)
-number-kind (suc (suc (suc zero))) k e = let z : Toe03 ≡ k = cc in sym (ap kindNumber z)
-number-kind (suc (suc (suc (suc n)))) k e = let z : _≡_ {A = ℕ} 0 1 = cc in absurd (omega arith)
 
 in-sixes : (k : Kind) (receiver year month : ℕ) (l : List ℕ) → isRows k receiver year month l ≡ true → inSixes l ≡ true
 unfolding isRows
@@ -116,7 +111,7 @@ module _ (m : Message) (ok : IsMessage m) where
       let d = one-write c (message-written before h) in
       (d .0, ap (take (length (messageBytes m))) (d .1) ∙ over-first (messageBytes m) before (length (messageBytes m)) refl)
 
-module _ (file lent filled : List ℕ) (facts : FileFacts) (a : Accepted file lent filled facts) where
+module _ (file lent filled : List ℕ) (facts : FileFacts) (a : ReadAccepted file lent filled facts) where
   abbrev found : Message
   found = a .message
 

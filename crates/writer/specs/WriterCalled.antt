@@ -10,8 +10,9 @@ use Rattle.kinds.specs.declared.Kind.{Kind}
 use Rattle.message.specs.declared.WriteAnswer.the-variants.{Bytes, Refused}
 use Rattle.message.specs.Valid.{isMoment}
 use Rattle.message.specs.Messages.{messageBytes}
-use Rattle.message.specs.Calls.{over, kindNumber}
-use Rattle.message.specs.CallsLaws.{kind-numbered}
+use Rattle.refusals.specs.Buffers.{over}
+use Rattle.kinds.specs.Numbers.{kindNumber}
+use Rattle.kinds.specs.NumbersLaws.{kind-numbered}
 use Rattle.writer.specs.WriterRows.{isRows, rowsMessage}
 use Rattle.emitter.specs.Laid.{Laid, laid-over, laid-no-room}
 use Rattle.writer.specs.WriteCalls.{WriteCalled}

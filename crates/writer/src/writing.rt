@@ -13,8 +13,9 @@ use emitter::parts::emit_series_end;
 use emitter::parts::emit_series_head;
 use formats::Mark;
 use kinds::Kind;
+use kinds::Numbered;
 use message::WriteAnswer;
-use moments::Judged;
+use moments::MomentRead;
 ghost use mathlib.Core.Path.{_≡_};
 ghost use mathlib.Core.Bool.{true, _&&_};
 ghost use mathlib.Core.List.{flatMap};
@@ -24,7 +25,7 @@ ghost use Rattle.moments.specs.Ids.{isTransactionId};
 ghost use Rattle.message.specs.Valid.{isMoment};
 ghost use Rattle.message.specs.Bytes.{observationBytes, seriesBytes, partnerBytes};
 ghost use Rattle.message.specs.Messages.{messageBytes};
-ghost use Rattle.message.specs.Calls.{kindNumber};
+ghost use Rattle.kinds.specs.Numbers.{kindNumber};
 ghost use Rattle.writer.specs.WriterRows.{isRows, rowsMessage};
 ghost use Rattle.writer.specs.WriteCalls.{WriteCalled};
 ghost use Rattle.writer.specs.WriterContents.{observationsIn, seriesAt, seriesIn, partnerAt, partnersIn, Writable};
@@ -177,8 +178,8 @@ pub fn in_form(id: &[u8], moment: &[u8]) -> bool
     }
     let judged = moments::read_moment(moment);
     match judged {
-        Judged::Real(_) => true,
-        Judged::Malformed => false,
+        MomentRead::Real(_) => true,
+        MomentRead::Malformed => false,
     }
 }
 
@@ -262,10 +263,9 @@ pub fn write(
 ) -> WriteAnswer
     ensures { λ r. ⌜ WriteCalled kind receiver year month (now (rows .entry)) (now (id .entry)) (now (moment .entry)) (now (file .entry)) (now (file .exit)) r ⌝ }
 {
-    match kind {
-        1 => write_kind(Kind::Toe01, receiver, year, month, rows, id, moment, file),
-        2 => write_kind(Kind::Toe02, receiver, year, month, rows, id, moment, file),
-        3 => write_kind(Kind::Toe03, receiver, year, month, rows, id, moment, file),
-        _ => WriteAnswer::Refused(12, 0),
-    }
+    let numbered = kinds::kind_numbered(kind as u64);
+    let Numbered::Of(known) = numbered else {
+        return WriteAnswer::Refused(12, 0);
+    };
+    write_kind(known, receiver, year, month, rows, id, moment, file)
 }

@@ -3,9 +3,9 @@ use mathlib.Core.Bool.{true}
 use mathlib.Core.Path.{_≡_, refl, sym}
 use denote.Ref.{now}
 use borrow.Author.Tests.{not-true, not-false}
-use Rattle.moments.specs.Moments.{real, parts, momentOf, pickJudged}
+use Rattle.moments.specs.Moments.{real, parts, momentOf, pickRead}
 use Rattle.moments.specs.MomentsLaws.{not-length, not-real, by-form, form-is}
-use Rattle.moments.specs.declared.Judged.the-variants.{Real}
+use Rattle.moments.specs.declared.MomentRead.the-variants.{Real}
 use borrow.Author.Needs.{needs}
 use Rattle.moments.proofs.read_moment.Statement.{statement}
 use Rattle.moments.proofs.read_moment.Tie as tie
@@ -40,7 +40,7 @@ matches-requires : tie.Need-matches-requires
 matches-requires c κs = search needs
 
 -- where the moment is real, what is left to judge is the form
-judged : (c : tie.After-matches) → momentOf (now (c .before .before .before .before .before .before .before .before .before .before .args .s)) ≡ pickJudged (c .matches .result) (Real (c .before .before .before .before .before .before .before .parts-of .result))
+judged : (c : tie.After-matches) → momentOf (now (c .before .before .before .before .before .before .before .before .before .before .args .s)) ≡ pickRead (c .matches .result) (Real (c .before .before .before .before .before .before .before .parts-of .result))
 judged c =
     let written = c .before .before .before in
     let tested = written .before .before .before in

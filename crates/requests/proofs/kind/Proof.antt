@@ -1,5 +1,6 @@
--- A kind is a number of two digits from 1 to 3.
-use borrow.Author.Tests.{le-leb, lt-leb}
+-- A kind is a number of two digits that is a kind's.
+use mathlib.Core.Path.{sym, ap, _∙_}
+use Rattle.kinds.specs.Numbers.{kindIn, isThere}
 use Rattle.requests.specs.LineLaws.{kind-is, kind-none}
 use borrow.Author.Needs.{needs}
 use Rattle.requests.proofs.kind.Statement.{statement}
@@ -8,23 +9,26 @@ use Rattle.requests.proofs.kind.Tie as tie
 fixed-requires : tie.Need-fixed-requires
 fixed-requires c κs = search needs
 
+kind-numbered-requires : tie.Need-kind-numbered-requires
+kind-numbered-requires c κs = search needs
+
+enum-told : tie.Need-enum-told
+enum-told c = search needs
+
+enum-told-2 : tie.Need-enum-told-2
+enum-told-2 c = search needs
+
 returns : tie.Need-returns
 returns c =
-    let a = c .before .before .before .args in
-    let v = c .before .fixed in
-    kind-none (a .s .now) (a .m) (v .result .next) (v .result .value) (v .ensures) (rw (lt-leb 1 (v .result .value) (c .if1 .taken)))
+    let k = c .before .before in
+    kind-is _ _ _ _ (k .before .fixed .ensures) (ap isThere (sym (k .kind-numbered .ensures) ∙ ap kindIn (c .enum-told .given .1)))
 
 returns-2 : tie.Need-returns-2
 returns-2 c =
-    let a = c .before .before .before .before .args in
-    let v = c .before .before .fixed in
-    kind-none (a .s .now) (a .m) (v .result .next) (v .result .value) (v .ensures) (rw (le-leb 1 (v .result .value) (c .before .if1 .left), lt-leb (v .result .value) 3 (c .if2 .taken)))
-
-returns-3 : tie.Need-returns-3
-returns-3 c =
-    let a = c .before .before .before .before .args in
-    let v = c .before .before .fixed in
-    kind-is (a .s .now) (a .m) (v .result .next) (v .result .value) (v .ensures) (rw (le-leb 1 (v .result .value) (c .before .if1 .left), le-leb (v .result .value) 3 (c .if2 .left)))
+    let k = c .before .before in
+    kind-none _ _ _ _ (k .before .fixed .ensures) (ap isThere (sym (k .kind-numbered .ensures) ∙ ap kindIn (c .enum-told2 .given .1)))
 
 pub kind-spec : {M : Type 1} → statement M
-kind-spec = tie.close (tie.spec fixed-requires returns returns-2 returns-3)
+kind-spec =
+    tie.close
+    (tie.spec fixed-requires kind-numbered-requires enum-told enum-told-2 returns returns-2)

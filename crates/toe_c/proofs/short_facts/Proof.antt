@@ -1,4 +1,5 @@
 -- Each answer by its case; a refusal is small.
+use Rattle.toe_c.specs.Codes.{withFacts}
 use borrow.Author.Needs.{needs}
 use Rattle.toe_c.proofs.short_facts.Statement.{statement}
 use Rattle.toe_c.proofs.short_facts.Tie as tie
@@ -16,9 +17,11 @@ refusal-code-requires-2 : tie.Need-refusal-code-requires-2
 refusal-code-requires-2 c κs = rw (c .before .answer .given .1) at (c .before .before .before .pre)
 
 returns : tie.Need-returns
+unfolding withFacts
 returns c = rw (c .before .enum-told .given .1) (c .refusal-code .ensures)
 
 returns-2 : tie.Need-returns-2
+unfolding withFacts
 returns-2 c = rw (c .before .before .answer .given .1) (c .refusal-code2 .ensures)
 
 pub short-facts-spec : {M : Type 1} → statement M

@@ -1,8 +1,6 @@
 -- The call's answer, as one number.
-use mathlib.Core.Path.{ap, _∙_}
-use Rattle.toe_c.specs.Codes.{fileCode}
 use Rattle.toe_c.specs.SmallLaws.{file-small}
-use Rattle.toe_c.specs.ToldLaws.{file-told}
+use Rattle.toe_c.specs.CodesLaws.{file-coded}
 use borrow.Author.Needs.{needs}
 use Rattle.toe_c.proofs.toe_file.Statement.{statement}
 use Rattle.toe_c.proofs.toe_file.Tie as tie
@@ -20,10 +18,7 @@ same-length-2 : tie.Need-same-length-2
 same-length-2 c = search needs
 
 returns : tie.Need-returns
-returns c =
-    let f = c .before .before .before .before .file .ensures in
-    let code = c .file-code .ensures ∙ ap fileCode (f .answer) in
-    record { answered = code; filled = f .rows; file = f .file; told = file-told _ _ _ _ _ _ _ _ code }
+returns c = file-coded _ (c .before .before .before .before .file .ensures) (c .file-code .ensures)
 
 pub toe-file-spec : {M : Type 1} → statement M
 toe-file-spec =

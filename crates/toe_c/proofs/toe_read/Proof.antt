@@ -1,5 +1,5 @@
 -- Fewer than eight facts leave all as it is. Else, accepted, the facts are put; refused, nothing is.
-use Rattle.toe_c.specs.SmallLaws.{judged-small, read-small}
+use Rattle.toe_c.specs.SmallLaws.{read-small}
 use Rattle.toe_c.specs.CodesLaws.{read-accepted, read-refused, read-short}
 use native.Mathlib.Omega.{arith}
 use borrow.Author.Needs.{needs}
@@ -10,12 +10,12 @@ judge-requires : tie.Need-judge-requires
 judge-requires c κs = search needs
 
 short-facts-requires : tie.Need-short-facts-requires
-short-facts-requires c κs = judged-small _ _ (c .judge .ensures)
+short-facts-requires c κs = read-small _ _ (c .judge .ensures)
 
 returns : tie.Need-returns
 returns c =
     let a = c .before .before .before .before .before .before .args in
-    rw (c .short-facts .ensures) (read-short (a .file .now) (a .rows .now) (a .facts .now) _ (omega arith) (search needs) (c .before .judge .ensures))
+    read-short (a .file .now) (a .rows .now) (a .facts .now) _ _ (omega arith) (search needs) (c .before .judge .ensures) (c .short-facts .ensures)
 
 read-requires : tie.Need-read-requires
 read-requires c κs = search needs
@@ -30,7 +30,7 @@ enum-known-answer-2 : tie.Need-enum-known-answer-2
 enum-known-answer-2 c = search needs
 
 refusal-code-requires : tie.Need-refusal-code-requires
-refusal-code-requires c κs = read-small (rw (c .before .answer2 .given .1) at (c .before .before .before .before .before .read .ensures))
+refusal-code-requires c κs = rw (c .before .answer2 .given .1) at (read-small _ _ (c .before .before .before .before .before .read .ensures .answer))
 
 same-length : tie.Need-same-length
 same-length c = search needs

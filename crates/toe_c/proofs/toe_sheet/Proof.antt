@@ -1,8 +1,6 @@
 -- The call's answer, as one number.
-use mathlib.Core.Path.{ap, _∙_}
-use Rattle.toe_c.specs.Codes.{sheetCode}
 use Rattle.toe_c.specs.SmallLaws.{sheet-small}
-use Rattle.toe_c.specs.ToldLaws.{sheet-told}
+use Rattle.toe_c.specs.CodesLaws.{sheet-coded}
 use borrow.Author.Needs.{needs}
 use Rattle.toe_c.proofs.toe_sheet.Statement.{statement}
 use Rattle.toe_c.proofs.toe_sheet.Tie as tie
@@ -17,10 +15,7 @@ same-length : tie.Need-same-length
 same-length c = search needs
 
 returns : tie.Need-returns
-returns c =
-    let s = c .before .before .sheet .ensures in
-    let code = c .sheet-code .ensures ∙ ap sheetCode (s .answer) in
-    record { answered = code; sums = s .sums; told = sheet-told _ _ _ _ code }
+returns c = sheet-coded _ (c .before .before .sheet .ensures) (c .sheet-code .ensures)
 
 pub toe-sheet-spec : {M : Type 1} → statement M
 toe-sheet-spec = tie.close (tie.spec sheet-requires sheet-code-requires same-length returns)

@@ -1,8 +1,6 @@
 -- The call's answer, as one number.
-use mathlib.Core.Path.{ap, _∙_}
-use Rattle.toe_c.specs.Codes.{writeCode}
 use Rattle.toe_c.specs.SmallLaws.{write-small}
-use Rattle.toe_c.specs.ToldLaws.{write-told}
+use Rattle.toe_c.specs.CodesLaws.{write-coded}
 use borrow.Author.Needs.{needs}
 use Rattle.toe_c.proofs.toe_write.Statement.{statement}
 use Rattle.toe_c.proofs.toe_write.Tie as tie
@@ -17,9 +15,7 @@ same-length : tie.Need-same-length
 same-length c = search needs
 
 returns : tie.Need-returns
-returns c =
-    let w = c .before .before .before .write .ensures in
-    record { answered = c .write-code .ensures ∙ ap writeCode (w .answer); file = w .file; told = write-told w (c .write-code .ensures) }
+returns c = write-coded _ (c .before .before .before .write .ensures) (c .write-code .ensures)
 
 pub toe-write-spec : {M : Type 1} → statement M
 toe-write-spec = tie.close (tie.spec write-requires write-code-requires same-length returns)

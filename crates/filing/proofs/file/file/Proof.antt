@@ -3,8 +3,7 @@ use mathlib.Core.Path.{_≡_, sym, ap, _∙_}
 use mathlib.Core.Option.{none, some}
 use Rattle.volumes.specs.Settlement.{bookRefusal}
 use Rattle.settlement.specs.Verdicts.{refusalIn}
-use Rattle.message.specs.Calls.{kindNumbered}
-use Rattle.filing.specs.Partners.{kindAsked}
+use Rattle.kinds.specs.Numbers.{kindNumbered, kindIn}
 use Rattle.filing.specs.FileCallLaws.{asked-room, call-refused, call-unknown, call-asked, call-filled}
 use borrow.Author.Needs.{needs}
 use Rattle.filing.proofs.file.file.Statement.{statement}
@@ -26,21 +25,21 @@ enum-told c = search needs
 passed : (c : tie.After-enum-told) → bookRefusal (c .before .before .before .before .before .before .before .args .book .now) ≡ none
 passed c = sym (c .before .before .judge-settlement .ensures) ∙ ap refusalIn (c .enum-told .given .1)
 
-kind-of-requires : tie.Need-kind-of-requires
-kind-of-requires c κs = search needs
+kind-numbered-requires : tie.Need-kind-numbered-requires
+kind-numbered-requires c κs = search needs
 
-enum-known-asked : tie.Need-enum-known-asked
-enum-known-asked c = search needs
+enum-known-numbered : tie.Need-enum-known-numbered
+enum-known-numbered c = search needs
 
 enum-told-2 : tie.Need-enum-told-2
 enum-told-2 c = search needs
 
 returns-2 : tie.Need-returns-2
-returns-2 c = call-unknown _ _ _ _ _ _ _ (passed (c .before .before .before)) (ap kindAsked (sym (c .enum-told2 .given .1)) ∙ c .before .before .kind-of .ensures)
+returns-2 c = call-unknown _ _ _ _ _ _ _ (passed (c .before .before .before)) (ap kindIn (sym (c .enum-told2 .given .1)) ∙ c .before .before .kind-numbered .ensures)
 
 -- it is of a kind that there is
-known : (c : tie.After-known-told2) → some (c .before .asked .given .0 .0) ≡ kindNumbered (c .before .before .before .before .before .before .before .before .before .before .before .args .kind)
-known c = ap kindAsked (sym (c .before .asked .given .1)) ∙ c .before .before .before .kind-of .ensures
+known : (c : tie.After-known-told2) → some (c .before .numbered .given .0 .0) ≡ kindNumbered (c .before .before .before .before .before .before .before .before .before .before .before .args .kind)
+known c = ap kindIn (sym (c .before .numbered .given .1)) ∙ c .before .before .before .kind-numbered .ensures
 
 judge-asked-requires : tie.Need-judge-asked-requires
 judge-asked-requires c κs = passed (c .before .before .before .before)
@@ -74,8 +73,8 @@ file-spec =
     enum-known-judged
     returns
     enum-told
-    kind-of-requires
-    enum-known-asked
+    kind-numbered-requires
+    enum-known-numbered
     enum-told-2
     returns-2
     judge-asked-requires

@@ -1,54 +1,45 @@
--- Each number has its kind; others have none.
-use borrow.Author.Needs.{needs}
-use Rattle.message.specs.CallsLaws.{no-kind}
+-- A number that is no kind's is refused; else the file is written of its kind.
+use mathlib.Core.Path.{sym, ap, _∙_}
+use Rattle.kinds.specs.Numbers.{kindIn}
+use Rattle.kinds.specs.NumbersLaws.{number-kind}
 use Rattle.writer.specs.WriteCallsLaws.{wrote-no-kind}
+use borrow.Author.Needs.{needs}
 use Rattle.writer.proofs.writing.write.Statement.{statement}
 use Rattle.writer.proofs.writing.write.Tie as tie
+
+kind-numbered-requires : tie.Need-kind-numbered-requires
+kind-numbered-requires c κs = search needs
+
+enum-known-numbered : tie.Need-enum-known-numbered
+enum-known-numbered c = search needs
+
+enum-told : tie.Need-enum-told
+enum-told c = search needs
+
+returns : tie.Need-returns
+returns c = wrote-no-kind _ _ _ _ _ _ _ _ (sym (c .before .before .kind-numbered .ensures) ∙ ap kindIn (c .enum-told .given .1))
 
 write-kind-requires : tie.Need-write-kind-requires
 write-kind-requires c κs = search needs
 
-write-kind-requires-2 : tie.Need-write-kind-requires-2
-write-kind-requires-2 c κs = search needs
-
-write-kind-requires-3 : tie.Need-write-kind-requires-3
-write-kind-requires-3 c κs = search needs
-
 same-length : tie.Need-same-length
 same-length c = search needs
 
-returns : tie.Need-returns
-returns c = rw (c .before .before .before .before .match .keys1) (c .before .before .write-kind .ensures)
-
-same-length-2 : tie.Need-same-length-2
-same-length-2 c = search needs
-
 returns-2 : tie.Need-returns-2
-returns-2 c = rw (c .before .before .before .before .match .keys2) (c .before .before .write-kind2 .ensures)
-
-same-length-3 : tie.Need-same-length-3
-same-length-3 c = search needs
-
-returns-3 : tie.Need-returns-3
-returns-3 c = rw (c .before .before .before .before .match .keys3) (c .before .before .write-kind3 .ensures)
-
-returns-4 : tie.Need-returns-4
-returns-4 c =
-    let a = c .before .before .before .before .before .args in
-    wrote-no-kind (a .kind) (a .receiver) (a .year) (a .month) (a .rows .now) (a .id .now) (a .moment .now) (a .file .now)
-    (no-kind (a .kind) (c .match .rest .0 .0 .1) (c .match .rest .0 .1) (c .match .rest .1))
+returns-2 c =
+    let k = c .before .before .before .before .before in
+    let n = k .before .before .kind-numbered in
+    let a = k .before .before .before .before .before .before .before .args in
+    rw (number-kind (a .kind) (k .numbered .given .0 .0) (sym (n .ensures) ∙ ap kindIn (k .numbered .given .1))) at (c .before .before .write-kind .ensures)
 
 pub write-spec : {M : Type 1} → statement M
 write-spec =
     tie.close
     (tie.spec
-    write-kind-requires
-    write-kind-requires-2
-    write-kind-requires-3
-    same-length
+    kind-numbered-requires
+    enum-known-numbered
+    enum-told
     returns
-    same-length-2
-    returns-2
-    same-length-3
-    returns-3
-    returns-4)
+    write-kind-requires
+    same-length
+    returns-2)

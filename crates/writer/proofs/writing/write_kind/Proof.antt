@@ -2,8 +2,8 @@
 use mathlib.Core.Path.{sym, _∙_}
 use borrow.Author.Needs.{needs}
 use borrow.Author.Tests.{not-true, not-false}
-use Rattle.message.specs.Calls.{kindNumber}
-use Rattle.message.specs.CallsLaws.{kind-numbered}
+use Rattle.kinds.specs.Numbers.{kindNumber}
+use Rattle.kinds.specs.NumbersLaws.{kind-numbered}
 use Rattle.writer.specs.WriteCallsLaws.{wrote-no-rows, wrote-malformed}
 use Rattle.writer.proofs.writing.write_kind.Statement.{statement}
 use Rattle.writer.proofs.writing.write_kind.Tie as tie

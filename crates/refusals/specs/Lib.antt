@@ -1,0 +1,4 @@
+pub mod Refusals
+pub mod RefusalsLaws
+pub mod Buffers
+pub mod BuffersLaws
