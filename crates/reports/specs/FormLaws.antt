@@ -30,7 +30,8 @@ use Rattle.book.specs.Calendars.{dayStart}
 use Rattle.book.specs.Book.{Book}
 use Rattle.volumes.specs.Quarters.{monthQuarters}
 use Rattle.volumes.specs.Sheets.{covers, quarterAt}
-use Rattle.volumes.specs.Series.{Kind, Toe01, Toe02, Toe03, receiverOf, partnerOf, Series, isEngagement, grainsOf, grainsAt, seriesWatts, seriesOf}
+use Rattle.volumes.specs.declared.Series.{Series}
+use Rattle.volumes.specs.Series.{Kind, Toe01, Toe02, Toe03, receiverOf, partnerOf, isEngagement, grainsOf, grainsAt, seriesWatts, seriesOf}
 use Rattle.volumes.specs.Sound.{Sound}
 use Rattle.volumes.specs.SoundLaws.{mem-range}
 use Rattle.volumes.specs.WidthsLaws.{most, delivered-most}

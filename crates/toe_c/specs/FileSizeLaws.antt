@@ -32,7 +32,8 @@ use Rattle.volumes.specs.Settlement.{delivered, rowCount, orElse, bookRefusal}
 use Rattle.volumes.specs.Sound.{Sound}
 use Rattle.volumes.specs.SoundLaws.{never, sound}
 use Rattle.volumes.specs.Sheets.{startPosition, covers, quarterAt}
-use Rattle.volumes.specs.Series.{Kind, takes, receiverOf, partnerOf, Series, sameSupply, sameDirection, isPoint, isEngagement, grainsOf, grainsAt, seriesWatts, seriesOf}
+use Rattle.volumes.specs.declared.Series.{Series}
+use Rattle.volumes.specs.Series.{Kind, takes, receiverOf, partnerOf, sameSupply, sameDirection, isPoint, isEngagement, grainsOf, grainsAt, seriesWatts, seriesOf}
 use Rattle.volumes.specs.SettlementLaws.{passing}
 use Rattle.message.specs.Contents.{Partner}
 use Rattle.message.specs.Valid.{IsPartner}
