@@ -16,7 +16,8 @@ use Rattle.book.specs.Book.{Book, bookOf}
 use Rattle.volumes.specs.Quarters.{monthQuarters}
 use Rattle.volumes.specs.QuartersLaws.{map-range-cong}
 use Rattle.volumes.specs.SettlementLaws.{passing}
-use Rattle.volumes.specs.Series.{Kind, Series, seriesWatts}
+use Rattle.volumes.specs.declared.Series.{Series}
+use Rattle.volumes.specs.Series.{Kind, seriesWatts}
 use Rattle.settlement.specs.SectionsLaws.{bytes-long}
 use Rattle.message.specs.Contents.{Observation}
 use Rattle.message.specs.Valid.{IsPeriod}

@@ -8,24 +8,28 @@ use Rattle.book.specs.declared.Supply.{Supply}
 use Rattle.book.specs.declared.Direction.{Direction}
 use Rattle.book.specs.Book.{Book}
 use Rattle.volumes.specs.Quarters.{monthQuarters}
+use Rattle.volumes.specs.declared.Series.{Series}
 use Rattle.volumes.specs.Series.{Kind, grainsAt, seriesOf}
 use Rattle.message.specs.Contents.{Observation}
 use Rattle.message.specs.Rows.{Row, numbers}
 use Rattle.reports.specs.FileRows.{supplyNumber, deliveryNumber, directions, Volumes, observationsBy}
 
--- rows of observations, of one partner and pair of directions
-unfoldable pub rowsBy : ℕ → ℕ × ℕ → List Observation → List Row
-rowsBy partner pair l = map (λ o. (partner, (pair, o))) l
+-- the row of a series' observation, and of several
+abbrev pub rowOf : Series → Observation → Row
+rowOf s o = (s .partner, ((supplyNumber (s .supply), deliveryNumber (s .delivery)), o))
+
+unfoldable pub rowsBy : Series → List Observation → List Row
+rowsBy s l = map (rowOf s) l
 
 -- those of a series of volumes, and of a partner's four
-unfoldable pub seriesRowsBy : Volumes → ℕ → ℕ → Supply × Direction → List Row
-seriesRowsBy volumes last partner d = rowsBy partner (supplyNumber (d .0), deliveryNumber (d .1)) (observationsBy (volumes (seriesOf partner (d .0) (d .1))) last)
+unfoldable pub seriesRowsBy : Volumes → ℕ → Series → List Row
+seriesRowsBy volumes last s = rowsBy s (observationsBy (volumes s) last)
 
 unfoldable pub partnerRowsBy : Volumes → ℕ → ℕ → List Row
-partnerRowsBy volumes last partner = flatMap (seriesRowsBy volumes last partner) directions
+partnerRowsBy volumes last partner = flatMap (λ (d : Supply × Direction). seriesRowsBy volumes last (seriesOf partner (d .0) (d .1))) directions
 
 -- and of a book's own volumes
-abbrev pub seriesRowsOf : Book → Kind → ℕ → ℕ → Supply × Direction → List Row
+abbrev pub seriesRowsOf : Book → Kind → ℕ → Series → List Row
 seriesRowsOf book kind receiver = seriesRowsBy (grainsAt book kind receiver) (monthQuarters (book .calendar))
 
 abbrev pub partnerRowsOf : Book → Kind → ℕ → ℕ → List Row

@@ -33,11 +33,12 @@ use Rattle.book.specs.declared.Direction.{Direction}
 use Rattle.book.specs.declared.Direction.the-variants.{Up, Down}
 use Rattle.book.specs.Book.{Book}
 use Rattle.volumes.specs.Quarters.{monthQuarters}
+use Rattle.volumes.specs.declared.Series.{Series}
 use Rattle.volumes.specs.Series.{Kind, grainsAt, seriesOf}
 use Rattle.volumes.specs.Sound.{Sound}
 use Rattle.volumes.specs.Settlement.{rows}
 use Rattle.settlement.specs.StoresLaws.{sets-append}
-use Rattle.message.specs.Contents.{Observation, Series as TimeSeries, Partner, number}
+use Rattle.message.specs.Contents.{Observation, TimeSeries, Partner, number}
 use Rattle.message.specs.Valid.{monthOf, periods, IsPartner, IsPeriod}
 use Rattle.message.specs.Bytes.{partnerBytes}
 use Rattle.message.specs.ObservationForm.{observed}
@@ -46,8 +47,8 @@ use Rattle.message.specs.Rows.{Row, rowNumbers, numbers, rowsFrom, seriesRows, 
 use Rattle.message.specs.RowsLaws.{partners-undo}
 use Rattle.message.specs.SixesLaws.{length-numbers}
 use Rattle.volumes.specs.QuartersLaws.{flatMap-append}
-use Rattle.writer.specs.WriterRows.{rowAt, Paired}
-use Rattle.writer.specs.WriterContents.{partnersIn, Writable}
+use Rattle.writer.specs.Rows.{rowAt, Paired}
+use Rattle.writer.specs.Contents.{partnersIn, Writable}
 use Rattle.reports.specs.FileRows.{supplyNumber, deliveryNumber, directions, partnerNumbers, observationsOf, isWritten, partnerAt, partnersOf, fileText, Volumes, observationsBy, timeSeriesBy, partnerBy, partnersBy}
 use Rattle.filing.specs.Partners.{partnerIf, partnerColumn, noPartner, Next}
 use Rattle.series.specs.Sums.{cellAt}
@@ -55,7 +56,7 @@ use Rattle.filing.specs.Observations.{observationIf, observationsIn}
 use Rattle.filing.specs.ObservationsLaws.{no-observation, one-observation, observations-none, observations-more}
 use Rattle.reports.specs.Registered.{Registered}
 use Rattle.reports.specs.FormLaws.{partners-valid}
-use Rattle.filing.specs.PartnerRows.{rowsBy, seriesRowsOf, partnerRowsOf, Filled, seriesRowsBy, partnerRowsBy}
+use Rattle.filing.specs.PartnerRows.{rowOf, rowsBy, seriesRowsOf, partnerRowsOf, Filled, seriesRowsBy, partnerRowsBy}
 
 -- ---- lists
 
@@ -102,7 +103,7 @@ partner-rows volumes q last partner =
     ∙ map-flatMap (λ a. (partner, a)) (λ g. map (λ a. (g .0, a)) (g .1)) (map seriesRows (map (timeSeriesBy volumes q last partner) directions))
     ∙ flatMap-map _ seriesRows (map (timeSeriesBy volumes q last partner) directions)
     ∙ flatMap-map _ (timeSeriesBy volumes q last partner) directions
-    ∙ flatMap-cong _ (seriesRowsBy volumes last partner) directions (λ d. map-map (λ a. (partner, a)) (λ a. ((supplyNumber (d .0), deliveryNumber (d .1)), a)) (observationsBy (volumes (seriesOf partner (d .0) (d .1))) last))
+    ∙ flatMap-cong _ (λ (d : Supply × Direction). seriesRowsBy volumes last (seriesOf partner (d .0) (d .1))) directions (λ d. map-map (λ a. (partner, a)) (λ a. ((supplyNumber (d .0), deliveryNumber (d .1)), a)) (observationsBy (volumes (seriesOf partner (d .0) (d .1))) last))
 
 -- ---- the partner of these rows is the file's
 
@@ -268,58 +269,57 @@ filled-is {a} {before} {after} {at} {next} b e f = subst (λ (r : List Row). Fil
 pub filled-length : {a : List Row} {before after : List ℕ} {at next : ℕ} → Filled a before at after next → length after ≡ length before
 filled-length {a} {before} {after} {at} {next} f = ap length (f .list) ∙ length-sets before at (numbers a)
 
-pub filled-row : (l : List ℕ) (at n u v p w : ℕ)
-    → Filled ((n, ((u, v), observed (p, w))) ∷ []) l at (set (set (set (set (set (set l at n) (at + 1) u) (at + 2) v) (at + 3) p) (at + 4) w) (at + 5) 0) (at + 6)
+pub filled-row : (l : List ℕ) (at : ℕ) (s : Series) (u v p w : ℕ) → u ≡ supplyNumber (s .supply) → v ≡ deliveryNumber (s .delivery)
+    → Filled (rowOf s (observed (p, w)) ∷ []) l at (set (set (set (set (set (set l at (s .partner)) (at + 1) u) (at + 2) v) (at + 3) p) (at + 4) w) (at + 5) 0) (at + 6)
 unfolding numbers rowNumbers flatMap
-filled-row l at n u v p w =
+filled-row l at s u v p w f g =
     let c : at + 3 ≡ suc (suc (suc at)) = omega arith in
     let d : at + 4 ≡ suc (suc (suc (suc at))) = omega arith in
     let e : at + 5 ≡ suc (suc (suc (suc (suc at)))) = omega arith in
-    record { behind = omega arith; list = rw (add-one, add-two, c, d, e) }
+    record { behind = omega arith; list = rw (f, g, add-one, add-two, c, d, e) }
 
 -- ---- the rows of a series, position by position
 
-module _ (partner : ℕ) (pair : ℕ × ℕ) where
-  pub position-none : (p watts : ℕ) → watts ≡ 0 → [] ≡ rowsBy partner pair (observationIf p watts)
+module _ (s : Series) where
+  pub position-none : (p watts : ℕ) → watts ≡ 0 → [] ≡ rowsBy s (observationIf p watts)
   unfolding rowsBy
-  position-none p watts e = sym (ap (map (λ o. (partner, (pair, o)))) (no-observation p watts e))
+  position-none p watts e = sym (ap (map (rowOf s)) (no-observation p watts e))
 
-  pub position-one : (p watts : ℕ) → 0 < watts → ((partner, (pair, observed (p, watts))) ∷ []) ≡ rowsBy partner pair (observationIf p watts)
+  pub position-one : (p watts : ℕ) → 0 < watts → (rowOf s (observed (p, watts)) ∷ []) ≡ rowsBy s (observationIf p watts)
   unfolding rowsBy
-  position-one p watts h = sym (ap (map (λ o. (partner, (pair, o)))) (one-observation p watts h))
+  position-one p watts h = sym (ap (map (rowOf s)) (one-observation p watts h))
 
-  pub positions-none : (l : List ℕ) → [] ≡ rowsBy partner pair (observationsIn l 0)
+  pub positions-none : (l : List ℕ) → [] ≡ rowsBy s (observationsIn l 0)
   unfolding rowsBy
-  positions-none l = sym (ap (map (λ o. (partner, (pair, o)))) (observations-none l))
+  positions-none l = sym (ap (map (rowOf s)) (observations-none l))
 
-  pub positions-more : (l : List ℕ) (i : ℕ) → rowsBy partner pair (observationsIn l i) ++ rowsBy partner pair (observationIf (i + 1) (getD l i 0)) ≡ rowsBy partner pair (observationsIn l (i + 1))
+  pub positions-more : (l : List ℕ) (i : ℕ) → rowsBy s (observationsIn l i) ++ rowsBy s (observationIf (i + 1) (getD l i 0)) ≡ rowsBy s (observationsIn l (i + 1))
   unfolding rowsBy
-  positions-more l i = sym (ap (map (λ o. (partner, (pair, o)))) (observations-more l i) ∙ map-append (λ o. (partner, (pair, o))) (observationsIn l i) (observationIf (i + 1) (getD l i 0)))
+  positions-more l i = sym (ap (map (rowOf s)) (observations-more l i) ∙ map-append (rowOf s) (observationsIn l i) (observationIf (i + 1) (getD l i 0)))
 
   -- one a position at most
-  pub positions-few : (l : List ℕ) (n : ℕ) → length (rowsBy partner pair (observationsIn l n)) ≤ n
+  pub positions-few : (l : List ℕ) (n : ℕ) → length (rowsBy s (observationsIn l n)) ≤ n
   unfolding rowsBy observationsIn
   positions-few l n =
       let all = map (λ p. observed (p, cellAt l p)) (range 1 n) in
-      let row : Observation → Row = λ o. (partner, (pair, o)) in
-      omega (arith, length-map (keep isWritten all) row, keep-length isWritten all, length-map (range 1 n) (λ p. observed (p, cellAt l p)), length-range 1 n)
+      omega (arith, length-map (keep isWritten all) (rowOf s), keep-length isWritten all, length-map (range 1 n) (λ p. observed (p, cellAt l p)), length-range 1 n)
 
 -- the rows of a series' own observations, and of the four series
-module _ (book : Book) (kind : Kind) (receiver partner : ℕ) where
-  pub series-rows-are : (u : Supply) (v : Direction) (supply delivery : ℕ) (l : List Observation) → supply ≡ supplyNumber u → delivery ≡ deliveryNumber v → l ≡ observationsOf book kind receiver (seriesOf partner u v)
-      → rowsBy partner (supply, delivery) l ≡ seriesRowsOf book kind receiver partner (u, v)
+module _ (book : Book) (kind : Kind) (receiver : ℕ) where
+  pub series-rows-are : (s : Series) (l : List Observation) → l ≡ observationsOf book kind receiver s → rowsBy s l ≡ seriesRowsOf book kind receiver s
   unfolding seriesRowsBy observationsOf
-  series-rows-are u v supply delivery l e f g = λ i. rowsBy partner (e i, f i) (g i)
+  series-rows-are s l e = ap (rowsBy s) e
 
-  pub partner-parts :
-      ((seriesRowsOf book kind receiver partner (OffTake, Up) ++ seriesRowsOf book kind receiver partner (OffTake, Down)) ++ seriesRowsOf book kind receiver partner (Injection, Up)) ++ seriesRowsOf book kind receiver partner (Injection, Down)
+  pub partner-parts : (partner : ℕ)
+      → ((seriesRowsOf book kind receiver (seriesOf partner OffTake Up) ++ seriesRowsOf book kind receiver (seriesOf partner OffTake Down)) ++ seriesRowsOf book kind receiver (seriesOf partner Injection Up)) ++ seriesRowsOf book kind receiver (seriesOf partner Injection Down)
       ≡ partnerRowsOf book kind receiver partner
   unfolding partnerRowsBy directions flatMap
-  partner-parts =
-      let a = seriesRowsOf book kind receiver partner (OffTake, Up) in
-      let b = seriesRowsOf book kind receiver partner (OffTake, Down) in
-      let c = seriesRowsOf book kind receiver partner (Injection, Up) in
-      let d = seriesRowsOf book kind receiver partner (Injection, Down) in
+  partner-parts partner =
+      let rows : Supply → Direction → List Row = λ u v. seriesRowsOf book kind receiver (seriesOf partner u v) in
+      let a = rows OffTake Up in
+      let b = rows OffTake Down in
+      let c = rows Injection Up in
+      let d = rows Injection Down in
       append-assoc (a ++ b) c d ∙ append-assoc a b (c ++ d) ∙ ap (λ (r : List Row). a ++ (b ++ (c ++ r))) (sym (append-nil d))
 
 -- ---- the writer can lay them
@@ -344,17 +344,18 @@ module _ (book : Book) (kind : Kind) (receiver partner : ℕ) where
   abbrev Small : Row → Type 0
   Small r = (r .1 .0 .0 < 2) × (r .1 .0 .1 < 2)
 
-  by-small : (a b : ℕ) → a < 2 → b < 2 → (l : List Observation) → All Small (rowsBy partner (a, b) l)
+  by-small : (s : Series) (l : List Observation) → All Small (rowsBy s l)
   unfolding rowsBy All
-  by-small a b h k [] = tt
-  by-small a b h k (o ∷ l) = ((h, k), by-small a b h k l)
+  by-small s [] = tt
+  by-small s (o ∷ l) = ((supply-small (s .supply), delivery-small (s .delivery)), by-small s l)
 
-  series-small : (l : List (Supply × Direction)) → All Small (flatMap (seriesRowsOf book kind receiver partner) l)
+  series-small : (l : List (Supply × Direction)) → All Small (flatMap (λ (d : Supply × Direction). seriesRowsOf book kind receiver (seriesOf partner (d .0) (d .1))) l)
   unfolding flatMap seriesRowsBy All
   series-small [] = tt
   series-small (d ∷ l) =
-      all-append Small (seriesRowsOf book kind receiver partner d) (flatMap (seriesRowsOf book kind receiver partner) l)
-      (by-small (supplyNumber (d .0)) (deliveryNumber (d .1)) (supply-small (d .0)) (delivery-small (d .1)) (observationsBy (grainsAt book kind receiver (seriesOf partner (d .0) (d .1))) (monthQuarters (book .calendar))))
+      let s = seriesOf partner (d .0) (d .1) in
+      all-append Small (seriesRowsOf book kind receiver s) (flatMap (λ (d : Supply × Direction). seriesRowsOf book kind receiver (seriesOf partner (d .0) (d .1))) l)
+      (by-small s (observationsBy (grainsAt book kind receiver s) (monthQuarters (book .calendar))))
       (series-small l)
 
   pub partner-writable : (l : List ℕ) (n year month : ℕ) → 6 * n ≤ length l → rowsFrom l 0 n ≡ partnerRowsOf book kind receiver partner → IsPeriod year month → Writable l 0 n year month

@@ -3,9 +3,9 @@ use crate::laying::measure_file;
 use crate::laying::write_measured;
 use crate::partners::in_role;
 use formats::Mark;
-use kinds::Kind;
 use kinds::Numbered;
 use reports::FileAnswer;
+use series::Role;
 use series::delivered::fill_volumes;
 use settlement::judge::Verdict;
 use settlement::judge::judge_settlement;
@@ -26,18 +26,11 @@ ghost use Rattle.reports.specs.Calls.{FileCalled};
 ghost use Rattle.filing.specs.FileCallLaws.{askedVerdict, FileFilled};
 
 // What is asked of an accepted book: a receiver in its role, an ID and a moment in form, and rows that are long enough.
-fn judge_asked(
-    book: &[u8],
-    kind: Kind,
-    receiver: u64,
-    id: &[u8],
-    moment: &[u8],
-    lent: usize,
-) -> Verdict
+fn judge_asked(book: &[u8], role: Role, id: &[u8], moment: &[u8], lent: usize) -> Verdict
     requires { ⌜ bookRefusal (now book) ≡ none ⌝ }
-    ensures { λ r. ⌜ refusalIn r ≡ askedVerdict (bookOf (now (book .entry))) kind receiver (now (id .entry)) (now (moment .entry)) lent ⌝ }
+    ensures { λ r. ⌜ refusalIn r ≡ askedVerdict (bookOf (now (book .entry))) (role .kind) (role .receiver) (now (id .entry)) (now (moment .entry)) lent ⌝ }
 {
-    if !in_role(settlement::sections::section(book, 2), kind, receiver) {
+    if !in_role(settlement::sections::section(book, 2), role) {
         return Verdict::Refused(11, 0);
     }
     if !in_form(id, moment) {
@@ -53,8 +46,7 @@ fn judge_asked(
 fn write_file(
     book: &[u8],
     volumes: &[u64],
-    kind: Kind,
-    receiver: u64,
+    role: Role,
     id: &[u8],
     moment: &[u8],
     lent: &mut [i64],
@@ -62,9 +54,9 @@ fn write_file(
     rows: &mut [u64],
 ) -> FileAnswer
     requires { ⌜ DeliveredIn (now book) (now volumes) × (rowWidth * rowCount (bookOf (now book)) ≤ length (now lent)) × (71424 ≤ length (now rows)) ⌝ }
-    ensures { λ r. ⌜ FileFilled (bookOf (now (book .entry))) (fileText (bookOf (now (book .entry))) kind receiver (now (id .entry)) (now (moment .entry))) (now (lent .entry)) (now (lent .exit)) (now (file .entry)) (now (file .exit)) r ⌝ }
+    ensures { λ r. ⌜ FileFilled (bookOf (now (book .entry))) (fileText (bookOf (now (book .entry))) (role .kind) (role .receiver) (now (id .entry)) (now (moment .entry))) (now (lent .entry)) (now (lent .exit)) (now (file .entry)) (now (file .exit)) r ⌝ }
 {
-    let t = measure_file(file, book, volumes, kind, receiver, id, moment, rows);
+    let t = measure_file(file, book, volumes, role, id, moment, rows);
     let measured = t.mark;
     let partners = t.count;
     let Mark::At(n) = measured else {
@@ -72,47 +64,26 @@ fn write_file(
     };
     let count = row_count(book);
     fill_book(book, lent);
-    write_measured(
-        file,
-        book,
-        volumes,
-        kind,
-        receiver,
-        id,
-        moment,
-        partners,
-        rows,
-    );
+    write_measured(file, book, volumes, role, id, moment, partners, rows);
     FileAnswer::File(count, n)
 }
 
 // Fills the rows and the file of an accepted book. It has 512 engagements of 96 quarter-hours at most, and a partner 4 times 2,976 rows of six numbers.
 fn fill_file(
     book: &[u8],
-    kind: Kind,
-    receiver: u64,
+    role: Role,
     id: &[u8],
     moment: &[u8],
     rows: &mut [i64],
     file: &mut [u8],
 ) -> FileAnswer
     requires { ⌜ (bookRefusal (now book) ≡ none) × (rowWidth * rowCount (bookOf (now book)) ≤ length (now rows)) ⌝ }
-    ensures { λ r. ⌜ FileFilled (bookOf (now (book .entry))) (fileText (bookOf (now (book .entry))) kind receiver (now (id .entry)) (now (moment .entry))) (now (rows .entry)) (now (rows .exit)) (now (file .entry)) (now (file .exit)) r ⌝ }
+    ensures { λ r. ⌜ FileFilled (bookOf (now (book .entry))) (fileText (bookOf (now (book .entry))) (role .kind) (role .receiver) (now (id .entry)) (now (moment .entry))) (now (rows .entry)) (now (rows .exit)) (now (file .entry)) (now (file .exit)) r ⌝ }
 {
     let mut volumes = [0u64; 49152];
     fill_volumes(book, &mut volumes);
     let mut numbers = [0u64; 71424];
-    write_file(
-        book,
-        &volumes,
-        kind,
-        receiver,
-        id,
-        moment,
-        rows,
-        file,
-        &mut numbers,
-    )
+    write_file(book, &volumes, role, id, moment, rows, file, &mut numbers)
 }
 
 // A receiver's file of a book: fills the settlement rows and the file, or changes nothing and says why.
@@ -135,9 +106,13 @@ pub fn file(
     let Numbered::Of(known) = numbered else {
         return FileAnswer::Refused(12, 0);
     };
-    let verdict = judge_asked(book, known, receiver, id, moment, rows.len());
+    let role = Role {
+        kind: known,
+        receiver,
+    };
+    let verdict = judge_asked(book, role, id, moment, rows.len());
     if let Verdict::Refused(number, item) = verdict {
         return FileAnswer::Refused(number, item);
     }
-    fill_file(book, known, receiver, id, moment, rows, file)
+    fill_file(book, role, id, moment, rows, file)
 }

@@ -2,10 +2,11 @@
 use crate::filling::fill_partner;
 use crate::partners::NO_PARTNER;
 use crate::partners::next_partner;
+use emitter::Title;
 use emitter::parts::emit_file_end;
 use emitter::parts::emit_file_head;
 use formats::Mark;
-use kinds::Kind;
+use series::Role;
 ghost use mathlib.Core.Path.{_≡_};
 ghost use mathlib.Core.Bool.{true, false, cond};
 ghost use mathlib.Core.List.{flatMap, List·Memᴰ};
@@ -42,18 +43,24 @@ pub fn emit_partner(
     m: Mark,
     book: &[u8],
     volumes: &[u64],
-    kind: Kind,
-    receiver: u64,
+    role: Role,
     partner: u64,
     rows: &mut [u64],
     live: bool,
 ) -> Counted
-    requires { ⌜ DeliveredIn (now book) (now volumes) × (71424 ≤ length (now rows)) × List·Memᴰ partner (partnerNumbers (bookOf (now book)) kind receiver) × Stands (length (now out)) m ⌝ }
-    ensures { λ r. ⌜ Laid live (now (out .entry)) m (flatMap (partnerBytes kind) (partnerIf (bookOf (now (book .entry))) kind receiver partner)) (now (out .exit)) (r .mark) × (r .count ≡ length (partnerIf (bookOf (now (book .entry))) kind receiver partner)) × (r .count ≤ 1) ⌝ }
+    requires { ⌜ DeliveredIn (now book) (now volumes) × (71424 ≤ length (now rows)) × List·Memᴰ partner (partnerNumbers (bookOf (now book)) (role .kind) (role .receiver)) × Stands (length (now out)) m ⌝ }
+    ensures { λ r. ⌜ Laid live (now (out .entry)) m (flatMap (partnerBytes (role .kind)) (partnerIf (bookOf (now (book .entry))) (role .kind) (role .receiver) partner)) (now (out .exit)) (r .mark) × (r .count ≡ length (partnerIf (bookOf (now (book .entry))) (role .kind) (role .receiver) partner)) × (r .count ≤ 1) ⌝ }
 {
     let c = book::header::calendar_of(book);
-    let end = fill_partner(book, volumes, kind, receiver, partner, rows);
-    let mark = writer::writing::emit_partners(out, m, kind, rows, end / 6, c.year, c.month, live);
+    let end = fill_partner(book, volumes, role, partner, rows);
+    let kind = role.kind;
+    let title = Title {
+        kind,
+        receiver: role.receiver,
+        year: c.year,
+        month: c.month,
+    };
+    let mark = writer::writing::emit_partners(out, m, title, rows, end / 6, live);
     let count = one(end);
     Counted { mark, count }
 }
@@ -64,25 +71,24 @@ pub fn emit_partners(
     start: Mark,
     book: &[u8],
     volumes: &[u64],
-    kind: Kind,
-    receiver: u64,
+    role: Role,
     rows: &mut [u64],
     live: bool,
 ) -> Counted
     requires { ⌜ DeliveredIn (now book) (now volumes) × (71424 ≤ length (now rows)) × Stands (length (now out)) start ⌝ }
-    ensures { λ r. ⌜ Laid live (now (out .entry)) start (flatMap (partnerBytes kind) (partnersOf (bookOf (now (book .entry))) kind receiver)) (now (out .exit)) (r .mark) × (r .count ≡ length (partnersOf (bookOf (now (book .entry))) kind receiver)) ⌝ }
+    ensures { λ r. ⌜ Laid live (now (out .entry)) start (flatMap (partnerBytes (role .kind)) (partnersOf (bookOf (now (book .entry))) (role .kind) (role .receiver))) (now (out .exit)) (r .mark) × (r .count ≡ length (partnersOf (bookOf (now (book .entry))) (role .kind) (role .receiver))) ⌝ }
 {
     let register = settlement::sections::section(book, 2);
     let mut mark = start;
     let mut count: u64 = 0;
     let mut low: u64 = 0;
-    let mut next = next_partner(register, kind, receiver, low);
+    let mut next = next_partner(register, role, low);
     while next < NO_PARTNER {
-        let t = emit_partner(out, mark, book, volumes, kind, receiver, next, rows, live);
+        let t = emit_partner(out, mark, book, volumes, role, next, rows, live);
         mark = t.mark;
         count += t.count;
         low = next + 1;
-        next = next_partner(register, kind, receiver, low);
+        next = next_partner(register, role, low);
     }
     Counted { mark, count }
 }
@@ -92,20 +98,20 @@ pub fn measure_file(
     out: &mut [u8],
     book: &[u8],
     volumes: &[u64],
-    kind: Kind,
-    receiver: u64,
+    role: Role,
     id: &[u8],
     moment: &[u8],
     rows: &mut [u64],
 ) -> Counted
     requires { ⌜ DeliveredIn (now book) (now volumes) × (71424 ≤ length (now rows)) ⌝ }
-    ensures { λ r. ⌜ Laid false (now (out .entry)) (At 0) (fileText (bookOf (now (book .entry))) kind receiver (now (id .entry)) (now (moment .entry))) (now (out .exit)) (r .mark) × (r .count ≡ length (partnersOf (bookOf (now (book .entry))) kind receiver)) ⌝ }
+    ensures { λ r. ⌜ Laid false (now (out .entry)) (At 0) (fileText (bookOf (now (book .entry))) (role .kind) (role .receiver) (now (id .entry)) (now (moment .entry))) (now (out .exit)) (r .mark) × (r .count ≡ length (partnersOf (bookOf (now (book .entry))) (role .kind) (role .receiver))) ⌝ }
 {
+    let kind = role.kind;
     let start = Mark::At(0);
-    let t = emit_partners(out, start, book, volumes, kind, receiver, rows, false);
+    let t = emit_partners(out, start, book, volumes, role, rows, false);
     let behind = t.mark;
     let count = t.count;
-    let a = emit_file_head(out, behind, kind, id, moment, receiver, count, false);
+    let a = emit_file_head(out, behind, kind, id, moment, role.receiver, count, false);
     let mark = emit_file_end(out, a, kind, false);
     Counted { mark, count }
 }
@@ -115,19 +121,19 @@ pub fn write_measured(
     out: &mut [u8],
     book: &[u8],
     volumes: &[u64],
-    kind: Kind,
-    receiver: u64,
+    role: Role,
     id: &[u8],
     moment: &[u8],
     count: u64,
     rows: &mut [u64],
 ) -> Mark
-    requires { ⌜ DeliveredIn (now book) (now volumes) × (71424 ≤ length (now rows)) × (count ≡ length (partnersOf (bookOf (now book)) kind receiver)) ⌝ }
-    ensures { λ r. ⌜ Laid true (now (out .entry)) (At 0) (fileText (bookOf (now (book .entry))) kind receiver (now (id .entry)) (now (moment .entry))) (now (out .exit)) r ⌝ }
+    requires { ⌜ DeliveredIn (now book) (now volumes) × (71424 ≤ length (now rows)) × (count ≡ length (partnersOf (bookOf (now book)) (role .kind) (role .receiver))) ⌝ }
+    ensures { λ r. ⌜ Laid true (now (out .entry)) (At 0) (fileText (bookOf (now (book .entry))) (role .kind) (role .receiver) (now (id .entry)) (now (moment .entry))) (now (out .exit)) r ⌝ }
 {
+    let kind = role.kind;
     let start = Mark::At(0);
-    let a = emit_file_head(out, start, kind, id, moment, receiver, count, true);
-    let t = emit_partners(out, a, book, volumes, kind, receiver, rows, true);
+    let a = emit_file_head(out, start, kind, id, moment, role.receiver, count, true);
+    let t = emit_partners(out, a, book, volumes, role, rows, true);
     let behind = t.mark;
     emit_file_end(out, behind, kind, true)
 }

@@ -30,11 +30,12 @@ use Rattle.book.specs.Calendars.{dayStart}
 use Rattle.book.specs.Book.{Book}
 use Rattle.volumes.specs.Quarters.{monthQuarters}
 use Rattle.volumes.specs.Sheets.{covers, quarterAt}
-use Rattle.volumes.specs.Series.{Kind, Toe01, Toe02, Toe03, receiverOf, partnerOf, Series, isEngagement, grainsOf, grainsAt, seriesWatts, seriesOf}
+use Rattle.volumes.specs.declared.Series.{Series}
+use Rattle.volumes.specs.Series.{Kind, Toe01, Toe02, Toe03, receiverOf, partnerOf, isEngagement, grainsOf, grainsAt, seriesWatts, seriesOf}
 use Rattle.volumes.specs.Sound.{Sound}
 use Rattle.volumes.specs.SoundLaws.{mem-range}
 use Rattle.volumes.specs.WidthsLaws.{most, delivered-most}
-use Rattle.message.specs.Contents.{Observation, Series as TimeSeries, Partner, place, position, number}
+use Rattle.message.specs.Contents.{Observation, TimeSeries, Partner, place, position, number}
 use Rattle.message.specs.Bytes.{digits, supplyOf}
 use Rattle.message.specs.Valid.{lastPosition, IsObservation, IsVolume, IsSeries, OneSupply, IsPartner, isMoment, monthOf, periods, firstOf, IsFile}
 use Rattle.reports.specs.FileRows.{supplyNumber, deliveryNumber, isTaken, partnerNumbers, directions, positions, observationAt, isWritten, observationsOf, timeSeries, timeSeriesOf, partnerAt, partnersOf, fileOf, observationBy, observationsBy, timeSeriesBy, partnerBy, partnersBy}

@@ -23,7 +23,8 @@ use Rattle.book.specs.Book.{Book}
 use Rattle.volumes.specs.Baseline.{noPoint, pointOf}
 use Rattle.volumes.specs.Settlement.{delivered}
 use Rattle.volumes.specs.Sheets.{covers, quarterAt}
-use Rattle.volumes.specs.Series.{Kind, takes, receiverOf, partnerOf, Series, sameSupply, sameDirection, isPoint, isEngagement, grainsOf, grainsAt, seriesWatts}
+use Rattle.volumes.specs.declared.Series.{Series}
+use Rattle.volumes.specs.Series.{Kind, takes, receiverOf, partnerOf, sameSupply, sameDirection, isPoint, isEngagement, grainsOf, grainsAt, seriesWatts}
 use Rattle.integers.specs.Ranges.{getD-mem}
 use Rattle.reports.specs.FileRows.{isTaken, partnerNumbers}
 

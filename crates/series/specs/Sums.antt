@@ -12,7 +12,8 @@ use Rattle.book.specs.Engagements.{engagementAt}
 use Rattle.book.specs.Book.{Book, bookOf}
 use Rattle.volumes.specs.Baseline.{pointOf}
 use Rattle.volumes.specs.Settlement.{bookRefusal}
-use Rattle.volumes.specs.Series.{Kind, Series, grainsOf}
+use Rattle.volumes.specs.declared.Series.{Series}
+use Rattle.volumes.specs.Series.{Kind, grainsOf}
 use Rattle.volumes.specs.Sound.{Sound}
 use Rattle.settlement.specs.Sections.{engagementCountIn, engagementsIn}
 use Rattle.series.specs.Volumes.{bookVolumes}

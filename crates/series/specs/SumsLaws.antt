@@ -30,7 +30,8 @@ use Rattle.volumes.specs.QuartersLaws.{map-range-cong, position-inside}
 use Rattle.volumes.specs.Settlement.{delivered, rows, rowCount}
 use Rattle.volumes.specs.SettlementLaws.{passing}
 use Rattle.volumes.specs.Sheets.{startPosition, covers, quarterAt}
-use Rattle.volumes.specs.Series.{Kind, Toe01, Toe02, Toe03, takenBy, Series, sameSupply, sameDirection, isEngagement, grainsOf, grainsAt, seriesWatts}
+use Rattle.volumes.specs.declared.Series.{Series}
+use Rattle.volumes.specs.Series.{Kind, Toe01, Toe02, Toe03, takenBy, sameSupply, sameDirection, isEngagement, grainsOf, grainsAt, seriesWatts}
 use Rattle.volumes.specs.Baseline.{pointOf}
 use Rattle.volumes.specs.Sound.{Placed}
 use Rattle.volumes.specs.SoundLaws.{sound}

@@ -1,4 +1,5 @@
 // The watts of a series by position, from a book's delivered volumes.
+use crate::Role;
 use book::Calendar;
 use book::Direction;
 use book::Engagement;
@@ -9,6 +10,7 @@ use grains::Grains;
 use kinds::Kind;
 use sheets::cells::first_cell;
 use sheets::cells::month_quarters;
+use volumes::Series;
 ghost use mathlib.Core.Path.{_≡_};
 ghost use mathlib.Core.Bool.{cond};
 ghost use Prim.Native.Nat.{ℕ, _+_, _*_, _^_, _≤_, _<_};
@@ -19,12 +21,11 @@ ghost use Rattle.grains.specs.Grains.{perWatt};
 ghost use Rattle.book.specs.declared.Supply.the-variants.{OffTake};
 ghost use Rattle.book.specs.declared.Direction.the-variants.{Up};
 ghost use Rattle.book.specs.declared.Takers.the-variants.{Aggregated};
-ghost use Rattle.book.specs.declared.Direction.{Direction};
 ghost use Rattle.book.specs.Register.{pointAt};
 ghost use Rattle.book.specs.Book.{Book, bookOf};
 ghost use Rattle.volumes.specs.Quarters.{monthQuarters};
 ghost use Rattle.volumes.specs.Baseline.{pointOf};
-ghost use Rattle.volumes.specs.Series.{takenBy, Told, receiverOf, partnerOf, sameSupply, sameDirection, isPoint, isEngagement, grainsAt, seriesWatts, seriesOf};
+ghost use Rattle.volumes.specs.Series.{takenBy, Told, receiverOf, partnerOf, sameSupply, sameDirection, isPoint, isEngagement, grainsAt, seriesWatts};
 ghost use Rattle.series.specs.Sums.{byPosition, cellAt, added, Addable, Parts, Parted, DeliveredIn};
 
 // Whether a kind's files are aggregated: those take transfer points, and the individual ones pass-through points.
@@ -110,33 +111,28 @@ fn same_direction(a: Direction, b: Direction) -> bool
     }
 }
 
-// A point of the series, whatever its delivery direction: taken, with the receiver, the partner and the supply direction.
-pub fn is_point(kind: Kind, receiver: u64, partner: u64, supply: Supply, point: Point) -> bool
+// A point of the series: taken, with the receiver, the partner and the supply direction.
+pub fn is_point(role: Role, s: Series, point: Point) -> bool
     requires { ⌜ Told point ⌝ }
-    ensures { λ r. ⌜ ((d : Direction) → r ≡ isPoint kind receiver (seriesOf partner supply d) point) ⌝ }
+    ensures { λ r. ⌜ r ≡ isPoint (role .kind) (role .receiver) s point ⌝ }
 {
+    let kind = role.kind;
     let takers = point.takers;
     let own = point.supply;
+    let supply = s.supply;
     takes(kind, takers)
-        & ((receiver_of(kind, point) == receiver)
-            & ((partner_of(kind, point) == partner) & same_supply(own, supply)))
+        & ((receiver_of(kind, point) == role.receiver)
+            & ((partner_of(kind, point) == s.partner) & same_supply(own, supply)))
 }
 
 // An engagement of the series: of one of its points, in its delivery direction.
-pub fn is_engagement(
-    kind: Kind,
-    receiver: u64,
-    partner: u64,
-    supply: Supply,
-    delivery: Direction,
-    point: Point,
-    e: Engagement,
-) -> bool
+pub fn is_engagement(role: Role, s: Series, point: Point, e: Engagement) -> bool
     requires { ⌜ Told point ⌝ }
-    ensures { λ r. ⌜ ((b : Book) → point ≡ pointOf b e → r ≡ isEngagement b kind receiver (seriesOf partner supply delivery) e) ⌝ }
+    ensures { λ r. ⌜ ((b : Book) → point ≡ pointOf b e → r ≡ isEngagement b (role .kind) (role .receiver) s e) ⌝ }
 {
     let direction = e.direction;
-    is_point(kind, receiver, partner, supply, point) & same_direction(direction, delivery)
+    let delivery = s.delivery;
+    is_point(role, s, point) & same_direction(direction, delivery)
 }
 
 // Adds n delivered volumes, from `at` on, to the cells from `first` on.
@@ -166,20 +162,12 @@ fn clear(cells: &mut [u64], n: usize)
 }
 
 // The rows that an engagement has in the series: all of its own, or none.
-fn series_rows(
-    register: &[u8],
-    e: Engagement,
-    kind: Kind,
-    receiver: u64,
-    partner: u64,
-    supply: Supply,
-    delivery: Direction,
-) -> usize
+fn series_rows(register: &[u8], e: Engagement, role: Role, s: Series) -> usize
     requires { ⌜ 64 * e .point + 64 ≤ length (now register) ⌝ }
-    ensures { λ r. ⌜ ((b : Book) → pointOf b e ≡ pointAt (now (register .entry)) (e .point) → r ≡ cond (isEngagement b kind receiver (seriesOf partner supply delivery) e) (e .count) 0) ⌝ }
+    ensures { λ r. ⌜ ((b : Book) → pointOf b e ≡ pointAt (now (register .entry)) (e .point) → r ≡ cond (isEngagement b (role .kind) (role .receiver) s e) (e .count) 0) ⌝ }
 {
     let point = book::register::point_at(register, e.point as usize);
-    if is_engagement(kind, receiver, partner, supply, delivery, point, e) {
+    if is_engagement(role, s, point, e) {
         e.count as usize
     } else {
         0
@@ -192,22 +180,19 @@ fn add_engagements(
     register: &[u8],
     engagements: &[u8],
     volumes: &[u64],
-    kind: Kind,
-    receiver: u64,
-    partner: u64,
-    supply: Supply,
-    delivery: Direction,
+    role: Role,
+    s: Series,
     grains: &mut [u64],
 )
     requires { ⌜ Parted c (now register) (now engagements) (now volumes) × (monthQuarters c ≤ length (now grains)) × (now grains ≡ byPosition (λ p. 0) (monthQuarters c) (now grains)) ⌝ }
-    ensures { λ r. ⌜ ((b : Book) → Parts c (now (register .entry)) (now (engagements .entry)) (now (volumes .entry)) b → now (grains .exit) ≡ byPosition (grainsAt b kind receiver (seriesOf partner supply delivery)) (monthQuarters c) (now (grains .entry))) ⌝ }
+    ensures { λ r. ⌜ ((b : Book) → Parts c (now (register .entry)) (now (engagements .entry)) (now (volumes .entry)) b → now (grains .exit) ≡ byPosition (grainsAt b (role .kind) (role .receiver) s) (monthQuarters c) (now (grains .entry))) ⌝ }
 {
     let n = engagements.len() / 16;
     let mut at = 0;
     let mut i = 0;
     while i < n {
         let e = book::engagements::engagement_at(engagements, i);
-        let own = series_rows(register, e, kind, receiver, partner, supply, delivery);
+        let own = series_rows(register, e, role, s);
         let first = first_cell(c, e);
         add_volumes(grains, first, volumes, at, own);
         at += e.count as usize;
@@ -216,35 +201,15 @@ fn add_engagements(
 }
 
 // The grains of a series by position, from the delivered volumes of a book that refusals 1 to 9 pass.
-pub fn fill_grains(
-    book: &[u8],
-    volumes: &[u64],
-    kind: Kind,
-    receiver: u64,
-    partner: u64,
-    supply: Supply,
-    delivery: Direction,
-    grains: &mut [u64],
-)
+pub fn fill_grains(book: &[u8], volumes: &[u64], role: Role, s: Series, grains: &mut [u64])
     requires { ⌜ DeliveredIn (now book) (now volumes) × (monthQuarters (bookOf (now book) .calendar) ≤ length (now grains)) ⌝ }
-    ensures { λ r. ⌜ now (grains .exit) ≡ byPosition (grainsAt (bookOf (now (book .entry))) kind receiver (seriesOf partner supply delivery)) (monthQuarters (bookOf (now (book .entry)) .calendar)) (now (grains .entry)) ⌝ }
+    ensures { λ r. ⌜ now (grains .exit) ≡ byPosition (grainsAt (bookOf (now (book .entry))) (role .kind) (role .receiver) s) (monthQuarters (bookOf (now (book .entry)) .calendar)) (now (grains .entry)) ⌝ }
 {
     let register = settlement::sections::section(book, 2);
     let engagements = settlement::sections::section(book, 4);
     let c = book::header::calendar_of(book);
     clear(grains, month_quarters(c));
-    add_engagements(
-        c,
-        register,
-        engagements,
-        volumes,
-        kind,
-        receiver,
-        partner,
-        supply,
-        delivery,
-        grains,
-    );
+    add_engagements(c, register, engagements, volumes, role, s, grains);
 }
 
 // Grains to watts at the first n positions: what doesn't complete a watt is carried on.
@@ -264,29 +229,11 @@ pub fn fill_watts(cells: &mut [u64], n: usize)
 }
 
 // The watts of a series by position, from the delivered volumes of a book that refusals 1 to 9 pass.
-pub fn series_watts(
-    book: &[u8],
-    volumes: &[u64],
-    kind: Kind,
-    receiver: u64,
-    partner: u64,
-    supply: Supply,
-    delivery: Direction,
-    watts: &mut [u64],
-)
+pub fn series_watts(book: &[u8], volumes: &[u64], role: Role, s: Series, watts: &mut [u64])
     requires { ⌜ DeliveredIn (now book) (now volumes) × (monthQuarters (bookOf (now book) .calendar) ≤ length (now watts)) ⌝ }
-    ensures { λ r. ⌜ now (watts .exit) ≡ byPosition (seriesWatts (bookOf (now (book .entry))) kind receiver (seriesOf partner supply delivery)) (monthQuarters (bookOf (now (book .entry)) .calendar)) (now (watts .entry)) ⌝ }
+    ensures { λ r. ⌜ now (watts .exit) ≡ byPosition (seriesWatts (bookOf (now (book .entry))) (role .kind) (role .receiver) s) (monthQuarters (bookOf (now (book .entry)) .calendar)) (now (watts .entry)) ⌝ }
 {
-    fill_grains(
-        book,
-        volumes,
-        kind,
-        receiver,
-        partner,
-        supply,
-        delivery,
-        watts,
-    );
+    fill_grains(book, volumes, role, s, watts);
     let c = book::header::calendar_of(book);
     fill_watts(watts, month_quarters(c));
 }

@@ -33,7 +33,8 @@ use Rattle.volumes.specs.Sound.{Sound}
 use Rattle.refusals.specs.RefusalsLaws.{not-first}
 use Rattle.volumes.specs.SoundLaws.{sound}
 use Rattle.volumes.specs.Sheets.{startPosition, covers, quarterAt}
-use Rattle.volumes.specs.Series.{Kind, takes, receiverOf, partnerOf, Series, sameSupply, sameDirection, isPoint, isEngagement, grainsOf, grainsAt, seriesWatts, seriesOf}
+use Rattle.volumes.specs.declared.Series.{Series}
+use Rattle.volumes.specs.Series.{Kind, takes, receiverOf, partnerOf, sameSupply, sameDirection, isPoint, isEngagement, grainsOf, grainsAt, seriesWatts, seriesOf}
 use Rattle.volumes.specs.SettlementLaws.{passing}
 use Rattle.message.specs.Contents.{Partner}
 use Rattle.message.specs.Valid.{IsPartner}

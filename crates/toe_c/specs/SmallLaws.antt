@@ -39,7 +39,7 @@ use Rattle.kinds.specs.Numbers.{kindNumbered}
 use Rattle.message.specs.Calls.{factsOf, readRefusal, messageIn, readSays, readAnswer}
 use Rattle.message.specs.Rows.{Message}
 use Rattle.formats.specs.Format.{Res, got, bad}
-use Rattle.writer.specs.WriterRows.{isRows, rowsMessage}
+use Rattle.writer.specs.Rows.{isRows, rowsMessage}
 use Rattle.writer.specs.WriteCalls.{textFrom, writeRefusal, writeSays, writeAnswer, WriteCalled}
 use Rattle.toe_c.specs.Codes.{settleReply, sheetReply, fileReply, readReply, writeReply, refusalCode, Decoded, withFacts}
 use Rattle.volumes.specs.Quarters.{monthQuarters}

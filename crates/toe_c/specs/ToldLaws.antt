@@ -31,7 +31,7 @@ use Rattle.message.specs.FileLaws.{read-is-written}
 use Rattle.message.specs.SizeLaws.{file-least}
 use Rattle.message.specs.RowsLaws.{rows-undo}
 use Rattle.message.specs.Calls.{factsOf, readRefusal, messageIn, readSays, readAnswer}
-use Rattle.writer.specs.WriterRows.{isRows, rowsMessage}
+use Rattle.writer.specs.Rows.{isRows, rowsMessage}
 use Rattle.writer.specs.WriteCalls.{textFrom, writeRefusal, writeSays, writeAnswer, WriteCalled}
 use Rattle.reports.specs.declared.SheetAnswer.{SheetAnswer}
 use Rattle.reports.specs.declared.FileAnswer.{FileAnswer}

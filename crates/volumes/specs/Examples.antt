@@ -26,7 +26,8 @@ use Rattle.book.specs.Book.{Book}
 use Rattle.volumes.specs.Baseline.{mean, ownWindow, dayWindow, latest, daySum, taken, high, addend, baseline}
 use Rattle.volumes.specs.Settlement.{settlementRefusal, delivered, fspCorrection, rows}
 use Rattle.volumes.specs.Sheets.{sheetAt, requestedVolume}
-use Rattle.volumes.specs.Series.{Toe01, Toe02, Toe03, Series, seriesWatts}
+use Rattle.volumes.specs.declared.Series.{Series}
+use Rattle.volumes.specs.Series.{Toe01, Toe02, Toe03, seriesWatts}
 
 -- "June 2021, L 3"
 unfoldable pub june : Calendar

@@ -15,7 +15,8 @@ use Rattle.book.specs.Book.{Book}
 use Rattle.volumes.specs.Settlement.{delivered, rowCount}
 use Rattle.volumes.specs.QuartersLaws.{longestDay, quarters-most}
 use Rattle.volumes.specs.Sheets.{startPosition, covers, quarterAt}
-use Rattle.volumes.specs.Series.{Kind, Series, isEngagement, grainsOf, grainsAt}
+use Rattle.volumes.specs.declared.Series.{Series}
+use Rattle.volumes.specs.Series.{Kind, isEngagement, grainsOf, grainsAt}
 use Rattle.volumes.specs.Sound.{Placed, Sound}
 use Rattle.volumes.specs.WidthsLaws.{most, delivered-most}
 

@@ -19,6 +19,7 @@ use Rattle.book.specs.declared.Engagement.{Engagement}
 use Rattle.book.specs.Book.{Book}
 pub use Rattle.kinds.specs.declared.Kind.{Kind}
 pub use Rattle.kinds.specs.declared.Kind.the-variants.{Toe01, Toe02, Toe03}
+use Rattle.volumes.specs.declared.Series.{Series}
 use Rattle.volumes.specs.Baseline.{pointOf}
 use Rattle.volumes.specs.Settlement.{delivered}
 use Rattle.volumes.specs.Sheets.{covers, quarterAt}
@@ -69,11 +70,6 @@ partnerOf Toe02 point = point .fsp
 partnerOf Toe03 point = point .access
 
 -- "A series is one partner, supply and delivery direction"
-pub record Series : Type 0 where
-  pub partner : ℕ
-  pub supply : Supply
-  pub delivery : Direction
-
 abbrev pub seriesOf : ℕ → Supply → Direction → Series
 seriesOf partner supply delivery = record { partner = partner; supply = supply; delivery = delivery }
 

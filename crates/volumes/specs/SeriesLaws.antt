@@ -17,7 +17,8 @@ use Rattle.book.specs.Book.{Book}
 use Rattle.volumes.specs.Baseline.{pointOf}
 use Rattle.volumes.specs.Settlement.{delivered}
 use Rattle.volumes.specs.Sheets.{covers, quarterAt}
-use Rattle.volumes.specs.Series.{Kind, Toe01, Toe02, Toe03, takes, takenBy, Told, receiverOf, partnerOf, Series, sameSupply, sameDirection, isPoint, isEngagement, grainsOf, grainsAt, seriesWatts, seriesOf}
+use Rattle.volumes.specs.declared.Series.{Series}
+use Rattle.volumes.specs.Series.{Kind, Toe01, Toe02, Toe03, takes, takenBy, Told, receiverOf, partnerOf, sameSupply, sameDirection, isPoint, isEngagement, grainsOf, grainsAt, seriesWatts, seriesOf}
 
 -- up to each position: "the series' grains up to it, over 30,240 rounded down"
 pub series-prefix : (book : Book) (kind : Kind) (receiver : ℕ) (s : Series) (p : ℕ) → upTo (seriesWatts book kind receiver s) p ≡ wholeWatts (upTo (grainsAt book kind receiver s) p)

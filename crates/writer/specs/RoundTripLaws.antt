@@ -27,8 +27,8 @@ use Rattle.message.specs.Calls.{idPlace, momentPlace, factsOf, ReadCalled}
 use Rattle.kinds.specs.NumbersLaws.{kind-numbered, number-kind}
 use Rattle.refusals.specs.BuffersLaws.{over-first}
 use Rattle.message.specs.CallsLaws.{called-file, ReadAccepted, accepted-is, refused-is, one-reading, id-stands, moment-stands}
-use Rattle.writer.specs.WriterRows.{isRows, ofMonth, rowsMessage}
-use Rattle.writer.specs.WriterRowsLaws.{rows-message, message-rows}
+use Rattle.writer.specs.Rows.{isRows, ofMonth, rowsMessage}
+use Rattle.writer.specs.RowsLaws.{rows-message, message-rows}
 use Rattle.writer.specs.WriteCalls.{WriteCalled}
 use Rattle.writer.specs.WriteCallsLaws.{WriteAccepted, write-accepted, wrote-file, refused-rows, one-write}
 use Rattle.writer.specs.RoundTrip.{idIn, momentIn, GivesBack, NoRows, RoundTrip}

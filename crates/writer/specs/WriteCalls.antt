@@ -14,7 +14,7 @@ use Rattle.message.specs.declared.WriteAnswer.{WriteAnswer}
 use Rattle.message.specs.declared.WriteAnswer.the-variants.{Bytes, Refused}
 use Rattle.message.specs.Valid.{isMoment}
 use Rattle.message.specs.Messages.{messageBytes}
-use Rattle.writer.specs.WriterRows.{isRows, rowsMessage}
+use Rattle.writer.specs.Rows.{isRows, rowsMessage}
 
 -- the bytes of the file that is asked for; there is none of another kind
 unfoldable pub textFrom : Option Kind → ℕ → ℕ → ℕ → List ℕ → List ℕ → List ℕ → List ℕ

@@ -18,7 +18,7 @@ use Rattle.message.specs.declared.WriteAnswer.{WriteAnswer}
 use Rattle.message.specs.declared.WriteAnswer.the-variants.{Bytes, Refused}
 use Rattle.message.specs.Valid.{isMoment}
 use Rattle.message.specs.Messages.{messageBytes}
-use Rattle.writer.specs.WriterRows.{isRows, rowsMessage}
+use Rattle.writer.specs.Rows.{isRows, rowsMessage}
 use Rattle.writer.specs.WriteCalls.{textFrom, writeRefusal, writeSays, writeAnswer, WriteCalled}
 
 module _ (number receiver year month : ℕ) (rows id moment before : List ℕ) where

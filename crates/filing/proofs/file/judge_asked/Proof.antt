@@ -18,10 +18,10 @@ in-role-requires : tie.Need-in-role-requires
 in-role-requires c κs = search needs
 
 -- the receiver's role, by the book
-role : (c : tie.After-in-role) → let a = c .before .before .before .before .before .args in c .in-role .result ≡ stands (a .receiver) (receivers (bookOf (a .book .now)) (a .kind))
+role : (c : tie.After-in-role) → let a = c .before .before .before .before .before .args in c .in-role .result ≡ stands (a .role .receiver) (receivers (bookOf (a .book .now)) (a .role .kind))
 role c =
     let s = c .before .before .before .before .before in
-    c .in-role .ensures ∙ role-in (s .args .book .now) (c .before .section .result .now) (s .args .kind) (s .args .receiver) (passing _ (s .pre) .passed) (c .before .section .ensures)
+    c .in-role .ensures ∙ role-in (s .args .book .now) (c .before .section .result .now) (s .args .role .kind) (s .args .role .receiver) (passing _ (s .pre) .passed) (c .before .section .ensures)
 
 returns : tie.Need-returns
 returns c = asked-other _ _ _ _ _ _ (sym (role (c .before)) ∙ not-true _ (c .if1 .taken))

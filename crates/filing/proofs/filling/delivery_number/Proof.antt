@@ -12,11 +12,11 @@ enum-told-2 c = search needs
 
 returns : tie.Need-returns
 unfolding deliveryNumber
-returns c = (rw (c .enum-told .given .1), search needs)
+returns c = rw (c .enum-told .given .1)
 
 returns-2 : tie.Need-returns-2
 unfolding deliveryNumber
-returns-2 c = (rw (c .enum-told2 .given .1), search needs)
+returns-2 c = rw (c .enum-told2 .given .1)
 
 pub delivery-number-spec : {M : Type 1} → statement M
 delivery-number-spec = tie.close (tie.spec enum-told enum-told-2 returns returns-2)

@@ -24,7 +24,7 @@ same-length c = search needs
 returns : tie.Need-returns
 returns c =
     let a = c .before .before .before .before .before .before .before .before .before .before .before .before .before .before .before .before .before .before .before .args in (
-      filled-is _ (partner-parts (bookOf (a .book .now)) (a .kind) (a .receiver) (a .partner))
+      filled-is _ (partner-parts (bookOf (a .book .now)) (a .role .kind) (a .role .receiver) (a .partner))
           (filled-then (filled-then (filled-then (c .before .before .before .before .before .before .before .before .before .before .before .before .before .before .fill-series .ensures .0) (c .before .before .before .before .before .before .before .before .before .before .fill-series2 .ensures .0)) (c .before .before .before .before .before .before .fill-series3 .ensures .0)) (c .before .before .fill-series4 .ensures .0)),
       omega (arith, c .before .before .before .before .before .before .before .before .before .before .before .before .before .before .fill-series .ensures .1, c .before .before .before .before .before .before .before .before .before .before .fill-series2 .ensures .1, c .before .before .before .before .before .before .fill-series3 .ensures .1, c .before .before .fill-series4 .ensures .1),
     )

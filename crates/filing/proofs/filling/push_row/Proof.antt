@@ -6,6 +6,12 @@ use Rattle.filing.specs.PartnerRowsLaws.{filled-row}
 use Rattle.filing.proofs.filling.push_row.Statement.{statement}
 use Rattle.filing.proofs.filling.push_row.Tie as tie
 
+supply-number-requires : tie.Need-supply-number-requires
+supply-number-requires c κs = search needs
+
+delivery-number-requires : tie.Need-delivery-number-requires
+delivery-number-requires c κs = search needs
+
 mul-rows : tie.Need-mul-rows
 mul-rows c = search needs
 
@@ -64,12 +70,15 @@ same-length : tie.Need-same-length
 same-length c = search needs
 
 returns : tie.Need-returns
-returns c = let a = c .args in filled-row (a .rows .now) (a .at) (a .partner) (a .supply) (a .delivery) (a .position) (a .watts)
+returns c = let a = c .before .before .before .args in
+    filled-row (a .rows .now) (a .at) (a .s) _ _ (a .position) (a .watts) (c .before .supply-number .ensures) (c .delivery-number .ensures)
 
 pub push-row-spec : {M : Type 1} → statement M
 push-row-spec =
     tie.close
     (tie.spec
+    supply-number-requires
+    delivery-number-requires
     mul-rows
     slice-write-rows
     add-rows

@@ -10,14 +10,14 @@ use Rattle.filing.proofs.filling.push_watts.Statement.{statement}
 use Rattle.filing.proofs.filling.push_watts.Tie as tie
 
 abbrev Inv-loop : tie.InvT-loop
-Inv-loop rows₀ start partner supply delivery watts n at₀ i₀ rows at i = (i ≤ n) × Filled (rowsBy partner (supply, delivery) (observationsIn watts i)) rows₀ start rows at
+Inv-loop rows₀ start s watts n at₀ i₀ rows at i = (i ≤ n) × Filled (rowsBy s (observationsIn watts i)) rows₀ start rows at
 
 abbrev μ-loop : tie.MeasureT-loop
-μ-loop rows₀ start partner supply delivery watts n at₀ i₀ rows at i = n - i
+μ-loop rows₀ start s watts n at₀ i₀ rows at i = n - i
 
 loop-holds : tie.Need-loop-holds Inv-loop μ-loop
 loop-holds c = let a = c .before .before .args in
-    (search needs, filled-is _ (positions-none (a .partner) (a .supply, a .delivery) (a .watts .now)) (filled-none _ _))
+    (search needs, filled-is _ (positions-none (a .s) (a .watts .now)) (filled-none _ _))
 
 add-position : tie.Need-add-position Inv-loop μ-loop
 add-position c = search needs
@@ -33,7 +33,7 @@ push-position-requires c κs =
     let l = c .before .before .before in
     let s = l .before .before .before in
     let a = s .args in
-    omega (arith, s .pre .1, l .loop .inv .1 .behind, filled-length (l .loop .inv .1), positions-few (a .partner) (a .supply, a .delivery) (a .watts .now) (l .loop .i))
+    omega (arith, s .pre .1, l .loop .inv .1 .behind, filled-length (l .loop .inv .1), positions-few (a .s) (a .watts .now) (l .loop .i))
 
 add-i : tie.Need-add-i Inv-loop μ-loop
 add-i c = search needs
@@ -45,7 +45,7 @@ loop-again : tie.Need-loop-again Inv-loop μ-loop
 loop-again c =
     let l = c .before .before .before .before .before .before in
     let a = l .before .before .before .args in
-    (omega arith, filled-is _ (positions-more (a .partner) (a .supply, a .delivery) (a .watts .now) (l .loop .i)) (filled-then (l .loop .inv .1) (c .before .before .push-position .ensures)))
+    (omega arith, filled-is _ (positions-more (a .s) (a .watts .now) (l .loop .i)) (filled-then (l .loop .inv .1) (c .before .before .push-position .ensures)))
 
 same-length : tie.Need-same-length Inv-loop μ-loop
 same-length c = filled-length (c .before .loop .inv .1)

@@ -26,7 +26,7 @@ returns : tie.Need-returns
 returns c =
     let a = c .before .before .before .before .before .before .before .before .before .before .before .before .before .before .before .before .before .before .before .before .before .args in
     let p = c .before .before .before .before .before .before .before .before .before .before .before .before .emit-partners .ensures in (
-      laid-turned _ (file-turned (bookOf (a .book .now)) (a .kind) (a .receiver) (a .id .now) (a .moment .now) _ (p .1))
+      laid-turned _ (file-turned (bookOf (a .book .now)) (a .role .kind) (a .role .receiver) (a .id .now) (a .moment .now) _ (p .1))
           (laid-then (laid-then (p .0) (c .before .before .before .before .before .before .emit-file-head .ensures)) (c .before .before .emit-file-end .ensures)),
       p .1,
     )

@@ -25,7 +25,7 @@ returns : tie.Need-returns
 returns c =
     let s = c .before .before .before .before .before .before .before .before .before .before .before .before .before .before .before .before .before .before .before .before .before in
     let a = s .args in
-    laid-is _ (file-bytes (bookOf (a .book .now)) (a .kind) (a .receiver) (a .id .now) (a .moment .now) _ (s .pre .2))
+    laid-is _ (file-bytes (bookOf (a .book .now)) (a .role .kind) (a .role .receiver) (a .id .now) (a .moment .now) _ (s .pre .2))
     (laid-then (laid-then (c .before .before .before .before .before .before .before .before .before .before .before .before .before .emit-file-head .ensures) (c .before .before .before .before .before .before .before .before .emit-partners .ensures .0)) (c .before .before .emit-file-end .ensures))
 
 pub write-measured-spec : {M : Type 1} → statement M

@@ -11,10 +11,10 @@ use Rattle.filing.proofs.partners.in_role.Statement.{statement}
 use Rattle.filing.proofs.partners.in_role.Tie as tie
 
 abbrev Inv-loop : tie.InvT-loop
-Inv-loop register kind receiver n i₀ i = (i ≤ n) × ((j : ℕ) → j < i → receiverOf kind (pointAt register j) ≡ receiver → ⊥)
+Inv-loop register role kind n i₀ i = (i ≤ n) × ((j : ℕ) → j < i → receiverOf (role .kind) (pointAt register j) ≡ role .receiver → ⊥)
 
 abbrev μ-loop : tie.MeasureT-loop
-μ-loop register kind receiver n i₀ i = n - i
+μ-loop register role kind n i₀ i = n - i
 
 loop-holds : tie.Need-loop-holds Inv-loop μ-loop
 loop-holds c = (search needs, λ j h. absurd (omega arith))
@@ -26,14 +26,14 @@ receiver-of-requires : tie.Need-receiver-of-requires Inv-loop μ-loop
 receiver-of-requires c κs = search needs
 
 -- the receiver of row i
-receiver-is : (c : tie.After-receiver-of Inv-loop μ-loop) → c .receiver-of .result ≡ receiverOf (c .before .before .before .before .before .args .kind) (pointAt (c .before .before .before .before .before .args .register .now) (c .before .before .before .loop .i))
-receiver-is c = c .receiver-of .ensures ∙ ap (receiverOf (c .before .before .before .before .before .args .kind)) (c .before .point-at .ensures)
+receiver-is : (c : tie.After-receiver-of Inv-loop μ-loop) → c .receiver-of .result ≡ receiverOf (c .before .before .before .before .before .args .role .kind) (pointAt (c .before .before .before .before .before .args .register .now) (c .before .before .before .loop .i))
+receiver-is c = c .receiver-of .ensures ∙ ap (receiverOf (c .before .before .before .before .before .args .role .kind)) (c .before .point-at .ensures)
 
 returns : tie.Need-returns Inv-loop μ-loop
 returns c =
-    let l = c .before .before .before .before in
+    let l = c .before .before .before .before .before in
     let a = l .before .before .args in
-    sym (role-found (a .register .now) (a .kind) (a .receiver) (l .loop .i) (search needs) (sym (receiver-is (c .before)) ∙ c .if1 .taken))
+    sym (role-found (a .register .now) (a .role .kind) (a .role .receiver) (l .loop .i) (search needs) (sym (receiver-is (c .before .before)) ∙ c .if1 .taken))
 
 add-i : tie.Need-add-i Inv-loop μ-loop
 add-i c = search needs
@@ -43,15 +43,15 @@ loop-less c = search needs
 
 loop-again : tie.Need-loop-again Inv-loop μ-loop
 loop-again c =
-    let l = c .before .before .before .before in
+    let l = c .before .before .before .before .before in
     let a = l .before .before .args in
-    (search needs, below-more (λ (j : ℕ). receiverOf (a .kind) (pointAt (a .register .now) j) ≡ a .receiver → ⊥) (l .loop .i) (l .loop .inv .1) (λ e. c .if1 .left (receiver-is (c .before) ∙ e)))
+    (search needs, below-more (λ (j : ℕ). receiverOf (a .role .kind) (pointAt (a .register .now) j) ≡ a .role .receiver → ⊥) (l .loop .i) (l .loop .inv .1) (λ e. c .if1 .left (receiver-is (c .before .before) ∙ e)))
 
 returns-2 : tie.Need-returns-2 Inv-loop μ-loop
 returns-2 c =
     let l = c .before in
     let a = l .before .before .args in
-    sym (role-none (a .register .now) (a .kind) (a .receiver) (λ j h e. l .loop .inv .1 j (search needs) e))
+    sym (role-none (a .register .now) (a .role .kind) (a .role .receiver) (λ j h e. l .loop .inv .1 j (search needs) e))
 
 pub in-role-spec : {M : Type 1} → statement M
 in-role-spec =

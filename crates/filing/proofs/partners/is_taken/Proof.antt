@@ -14,8 +14,8 @@ receiver-of-requires c κs = search needs
 returns : tie.Need-returns
 unfolding isTaken
 returns c =
-    let start = c .before .before in
-    rw (c .before .takes .ensures ∙ start .pre .law (start .args .kind), c .receiver-of .ensures)
+    let start = c .before .before .before in
+    rw (c .before .before .takes .ensures ∙ start .pre .law (start .args .role .kind), c .before .receiver-of .ensures)
 
 pub is-taken-spec : {M : Type 1} → statement M
 is-taken-spec = tie.close (tie.spec takes-requires receiver-of-requires returns)

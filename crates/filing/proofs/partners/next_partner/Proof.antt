@@ -11,10 +11,10 @@ use Rattle.filing.proofs.partners.next_partner.Statement.{statement}
 use Rattle.filing.proofs.partners.next_partner.Tie as tie
 
 abbrev Inv-loop : tie.InvT-loop
-Inv-loop register kind receiver low n next₀ i₀ next i = (i ≤ n) × Scanned register kind receiver low i next
+Inv-loop register role low kind n next₀ i₀ next i = (i ≤ n) × Scanned register (role .kind) (role .receiver) low i next
 
 abbrev μ-loop : tie.MeasureT-loop
-μ-loop register kind receiver low n next₀ i₀ next i = n - i
+μ-loop register role low kind n next₀ i₀ next i = n - i
 
 loop-holds : tie.Need-loop-holds Inv-loop μ-loop
 loop-holds c = (search needs, scanned-none _ _ _ _)
@@ -44,16 +44,16 @@ loop-again c =
     let l = c .before .before .before .before .before in
     let a = l .before .before .args in
     let point = c .before .before .before .point-at .ensures in
-    let taken = c .before .is-taken .ensures ∙ ap (isTaken (a .kind) (a .receiver)) point in
-    let partner = c .before .before .partner-of .ensures ∙ ap (partnerOf (a .kind)) point in
-    (search needs, rw (c .nearer .ensures, taken, partner) (scanned-more (a .register .now) (a .kind) (a .receiver) (a .low) (l .loop .i) (l .loop .next) (l .loop .inv .1)))
+    let taken = c .before .is-taken .ensures ∙ ap (isTaken (a .role .kind) (a .role .receiver)) point in
+    let partner = c .before .before .partner-of .ensures ∙ ap (partnerOf (a .role .kind)) point in
+    (search needs, rw (c .nearer .ensures, taken, partner) (scanned-more (a .register .now) (a .role .kind) (a .role .receiver) (a .low) (l .loop .i) (l .loop .next) (l .loop .inv .1)))
 
 returns : tie.Need-returns Inv-loop μ-loop
 returns c =
     let l = c .before in
     let a = l .before .before .args in
     let e : l .loop .i ≡ pointCountIn (a .register .now) = search needs in
-    scanned-all (a .register .now) (a .kind) (a .receiver) (a .low) (l .loop .next) (rw e at (l .loop .inv .1))
+    scanned-all (a .register .now) (a .role .kind) (a .role .receiver) (a .low) (l .loop .next) (rw e at (l .loop .inv .1))
 
 pub next-partner-spec : {M : Type 1} → statement M
 next-partner-spec =

@@ -12,7 +12,7 @@ use Rattle.book.specs.Book.{Book}
 use Rattle.volumes.specs.Quarters.{monthQuarters}
 use Rattle.volumes.specs.Settlement.{rowWidth}
 use Rattle.volumes.specs.Sheets.{startPosition}
-use Rattle.volumes.specs.Series.{isEngagement, seriesOf}
+use Rattle.volumes.specs.Series.{isEngagement}
 use Rattle.settlement.specs.Sections.{engagementCountIn}
 use Rattle.settlement.specs.PartsLaws.{rowCountTo, count-none, count-more}
 use Rattle.sheets.specs.SheetLaws.{first-cell}
@@ -22,11 +22,11 @@ use Rattle.series.proofs.sums.add_engagements.Statement.{statement}
 use Rattle.series.proofs.sums.add_engagements.Tie as tie
 
 abbrev Inv-loop : tie.InvT-loop
-Inv-loop c register engagements volumes kind receiver partner supply delivery grains₀ n at₀ i₀ grains at i =
-    (i ≤ n) × (at ≡ rowCountTo engagements i) × (length grains ≡ length grains₀) × ((b : Book) → Parts c register engagements volumes b → grains ≡ byPosition (grainsTo b kind receiver (seriesOf partner supply delivery) i) (monthQuarters c) grains₀)
+Inv-loop c register engagements volumes role s grains₀ n at₀ i₀ grains at i =
+    (i ≤ n) × (at ≡ rowCountTo engagements i) × (length grains ≡ length grains₀) × ((b : Book) → Parts c register engagements volumes b → grains ≡ byPosition (grainsTo b (role .kind) (role .receiver) s i) (monthQuarters c) grains₀)
 
 abbrev μ-loop : tie.MeasureT-loop
-μ-loop c register engagements volumes kind receiver partner supply delivery grains₀ n at₀ i₀ grains at i = n - i
+μ-loop c register engagements volumes role s grains₀ n at₀ i₀ grains at i = n - i
 
 -- an engagement of the section
 inside : (c : tie.In-loop Inv-loop μ-loop) → c .before .loop .i < engagementCountIn (c .before .before .before .before .before .before .args .engagements .now)
@@ -36,12 +36,12 @@ inside c = search needs
 rows-are : (c : tie.After-first-cell Inv-loop μ-loop) → let a = c .before .before .before .before .before .before .before .before .before .args in
     let i = c .before .before .before .before .loop .i in
     (b : Book) → Parts (a .c) (a .register .now) (a .engagements .now) (a .volumes .now) b
-    → c .before .series-rows .result ≡ cond (isEngagement b (a .kind) (a .receiver) (seriesOf (a .partner) (a .supply) (a .delivery)) (engagementAt (a .engagements .now) i)) (engagementAt (a .engagements .now) i .count) 0
+    → c .before .series-rows .result ≡ cond (isEngagement b (a .role .kind) (a .role .receiver) (a .s) (engagementAt (a .engagements .now) i)) (engagementAt (a .engagements .now) i .count) 0
 rows-are c b p =
     let a = c .before .before .before .before .before .before .before .before .before .args in
     let read = c .before .before .engagement-at .ensures in
     c .before .series-rows .ensures b (rw read (p .owner (c .before .before .before .before .loop .i) (inside (c .before .before .before))))
-    ∙ ap (λ (e : Engagement). cond (isEngagement b (a .kind) (a .receiver) (seriesOf (a .partner) (a .supply) (a .delivery)) e) (e .count) 0) read
+    ∙ ap (λ (e : Engagement). cond (isEngagement b (a .role .kind) (a .role .receiver) (a .s) e) (e .count) 0) read
 
 start-is : (c : tie.After-first-cell Inv-loop μ-loop) → let a = c .before .before .before .before .before .before .before .before .before .args in
     c .first-cell .result + 1 ≡ startPosition (a .c) (engagementAt (a .engagements .now) (c .before .before .before .before .loop .i))
@@ -53,7 +53,7 @@ start-is c = let a = c .before .before .before .before .before .before .before .
 loop-holds : tie.Need-loop-holds Inv-loop μ-loop
 loop-holds c = let s = c .before .before .before .before in
     let a = s .args in
-    (search needs, omega (arith, count-none (a .engagements .now)), refl, λ b p. s .pre .2 ∙ by-cong (λ q. 0) (grainsTo b (a .kind) (a .receiver) (seriesOf (a .partner) (a .supply) (a .delivery)) 0) (monthQuarters (a .c)) (a .grains .now) (λ q _ _. sym (grains-none p _ _ _ q)))
+    (search needs, omega (arith, count-none (a .engagements .now)), refl, λ b p. s .pre .2 ∙ by-cong (λ q. 0) (grainsTo b (a .role .kind) (a .role .receiver) (a .s) 0) (monthQuarters (a .c)) (a .grains .now) (λ q _ _. sym (grains-none p _ _ _ q)))
 
 engagement-at-requires : tie.Need-engagement-at-requires Inv-loop μ-loop
 engagement-at-requires c κs = search needs
@@ -76,7 +76,7 @@ add-volumes-requires c κs = let w = c .before in
     let l = w .before .before .before .before .loop in
     let b = s .pre .0 .book in
     let p = s .pre .0 .parts in
-    turn-adds p (a .kind) (a .receiver) (seriesOf (a .partner) (a .supply) (a .delivery)) (l .i) (l .at) (w .before .series-rows .result) (w .first-cell .result) (a .grains .now) (l .grains) (inside (w .before .before .before)) (l .inv .1) (rows-are w b p) (start-is w) (s .pre .1) (l .inv .3 b p)
+    turn-adds p (a .role .kind) (a .role .receiver) (a .s) (l .i) (l .at) (w .before .series-rows .result) (w .first-cell .result) (a .grains .now) (l .grains) (inside (w .before .before .before)) (l .inv .1) (rows-are w b p) (start-is w) (s .pre .1) (l .inv .3 b p)
 
 cast-at : tie.Need-cast-at Inv-loop μ-loop
 cast-at c = search needs
@@ -105,7 +105,7 @@ loop-again c = let w = c .before .before .before .before .before in
       omega (arith, here),
       omega (arith, l .inv .1, count-more (a .engagements .now) (l .i) here, ap (λ (e : Engagement). e .count) (w .before .before .engagement-at .ensures)),
       ap length v ∙ added-length (l .grains) (w .first-cell .result) _ (w .before .series-rows .result) ∙ l .inv .2,
-      λ b p. v ∙ turn-sums p (a .kind) (a .receiver) (seriesOf (a .partner) (a .supply) (a .delivery)) (l .i) (l .at) (w .before .series-rows .result) (w .first-cell .result) (a .grains .now) (l .grains) here (l .inv .1) (rows-are w b p) (start-is w) (s .pre .1) (l .inv .3 b p),
+      λ b p. v ∙ turn-sums p (a .role .kind) (a .role .receiver) (a .s) (l .i) (l .at) (w .before .series-rows .result) (w .first-cell .result) (a .grains .now) (l .grains) here (l .inv .1) (rows-are w b p) (start-is w) (s .pre .1) (l .inv .3 b p),
     )
 
 same-length : tie.Need-same-length Inv-loop μ-loop
@@ -115,7 +115,7 @@ returns : tie.Need-returns Inv-loop μ-loop
 returns c = λ b p.
     let l = c .before in
     let a = l .before .before .before .before .before .args in
-    l .loop .inv .3 b p ∙ by-cong _ _ (monthQuarters (a .c)) (a .grains .now) (λ q _ _. grains-all p (a .kind) (a .receiver) (seriesOf (a .partner) (a .supply) (a .delivery)) (l .loop .i) (search needs) q)
+    l .loop .inv .3 b p ∙ by-cong _ _ (monthQuarters (a .c)) (a .grains .now) (λ q _ _. grains-all p (a .role .kind) (a .role .receiver) (a .s) (l .loop .i) (search needs) q)
 
 pub add-engagements-spec : {M : Type 1} → statement M
 add-engagements-spec =

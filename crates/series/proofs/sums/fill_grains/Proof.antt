@@ -9,7 +9,7 @@ use Rattle.book.specs.Judged.{refusalOf}
 use Rattle.book.specs.Book.{bookOf}
 use Rattle.volumes.specs.Quarters.{monthQuarters}
 use Rattle.volumes.specs.SettlementLaws.{passing}
-use Rattle.volumes.specs.Series.{grainsAt, seriesOf}
+use Rattle.volumes.specs.Series.{grainsAt}
 use Rattle.settlement.specs.SectionsLaws.{bytes-long}
 use Rattle.series.specs.Sums.{byPosition, Parts}
 use Rattle.series.specs.SumsLaws.{by-again, by-own, parts-of}
@@ -67,7 +67,7 @@ returns : tie.Need-returns
 returns c = let w = c .before .before .before .before .before .before in
     let s = w .before .before .before .before .before .before .before .before .before in
     let a = s .args in
-    let cells = grainsAt (bookOf (a .book .now)) (a .kind) (a .receiver) (seriesOf (a .partner) (a .supply) (a .delivery)) in
+    let cells = grainsAt (bookOf (a .book .now)) (a .role .kind) (a .role .receiver) (a .s) in
     let d = w .before .before .before .calendar-of .result in
     c .before .before .add-engagements .ensures (bookOf (a .book .now)) (read w)
     ∙ ap (byPosition cells (monthQuarters d)) (w .clear .ensures ∙ ap (λ (n : ℕ). byPosition (λ p. 0) n (a .grains .now)) (w .before .month-quarters .ensures))

@@ -2,7 +2,7 @@
 use mathlib.Core.Path.{ap, ap₂, _∙_}
 use mathlib.Core.Bool.{_&&_}
 use borrow.Author.Needs.{needs}
-use Rattle.volumes.specs.Series.{isPoint, isEngagement, seriesOf}
+use Rattle.volumes.specs.Series.{isPoint, isEngagement}
 use Rattle.series.proofs.sums.is_engagement.Statement.{statement}
 use Rattle.series.proofs.sums.is_engagement.Tie as tie
 
@@ -16,8 +16,7 @@ returns : tie.Need-returns
 unfolding isEngagement
 returns c = λ b own.
     let a = c .before .before .args in
-    let s = seriesOf (a .partner) (a .supply) (a .delivery) in
-    ap₂ _&&_ (c .before .is-point .ensures (a .delivery) ∙ ap (isPoint (a .kind) (a .receiver) s) own) (c .same-direction .ensures)
+    ap₂ _&&_ (c .before .is-point .ensures ∙ ap (isPoint (a .role .kind) (a .role .receiver) (a .s)) own) (c .same-direction .ensures)
 
 pub is-engagement-spec : {M : Type 1} → statement M
 is-engagement-spec = tie.close (tie.spec is-point-requires same-direction-requires returns)

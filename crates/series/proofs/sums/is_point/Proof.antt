@@ -22,10 +22,11 @@ same-supply-requires c κs = search needs
 
 returns : tie.Need-returns
 unfolding isPoint
-returns c = λ d.
-    let start = c .before .before .before .before in
+returns c =
+    let r = c .before .before .before .before in
+    let start = r .before .before in
     let a = start .args in
-    ap₂ _&&_ (c .before .before .before .takes .ensures ∙ start .pre .law (a .kind)) (ap₂ _&&_ (ap (λ (n : ℕ). eqb n (a .receiver)) (c .before .before .receiver-of .ensures)) (ap₂ _&&_ (ap (λ (n : ℕ). eqb n (a .partner)) (c .before .partner-of .ensures)) (c .same-supply .ensures)))
+    ap₂ _&&_ (r .before .takes .ensures ∙ start .pre .law (a .role .kind)) (ap₂ _&&_ (ap (λ (n : ℕ). eqb n (a .role .receiver)) (r .receiver-of .ensures)) (ap₂ _&&_ (ap (λ (n : ℕ). eqb n (a .s .partner)) (c .before .before .partner-of .ensures)) (c .same-supply .ensures)))
 
 pub is-point-spec : {M : Type 1} → statement M
 is-point-spec =

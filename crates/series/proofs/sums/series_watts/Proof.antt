@@ -10,7 +10,7 @@ use Rattle.book.specs.Header.{calendarOf, registerSection, engagementSection}
 use Rattle.book.specs.Book.{bookOf}
 use Rattle.volumes.specs.Quarters.{monthQuarters}
 use Rattle.volumes.specs.SettlementLaws.{passing}
-use Rattle.volumes.specs.Series.{grainsAt, seriesOf}
+use Rattle.volumes.specs.Series.{grainsAt}
 use Rattle.settlement.specs.SectionsLaws.{bytes-long}
 use Rattle.series.specs.Sums.{byPosition, cellAt, Parts}
 use Rattle.series.specs.SumsLaws.{by-length, parts-of, carry-fits, watts-are}
@@ -42,11 +42,10 @@ month-quarters-requires c κs = let s = c .before .before .before .before .befor
 fill-watts-requires : tie.Need-fill-watts-requires
 fill-watts-requires c κs = let s = c .before .before .before .before .before .before .before .before .before .before in
     let a = s .args in
-    let series = seriesOf (a .partner) (a .supply) (a .delivery) in
     let f = c .before .before .before .before .before .fill-grains in
     let m = monthQuarters (bookOf (a .book .now) .calendar) in
     let n = month c in
-    (omega (arith, n, s .pre .1, ap length (f .ensures), by-length (grainsAt (bookOf (a .book .now)) (a .kind) (a .receiver) series) m (a .watts .now) (s .pre .1)), λ k h. carry-fits (parts s) (a .kind) (a .receiver) series m (a .watts .now) _ (f .ensures) k (omega (arith, n)))
+    (omega (arith, n, s .pre .1, ap length (f .ensures), by-length (grainsAt (bookOf (a .book .now)) (a .role .kind) (a .role .receiver) (a .s)) m (a .watts .now) (s .pre .1)), λ k h. carry-fits (parts s) (a .role .kind) (a .role .receiver) (a .s) m (a .watts .now) _ (f .ensures) k (omega (arith, n)))
 
 same-length : tie.Need-same-length
 same-length c = search needs
@@ -56,10 +55,10 @@ returns c = let w = c .before .before .before in
     let s = w .before .before .before .before .before .before .before .before .before .before in
     let a = s .args in
     let f = w .before .before .before .before .before .fill-grains in
-    let cells = f .last .1 .1 .1 .1 .1 .1 .1 .0 in
+    let cells = f .last .1 .1 .1 .1 .0 in
     c .before .before .fill-watts .ensures
     ∙ ap (λ (n : ℕ). byPosition (floorAt perWatt (cellAt cells)) n cells) (month w)
-    ∙ watts-are (parts s) (a .kind) (a .receiver) (seriesOf (a .partner) (a .supply) (a .delivery)) (monthQuarters (bookOf (a .book .now) .calendar)) (a .watts .now) cells (f .ensures)
+    ∙ watts-are (parts s) (a .role .kind) (a .role .receiver) (a .s) (monthQuarters (bookOf (a .book .now) .calendar)) (a .watts .now) cells (f .ensures)
 
 pub series-watts-spec : {M : Type 1} → statement M
 series-watts-spec =

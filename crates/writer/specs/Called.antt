@@ -13,7 +13,7 @@ use Rattle.message.specs.Messages.{messageBytes}
 use Rattle.refusals.specs.Buffers.{over}
 use Rattle.kinds.specs.Numbers.{kindNumber}
 use Rattle.kinds.specs.NumbersLaws.{kind-numbered}
-use Rattle.writer.specs.WriterRows.{isRows, rowsMessage}
+use Rattle.writer.specs.Rows.{isRows, rowsMessage}
 use Rattle.emitter.specs.Laid.{Laid, laid-over, laid-no-room}
 use Rattle.writer.specs.WriteCalls.{WriteCalled}
 use Rattle.writer.specs.WriteCallsLaws.{wrote-short, wrote-file}
