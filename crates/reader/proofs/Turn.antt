@@ -7,11 +7,11 @@ use lib.ListN.{length}
 use lib.WfN.{Nat·lt-wfRel}
 use denote.Laws.{Is}
 use Rattle.cursor.specs.declared.Cursor.{Cursor}
-use Rattle.cursor.specs.Moves.{keep, standing}
+use Rattle.cursor.specs.MovesInner.{keep, standing}
 use Rattle.reader.specs.declared.elements.Wanted.{Wanted}
 use Rattle.reader.specs.declared.elements.Todo.{Todo}
 use Rattle.reader.specs.Reading.{inOrder}
-use Rattle.rows.specs.Rows.{observationRow, observationTo}
+use Rattle.passages.specs.PassagesInner.{observationFound, observationTo}
 use Rattle.reader.specs.Turns.{atFirst, After, Whole}
 use Rattle.reader.specs.TurnsLaws.{Leads, leads-first, leads-last, leads-on}
 use Rattle.reader.proofs.elements.Todo as S
@@ -45,9 +45,9 @@ module _ {s : List ℕ} {w : Wanted} {c₀ : Cursor} {ys : List ℕ} where
   -- what a turn says of its observation, its cursor and what is then left
   abbrev pub Said : Turn s w c₀ ys → List ℕ → Cursor → Todo → Type 0
   Said t cs h t′ =
-      (0 < t .todo .left) × (observationRow s (t .h) .whole ≤ 999999999) × (observationRow s (t .h) .part < 1000)
-      → After (keep (inOrder (t .todo .behind + 1) (t .todo .last) (observationRow s (t .h) .position, observationRow s (t .h) .whole * 1000 + observationRow s (t .h) .part)) (standing s (observationTo s (t .h))))
-      (t .todo) (observationRow s (t .h) .position) (observationRow s (t .h) .whole * 1000 + observationRow s (t .h) .part) (t .cells) cs h t′
+      (0 < t .todo .left) × (observationFound s (t .h) .whole ≤ 999999999) × (observationFound s (t .h) .part < 1000)
+      → After (keep (inOrder (t .todo .behind + 1) (t .todo .last) (observationFound s (t .h) .position, observationFound s (t .h) .whole * 1000 + observationFound s (t .h) .part)) (standing s (observationTo s (t .h))))
+      (t .todo) (observationFound s (t .h) .position) (observationFound s (t .h) .whole * 1000 + observationFound s (t .h) .part) (t .cells) cs h t′
 
   module _ (t : Turn s w c₀ ys) (some : 0 < t .todo .left) (cs : List ℕ) (same : length cs ≡ length (t .cells)) (h : Cursor) (t′ : Todo) (said : Said t cs h t′) (good : Is S.the-row t′ (S′.lowered t′ ∷ [])) where
     pub on : Leads s w c₀ ys h t′ cs × (t′ .left < t .todo .left)

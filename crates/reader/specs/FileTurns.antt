@@ -9,7 +9,7 @@ use Rattle.formats.specs.Place.{Parsed, left}
 use Rattle.formats.specs.declared.Mark.{Mark}
 use Rattle.formats.specs.declared.Mark.the-variants.{At}
 use Rattle.cursor.specs.declared.Cursor.{Cursor}
-use Rattle.cursor.specs.Moves.{standing, pastTag}
+use Rattle.cursor.specs.MovesInner.{standing, pastTag}
 use Rattle.kinds.specs.declared.Kind.{Kind}
 use Rattle.kinds.specs.declared.Kind.the-variants.{Toe01, Toe02, Toe03}
 use Rattle.message.specs.Valid.{isMoment}
@@ -17,7 +17,7 @@ use Rattle.message.specs.FileForm.{kindForm, fileBody}
 use Rattle.reader.specs.declared.file.Root.{Root}
 use Rattle.reader.specs.declared.file.Receiver.{Receiver}
 use Rattle.reader.specs.declared.file.FileRead.{FileRead}
-use Rattle.reader.specs.RowsLaws.{ReceiverSteps}
+use Rattle.reader.specs.PassagesLaws.{ReceiverSteps}
 use Rattle.reader.specs.ReaderFile.{Filed, rowsOfParts}
 use Rattle.reader.specs.Filling.{Fills}
 

@@ -4,7 +4,7 @@ pub mod Filling
 pub mod FillingLaws
 pub mod ReaderSeries
 pub mod ReaderPartner
-pub mod RowsLaws
+pub mod PassagesLaws
 pub mod ReaderPartners
 pub mod FillingParts
 pub mod ReaderPlaces

@@ -9,7 +9,7 @@ use Rattle.formats.specs.Place.{Parsed}
 use Rattle.formats.specs.declared.Mark.{Mark}
 use Rattle.formats.specs.declared.Mark.the-variants.{At, No}
 use Rattle.cursor.specs.declared.Cursor.{Cursor}
-use Rattle.cursor.specs.Moves.{keep, standing, cursorAt, lost, pastTag}
+use Rattle.cursor.specs.MovesInner.{keep, standing, cursorAt, lost, pastTag}
 use Rattle.kinds.specs.declared.Kind.{Kind}
 use Rattle.kinds.specs.declared.Kind.the-variants.{Toe01, Toe02, Toe03}
 use Rattle.message.specs.FileForm.{partnersForm}
@@ -17,7 +17,7 @@ use Rattle.reader.specs.declared.series.SeriesTodo.{SeriesTodo}
 use Rattle.reader.specs.declared.partners.Head.{Head}
 use Rattle.reader.specs.declared.partners.PartnersTodo.{PartnersTodo}
 use Rattle.reader.specs.declared.partners.PartnerSeen.{PartnerSeen}
-use Rattle.rows.specs.Rows.{companyRow, accessRow}
+use Rattle.passages.specs.PassagesInner.{companyFound, accessFound}
 use Rattle.reader.specs.ReaderItems.{folded}
 use Rattle.reader.specs.ReaderSeries.{Room}
 use Rattle.reader.specs.ReaderPartner.{partnerKept}
@@ -27,10 +27,10 @@ use Rattle.reader.specs.Filling.{Fills, rowsOfPartner}
 -- ---- the head and the end of a partner
 
 abbrev pub companyHead : List ℕ → Cursor → List ℕ → List ℕ → Head
-companyHead s c t u = record { number = companyRow s c t u .number; supply = 0; count = companyRow s c t u .count; to = companyRow s c t u .to }
+companyHead s c t u = record { number = companyFound s c t u .number; supply = 0; count = companyFound s c t u .count; to = companyFound s c t u .to }
 
 abbrev pub accessHead : List ℕ → Cursor → Head
-accessHead s c = record { number = accessRow s c .number; supply = accessRow s c .supply; count = accessRow s c .count; to = accessRow s c .to }
+accessHead s c = record { number = accessFound s c .number; supply = accessFound s c .supply; count = accessFound s c .count; to = accessFound s c .to }
 
 abbrev pub headOf : List ℕ → Kind → Cursor → Head
 headOf s Toe01 c = companyHead s c (bytes "<SupplierSeries><SupplierEnterpriseNumber>") (bytes "</SupplierEnterpriseNumber><DirectionCounter>")

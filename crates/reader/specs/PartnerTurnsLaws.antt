@@ -14,16 +14,16 @@ use Rattle.formats.specs.Combine.{strip, mapParse}
 use Rattle.formats.specs.Place.{Within, Parsed}
 use Rattle.formats.specs.PlaceLaws.{parsed, not-there}
 use Rattle.cursor.specs.declared.Cursor.{Cursor}
-use Rattle.cursor.specs.Moves.{keep, standing, pastTag}
+use Rattle.cursor.specs.MovesInner.{keep, standing, pastTag}
 use Rattle.cursor.specs.MovesLaws.{standing-within, stands-at}
-use Rattle.cursor.specs.MovesParsed.{tag-parsed, fixed-fits}
+use Rattle.cursor.specs.ParsedLaws.{tag-parsed, fixed-fits}
 use Rattle.kinds.specs.declared.Kind.{Kind}
 use Rattle.kinds.specs.declared.Kind.the-variants.{Toe01, Toe02, Toe03}
 use Rattle.message.specs.Bytes.{opening, closing, ending, group, partner}
 use Rattle.message.specs.PartnerForm.{partnerForm}
 use Rattle.reader.specs.declared.series.SeriesTodo.{SeriesTodo}
 use Rattle.reader.specs.declared.partners.PartnersTodo.{PartnersTodo}
-use Rattle.reader.specs.RowsLaws.{company-read, access-read, access-fits}
+use Rattle.reader.specs.PassagesLaws.{company-read, access-read, access-fits}
 use Rattle.reader.specs.Reading.{parsed-no}
 use Rattle.reader.specs.ReaderItems.{run-same}
 use Rattle.reader.specs.ReaderSeries.{Room}

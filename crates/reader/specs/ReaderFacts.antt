@@ -10,7 +10,7 @@ use Rattle.formats.specs.Name.{nameByte, span}
 use Rattle.formats.specs.Place.{left}
 use Rattle.formats.specs.declared.Mark.{Mark}
 use Rattle.formats.specs.declared.Mark.the-variants.{At, No}
-use Rattle.cursor.specs.Moves.{standing}
+use Rattle.cursor.specs.MovesInner.{standing}
 use Rattle.cursor.specs.MovesLaws.{stands}
 use Rattle.message.specs.declared.FileFacts.{FileFacts}
 use Rattle.message.specs.declared.ReadAnswer.the-variants.{File, Refused}

@@ -21,7 +21,7 @@ use Rattle.message.specs.Bytes.{opening, ending, closing, group, partner, digit
 use Rattle.message.specs.SeriesForm.{counted, apart-supplies}
 use Rattle.message.specs.SeriesListForm.{seriesList}
 use Rattle.message.specs.PartnerForm.{ownPartner, ownPartnerBody, sharedPartner, sharedPartnerBody, partnerForm}
-use Rattle.cursor.specs.Moves.{keep}
+use Rattle.cursor.specs.MovesInner.{keep}
 use Rattle.reader.specs.ReaderItems.{run-same, viewed, folded, read-long}
 use Rattle.reader.specs.ReaderSeries.{seriesForm, counting, listForm, Room}
 

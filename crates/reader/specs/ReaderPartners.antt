@@ -19,7 +19,7 @@ use Rattle.message.specs.SeriesListForm.{after}
 use Rattle.message.specs.PartnerForm.{partnerForm}
 use Rattle.message.specs.Months.{nextMonths}
 use Rattle.message.specs.FileForm.{partnersForm}
-use Rattle.cursor.specs.Moves.{keep}
+use Rattle.cursor.specs.MovesInner.{keep}
 use Rattle.reader.specs.ReaderItems.{run-same, viewed, view-bad, view-only, folded, foldParse, fold-end, fold-bad, fold-step}
 use Rattle.reader.specs.ReaderSeries.{counting}
 use Rattle.reader.specs.ReaderPartner.{partnerKept}

@@ -27,7 +27,7 @@ use Rattle.message.specs.Valid.{monthOf}
 use Rattle.message.specs.SeriesForm.{ownSeries, sharedSeries}
 use Rattle.message.specs.SeriesListForm.{follows, following, seriesList}
 use Rattle.message.specs.PartnerForm.{own-01, own-02}
-use Rattle.cursor.specs.Moves.{keep}
+use Rattle.cursor.specs.MovesInner.{keep}
 use Rattle.reader.specs.Reading.{Outline, outline}
 use Rattle.reader.specs.ReaderItems.{run-same, only-same, viewed, view-bad, view-only, folded, foldParse, fold-end, fold-bad, fold-step, longer, longer-both, flat-long, read-long}
 

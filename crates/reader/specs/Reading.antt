@@ -21,7 +21,7 @@ use Rattle.formats.specs.Place.{placed, Within, Parsed}
 use Rattle.formats.specs.declared.Mark.{Mark}
 use Rattle.formats.specs.declared.Mark.the-variants.{At, No}
 use Rattle.text.specs.Ascii.{bytes}
-use Rattle.cursor.specs.Moves.{keep}
+use Rattle.cursor.specs.MovesInner.{keep}
 use Rattle.moments.specs.declared.Moment.{Moment}
 use Rattle.moments.specs.Moments.{momentBytes, periodStart, periodEnd}
 use Rattle.moments.specs.MomentsLaws.{length-moment}

@@ -9,12 +9,12 @@ use Rattle.formats.specs.declared.Mark.{Mark}
 use Rattle.formats.specs.declared.Mark.the-variants.{At, No}
 use Rattle.cursor.specs.declared.Cursor.{Cursor}
 use Rattle.cursor.specs.declared.Read.{Read}
-use Rattle.cursor.specs.Moves.{keep, standing, cursorAt, lost, pastTag}
+use Rattle.cursor.specs.MovesInner.{keep, standing, cursorAt, lost, pastTag}
 use Rattle.kinds.specs.declared.Kind.{Kind}
 use Rattle.kinds.specs.declared.Kind.the-variants.{Toe01, Toe02, Toe03}
 use Rattle.reader.specs.declared.series.SeriesTodo.{SeriesTodo}
 use Rattle.reader.specs.declared.series.SeriesSeen.{SeriesSeen}
-use Rattle.rows.specs.Rows.{ownStart, sharedStart}
+use Rattle.passages.specs.PassagesInner.{ownStart, sharedStart}
 use Rattle.reader.specs.Reading.{Outline, outline}
 use Rattle.reader.specs.ReaderItems.{folded}
 use Rattle.reader.specs.ReaderSeries.{joins, item, placeIn, counting, listForm, Room}

@@ -15,7 +15,7 @@ use Rattle.formats.specs.Combine.{strip, mapParse}
 use Rattle.formats.specs.Place.{Within, Parsed}
 use Rattle.formats.specs.PlaceLaws.{parsed, not-there}
 use Rattle.cursor.specs.declared.Cursor.{Cursor}
-use Rattle.cursor.specs.Moves.{keep, standing, pastTag}
+use Rattle.cursor.specs.MovesInner.{keep, standing, pastTag}
 use Rattle.cursor.specs.MovesLaws.{standing-within, stands-at}
 use Rattle.kinds.specs.declared.Kind.{Kind}
 use Rattle.kinds.specs.declared.Kind.the-variants.{Toe01, Toe02, Toe03}
@@ -23,8 +23,8 @@ use Rattle.message.specs.Bytes.{opening, closing}
 use Rattle.message.specs.SeriesForm.{volumeBody, ofVolume}
 use Rattle.reader.specs.declared.series.SeriesTodo.{SeriesTodo}
 use Rattle.reader.specs.declared.elements.TimeSeries.{TimeSeries}
-use Rattle.rows.specs.Rows.{ownStart}
-use Rattle.reader.specs.RowsLaws.{SupplySteps, own-steps, own-fits, shared-steps, series-end}
+use Rattle.passages.specs.PassagesInner.{ownStart}
+use Rattle.reader.specs.PassagesLaws.{SupplySteps, own-steps, own-fits, shared-steps, series-end}
 use Rattle.reader.specs.Reading.{Outline, outline, parsed-no, VolumeRead, sharedParse}
 use Rattle.reader.specs.ReaderItems.{run-same}
 use Rattle.reader.specs.ReaderSeries.{seriesForm, joins, item, placeIn, next-kept, listKept, list-start, list-end, list-bad, list-step, item-long, Room}

@@ -5,7 +5,7 @@ use Prim.Native.Nat.{ℕ, _-_}
 use Rattle.formats.specs.declared.Mark.{Mark}
 use Rattle.formats.specs.declared.Mark.the-variants.{At, No}
 use Rattle.cursor.specs.declared.Cursor.{Cursor}
-use Rattle.cursor.specs.Moves.{standing, cursorAt, lost}
+use Rattle.cursor.specs.MovesInner.{standing, cursorAt, lost}
 use Rattle.message.specs.Valid.{lastPosition}
 use Rattle.message.specs.ObservationForm.{observed}
 use Rattle.reader.specs.declared.elements.Wanted.{Wanted}

@@ -11,7 +11,7 @@ use Rattle.formats.specs.FormatLaws.{got-bad}
 use Rattle.formats.specs.Items.{itemsParse, items-bad}
 use Rattle.formats.specs.Place.{placed, Within, Parsed}
 use Rattle.cursor.specs.declared.Cursor.{Cursor}
-use Rattle.cursor.specs.Moves.{keep, standing}
+use Rattle.cursor.specs.MovesInner.{keep, standing}
 use Rattle.cursor.specs.MovesLaws.{standing-within, stands-at}
 use Rattle.message.specs.Contents.{Observation}
 use Rattle.message.specs.Valid.{lastPosition}
@@ -21,8 +21,8 @@ use Rattle.reader.specs.declared.elements.Key.{Key}
 use Rattle.reader.specs.declared.elements.Wanted.{Wanted}
 use Rattle.reader.specs.declared.elements.Todo.{Todo}
 use Rattle.reader.specs.Reading.{inOrder, observing, observing-parsed, Passed, passed-end, passed-no, observationsOf, observationItem, observationOnto, observationsEnd, end-start, end-last, end-bad, end-step}
-use Rattle.rows.specs.Rows.{observationRow, observationTo}
-use Rattle.reader.specs.RowsLaws.{observation-read, observation-fits}
+use Rattle.passages.specs.PassagesInner.{observationFound, observationTo}
+use Rattle.reader.specs.PassagesLaws.{observation-read, observation-fits}
 use Rattle.reader.specs.Filling.{Fills, Stored, rowsOfObservation}
 use Rattle.reader.specs.FillingLaws.{fills-no, fills-bad}
 use Rattle.reader.specs.FillingParts.{observationsFrom, observations-filled, observations-fill-none, observations-fill-step}
@@ -86,10 +86,10 @@ module _ (s : List ℕ) (w : Wanted) (c₀ : Cursor) (ys : List ℕ) where
 
   module _ (h : Cursor) (t : Todo) (d : List ℕ) (l : Leads h t d) (some : 0 < t .left) (d′ : List ℕ) (same : length d′ ≡ length d) (h′ : Cursor) (t′ : Todo) where
     abbrev position : ℕ
-    position = observationRow s h .position
+    position = observationFound s h .position
 
     abbrev watts : ℕ
-    watts = observationRow s h .whole * 1000 + observationRow s h .part
+    watts = observationFound s h .whole * 1000 + observationFound s h .part
 
     turns : (k : Mark) → Within s k → Parsed (observing (lastPosition (w .year) (w .month)) (t .behind + 1)) s (standing s h) k (observed (position, watts)) → After k t position watts d d′ h′ t′ → Leads h′ t′ d′ × (t′ .left < t .left)
     turns (At q) here p a = (
@@ -115,7 +115,7 @@ module _ (s : List ℕ) (w : Wanted) (c₀ : Cursor) (ys : List ℕ) where
       omega (arith, a .1, some),
     )
 
-    pub leads-on : ((0 < t .left) × (observationRow s h .whole ≤ 999999999) × (observationRow s h .part < 1000) → After (keep (inOrder (t .behind + 1) (t .last) (position, watts)) (standing s (observationTo s h))) t position watts d d′ h′ t′) → Leads h′ t′ d′ × (t′ .left < t .left)
+    pub leads-on : ((0 < t .left) × (observationFound s h .whole ≤ 999999999) × (observationFound s h .part < 1000) → After (keep (inOrder (t .behind + 1) (t .last) (position, watts)) (standing s (observationTo s h))) t position watts d d′ h′ t′) → Leads h′ t′ d′ × (t′ .left < t .left)
     leads-on f =
         let p = observing-parsed (t .last) (t .behind + 1) s (standing s h) (standing s (observationTo s h)) (position, watts) (observation-read s h) in
         turns (keep (inOrder (t .behind + 1) (t .last) (position, watts)) (standing s (observationTo s h))) (p .within) (rw (← l .last) p) (f (some, observation-fits s h .0, observation-fits s h .1))

@@ -7,17 +7,17 @@ use Rattle.formats.specs.Combine.{strip}
 use Rattle.formats.specs.Place.{Parsed}
 use Rattle.formats.specs.declared.Mark.the-variants.{No}
 use Rattle.cursor.specs.declared.Cursor.{Cursor}
-use Rattle.cursor.specs.Moves.{standing}
+use Rattle.cursor.specs.MovesInner.{standing}
 use Rattle.message.specs.ObservationForm.{isPeriod, behindMonth}
 use Rattle.message.specs.SeriesForm.{volumeBody, ofVolume}
-use Rattle.rows.specs.declared.MonthRow.{MonthRow}
+use Rattle.passages.specs.declared.MonthFound.{MonthFound}
 use Rattle.reader.specs.declared.elements.VolumeTodo.{VolumeTodo}
 use Rattle.reader.specs.declared.elements.TimeSeries.{TimeSeries}
 use Rattle.reader.specs.Reading.{VolumeRead}
 use Rattle.reader.specs.Filling.{Fills, rowsOfSeries}
 
 -- what stands behind the year and month of a period, where there is such a month
-abbrev pub MonthPassed : List ℕ → MonthRow → Cursor → Cursor → Type 0
+abbrev pub MonthPassed : List ℕ → MonthFound → Cursor → Cursor → Type 0
 MonthPassed s p c d =
     (isPeriod (p .year, p .month) ≡ true → Parsed (strip (behindMonth (p .year, p .month))) s (standing s c) (standing s d) tt) × (isPeriod (p .year, p .month) ≡ false → standing s d ≡ No)
 

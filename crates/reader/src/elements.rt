@@ -1,10 +1,10 @@
-// A time series, from its observations up: the cursor that was lent is lent on, to rows, to the loop over observations and to the tags behind them.
+// A time series, from its observations up: the cursor that was lent is lent on, to passages, to the loop over observations and to the tags behind them.
 use cursor::Cursor;
-use rows::MonthRow;
-use rows::ObservationRow;
+use passages::MonthFound;
+use passages::ObservationFound;
 ghost use mathlib.Core.Path.{_≡_};
 ghost use Prim.Native.Nat.{_+_, _-_, _*_, _≤_, _<_};
-ghost use Rattle.cursor.specs.Moves.{standing, keep};
+ghost use Rattle.cursor.specs.MovesInner.{standing, keep};
 ghost use Rattle.message.specs.ObservationForm.{observed};
 ghost use Rattle.reader.specs.Reading.{inOrder};
 ghost use Rattle.reader.specs.Filling.{Stored};
@@ -102,7 +102,7 @@ fn at_first(w: Wanted) -> Todo
 }
 
 // An observation that the cursor has moved past is tested and its row stored; where it isn't good the cursor is lost, and nothing is left.
-fn turn(c: Cursor, s: &[u8], o: ObservationRow, t: Todo, out: &mut [u64]) -> Turned
+fn turn(c: Cursor, s: &[u8], o: ObservationFound, t: Todo, out: &mut [u64]) -> Turned
     ensures { λ r. ⌜ ((0 < t .left) × (o .whole ≤ 999999999) × (o .part < 1000) → After (keep (inOrder (t .behind + 1) (t .last) (o .position, o .whole * 1000 + o .part)) (standing (now (s .entry)) c)) t (o .position) (o .whole * 1000 + o .part) (now (out .entry)) (now (out .exit)) (r .to) (r .todo)) ⌝ }
 {
     let key = t.key;
@@ -147,7 +147,7 @@ pub fn observations(c: &mut Cursor, s: &[u8], w: Wanted, out: &mut [u64])
 {
     let mut t = at_first(w);
     while 0 < t.left {
-        let o = rows::observation(c, s);
+        let o = passages::observation(c, s);
         let x = turn(*c, s, o, t, out);
         *c = x.to;
         t = x.todo;
@@ -155,7 +155,7 @@ pub fn observations(c: &mut Cursor, s: &[u8], w: Wanted, out: &mut [u64])
 }
 
 // What stands behind the year and month of a period, where there is such a month.
-fn month_by(c: Cursor, s: &[u8], p: MonthRow) -> Cursor
+fn month_by(c: Cursor, s: &[u8], p: MonthFound) -> Cursor
     ensures { λ r. ⌜ MonthPassed (now (s .entry)) p c r ⌝ }
 {
     let year = p.year;
@@ -165,11 +165,11 @@ fn month_by(c: Cursor, s: &[u8], p: MonthRow) -> Cursor
     }
     let start = message::moment_text(moments::period_start(year, month));
     let end = message::moment_text(moments::period_end(year, month));
-    rows::behind_month_by(c, s, &start[7..29], &end)
+    passages::behind_month_by(c, s, &start[7..29], &end)
 }
 
 // Past what stands behind the year and month of a period.
-pub fn past_month(c: &mut Cursor, s: &[u8], p: MonthRow)
+pub fn past_month(c: &mut Cursor, s: &[u8], p: MonthFound)
     ensures { λ _. ⌜ MonthPassed (now (s .entry)) p (now (c .entry)) (now (c .exit)) ⌝ }
 {
     *c = month_by(*c, s, p);
@@ -194,8 +194,8 @@ pub struct TimeSeries {
 pub fn volume(c: &mut Cursor, s: &[u8], x: VolumeTodo, out: &mut [u64]) -> TimeSeries
     ensures { λ r. ⌜ VolumeDone (now (s .entry)) x (now (c .entry)) (now (out .entry)) (now (c .exit)) r (now (out .exit)) ⌝ }
 {
-    let v = rows::volume(c, s);
-    let p = rows::month(c, s);
+    let v = passages::volume(c, s);
+    let p = passages::month(c, s);
     past_month(c, s, p);
     let key = Key {
         partner: x.partner,

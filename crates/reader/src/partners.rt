@@ -28,7 +28,7 @@ pub struct Head {
 fn company_head(c: Cursor, s: &[u8], before: &[u8], behind: &[u8]) -> Head
     ensures { λ r. ⌜ r ≡ companyHead (now (s .entry)) c (now (before .entry)) (now (behind .entry)) ⌝ }
 {
-    let r = rows::company_by(c, s, before, behind);
+    let r = passages::company_by(c, s, before, behind);
     let to = r.to;
     Head {
         number: r.number,
@@ -42,7 +42,7 @@ fn company_head(c: Cursor, s: &[u8], before: &[u8], behind: &[u8]) -> Head
 fn access_head(c: Cursor, s: &[u8]) -> Head
     ensures { λ r. ⌜ r ≡ accessHead (now (s .entry)) c ⌝ }
 {
-    let r = rows::access_by(c, s);
+    let r = passages::access_by(c, s);
     let to = r.to;
     Head {
         number: r.number,

@@ -29,9 +29,9 @@ fn start_by(c: Cursor, s: &[u8], t: SeriesTodo) -> Read
 {
     let kind = t.kind;
     match kind {
-        Kind::Toe01 => rows::own_start_by(c, s),
-        Kind::Toe02 => rows::own_start_by(c, s),
-        Kind::Toe03 => rows::shared_start_by(c, s, t.supply),
+        Kind::Toe01 => passages::own_start_by(c, s),
+        Kind::Toe02 => passages::own_start_by(c, s),
+        Kind::Toe03 => passages::shared_start_by(c, s, t.supply),
     }
 }
 

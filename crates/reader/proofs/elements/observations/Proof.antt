@@ -1,4 +1,4 @@
--- A walk by hand, with a loop: in each turn the cursor that was lent is lent on to `rows::observation` (`Call_observation`), and the rows are lent again to `turn` (`Again`), which is covered.
+-- A walk by hand, with a loop: in each turn the cursor that was lent is lent on to `passages::observation` (`Call_observation`), and the rows are lent again to `turn` (`Again`), which is covered.
 -- What holds where a turn begins is `Turn`, on values, and `Ctx` here, in memory.
 use Rattle.cursor.proofs.Walk.{ℕ, _<_, GName, Lft, Share, ftrue, fat, flft, SProp, ent, emp, via, fst∗, snd∗, exE, id⊢, Fun, fact, givenOf, tables, tablesOf, u8, u64, yes, Is, shows, mem, owns, RefT, MutRef, ptr-vals, mut-tells, now, plain, ShrSlice, sliceVal, slice-vals, shr-slice-tells, only, opens, closes, owned, peeks, heard, nothing, spelt, calls-at, ensured, lasts, onEntry, Meets, tripleOf, Contract, Triple, entered, cited, says, Stays, stay-ref, walkOf, goes-ref, ends-at, walked, walk-meets, stay-dropped, goes-dropped, Atoms, sem, fullShare, URA, length, [], _∷_, List, _≡_, refl, ap, named, w8, w64, Val, vptr, vunit, Memory, Routine, Heap, Calls, Loops, WpFn, Tables, fmOf, WpFn-mono, Given, ‵, raw, _⊛_, some, later, ⋆, _$_, _∵_, !, qed, by, move, keep, drop, use1, split, join, pick, rewrite, fsplit, fsplit3, fjoin, fjoin3, feqI, suffices, frame, await, done, group, whole, sub, look-in, agg, look, look-raw, store-raw, init, forget, stop, hop, fld, from, load, of-opd, and-then, no-more, assigns, land, returns, enter, alloc1, alloc0, params1, pass1, pass0, free1, free0, store, lit, addr, unit-lit, lft-new, lft-end}
 use base.Fml.{Fml, froom, fdies}
@@ -24,24 +24,24 @@ use Rattle.cursor.specs.declared.Cursor.{Cursor}
 use Rattle.cursor.proofs.Cursor as T
 use Rattle.cursor.proofs.Cursor.Laws as T′
 use Rattle.cursor.proofs.Lent.{R, Good, sv, Slice, By, by-ref}
-use Rattle.rows.specs.declared.ObservationRow.{ObservationRow}
+use Rattle.passages.specs.declared.ObservationFound.{ObservationFound}
 use Rattle.reader.specs.declared.elements.Wanted.{Wanted}
 use Rattle.reader.specs.declared.elements.Todo.{Todo}
 use Rattle.reader.specs.declared.elements.Turned.{Turned}
-use Rattle.rows.specs.Rows.{observationRow, observationTo}
+use Rattle.passages.specs.PassagesInner.{observationFound, observationTo}
 use Rattle.reader.specs.Turns.{atFirst}
-use Rattle.rows.proofs.ObservationRow as N
-use Rattle.rows.proofs.ObservationRow.Laws as N′
+use Rattle.passages.proofs.ObservationFound as N
+use Rattle.passages.proofs.ObservationFound.Laws as N′
 use Rattle.reader.proofs.elements.Wanted as B
 use Rattle.reader.proofs.elements.Wanted.Laws as B′
 use Rattle.reader.proofs.elements.Todo as S
 use Rattle.reader.proofs.elements.Todo.Laws as S′
 use Rattle.reader.proofs.elements.Turned as D
 use Rattle.reader.proofs.elements.Turned.Laws as D′
-use Rattle.rows.proofs.Call_observation as call-one
-use Rattle.rows.proofs.observation.Symbol as one-def
-use Rattle.rows.proofs.observation.Symbol.{name as #one}
-use Rattle.rows.proofs.observation.Met as one-thm
+use Rattle.passages.proofs.Call_observation as call-one
+use Rattle.passages.proofs.observation.Symbol as one-def
+use Rattle.passages.proofs.observation.Symbol.{name as #one}
+use Rattle.passages.proofs.observation.Met as one-thm
 use Rattle.reader.proofs.elements.at_first as first
 use Rattle.reader.proofs.elements.at_first.Symbol as first-def
 use Rattle.reader.proofs.elements.at_first.Symbol.{name as #first}
@@ -117,13 +117,13 @@ module _ {M : Type 1} (𝓤 : URA M) (H : Heap 𝓤) (A : Atoms 𝓤) (W : Given
   said-first r = exE 𝓤 _ (λ ws. snd∗ 𝓤 (sem 𝓤 H A (lasts first.ended tt (w, tt) ws)) (fact 𝓤 (r ≡ atFirst w)))
 
   -- a turn's call, for the lifetime ν, under the name δ
-  abbrev args : GName → Cursor → ObservationRow → Todo → List ℕ → Cursor × (RefT (List ℕ) × (ObservationRow × (Todo × (RefT (List ℕ) × Unit {0}))))
+  abbrev args : GName → Cursor → ObservationFound → Todo → List ℕ → Cursor × (RefT (List ℕ) × (ObservationFound × (Todo × (RefT (List ℕ) × Unit {0}))))
   args δ c r t l = (c, (s, (r, (t, (x₂ δ l, tt)))))
 
-  abbrev to : ℕ → GName → Cursor → ObservationRow → Todo → List ℕ → Turn-of 𝓤 H A at-mem run .Ghost
+  abbrev to : ℕ → GName → Cursor → ObservationFound → Todo → List ℕ → Turn-of 𝓤 H A at-mem run .Ghost
   to ν δ c r t l = (((κ₁, (ν ∷ [], tt)), (q₁, (fullShare, tt)), tt, args δ c r t l, (T′.lowered c ∷ [], (sv s ∷ [], (N′.lowered r ∷ [], (S′.lowered t ∷ [], (sv₂ (length l) ∷ [], tt)))))), tt)
 
-  goes : (ν : ℕ) (δ : GName) (c : Cursor) (r : ObservationRow) (t : Todo) (l : List ℕ) → Good c → Is N.the-row r (N′.lowered r ∷ []) → Is S.the-row t (S′.lowered t ∷ [])
+  goes : (ν : ℕ) (δ : GName) (c : Cursor) (r : ObservationFound) (t : Todo) (l : List ℕ) → Good c → Is N.the-row r (N′.lowered r ∷ []) → Is S.the-row t (S′.lowered t ∷ [])
       → ent 𝓤 (⋆ 𝓤 H A (‵ (flft κ₁ q₁) ∷ ‵ (flft (ν ∷ []) fullShare) ∷ ‵ (Slice κ₁ s) ∷ ‵ (MutSlice (named 0) (ν ∷ []) u64 .own (x₂ δ l) (sv₂ (length l) ∷ [])) ∷ [])) (Turn-of 𝓤 H A at-mem run .pre (to ν δ c r t l))
   goes ν δ c r t l is-c is-r is-t =
       qed W (‵ (flft κ₁ q₁) ∷ ‵ (flft (ν ∷ []) fullShare) ∷ ‵ (Slice κ₁ s) ∷ ‵ (MutSlice (named 0) (ν ∷ []) u64 .own (x₂ δ l) (sv₂ (length l) ∷ [])) ∷ []) ∵
@@ -183,7 +183,7 @@ module _ {M : Type 1} (𝓤 : URA M) (H : Heap 𝓤) (A : Atoms 𝓤) (W : Given
           stays ! (load ! (from ! (stop !)) (look ! 8 refl)) $
           -- the cursor is lent on to `observation`
           assigns ! (addr ! (from ! (hop ! (look ! 16 refl) (stop !)))) (from ! (stop !)) (init ! 9 refl (tt, tt)) $
-          call-one.calls W (fmOf 𝓤 H (W .laws) 𝓣) at-mem run known-one (by-ref W κ q (b, o) γ) (t .h) κ₁ q₁ s (λ _ _ _. and-then ! (load ! (from ! (stop !)) (look ! 9 refl)) (and-then ! (load ! (from ! (stop !)) (look ! 15 refl)) (no-more !))) (λ is-row. land ! (from ! (stop !)) (init ! 6 refl (LL.lawful N.the-type N′.the-laws 𝓤 H A W .typed row _ is-row .0)) $
+          call-one.calls W (fmOf 𝓤 H (W .laws) 𝓣) at-mem run known-one (by-ref W κ q (b, o) γ) (t .h) κ₁ q₁ s (λ _ _ _. and-then ! (load ! (from ! (stop !)) (look ! 9 refl)) (and-then ! (load ! (from ! (stop !)) (look ! 15 refl)) (no-more !))) (λ is-row. land ! (from ! (stop !)) (init ! 6 refl (LL.lawful N.the-type N′.the-laws 𝓤 H A W .typed found _ is-row .0)) $
           -- it is opened and copied
           split ! $ fsplit3 ! $ drop ! $ opens ! tt R {h = end} b o (λ us. spelt ! R (Is R) (shows 𝓤 H A R) (LL.vals T.the-type T′.the-laws) (LL.tells T.the-type T′.the-laws) fullShare end us b o $ move ! (1 ∷ []) $ peeks ! R (Is R) (shows 𝓤 H A R) end (T′.lowered end ∷ []) (λ g. drop ! $
           assigns ! (of-opd ! (load ! (from ! (hop ! (look ! 19 refl) (stop !))) (look-raw ! 0 refl))) (from ! (stop !)) (init ! 13 refl (LL.lawful T.the-type T′.the-laws 𝓤 H A W .typed end _ g .0)) $
@@ -192,9 +192,9 @@ module _ {M : Type 1} (𝓤 : URA M) (H : Heap 𝓤) (A : Atoms 𝓤) (W : Given
           assigns ! (agg ! (and-then ! (load ! (from ! (stop !)) (look ! 14 refl)) (and-then ! (load ! (from ! (fld ! refl (stop !))) (look-in ! 16 (sub ! 1 refl (whole !)))) (no-more !)))) (from ! (stop !)) (init ! 15 refl (tt, (tt, (record { fits = room .0 }, tt)))) $
           rewrite ! 15 (λ (m : ℕ). ‵ (fat fullShare LentTy l₁₂ 0 (sv₂ m))) (sym (t .len)) refl $
           lft-new ! tt (λ ν. move ! (7 ∷ 8 ∷ []) $ use2 W (later (some (λ (δ : GName). ‵ (MutSlice (named 0) (ν ∷ []) u64 .own (x₂ δ (t .cells)) (sv₂ (length (t .cells)) ∷ [])) ⊛ ‵ (LentAgain u64 κ₂ (ν ∷ []) q₂ γ₂ b₂ o₂ δ (t .cells))))) (lends-again u64 κ₂ (ν ∷ []) q₂ γ₂ b₂ o₂ 𝓤 H A W (named 2) (named 0) (t .cells)) $ await ! tt $ pick ! (λ δ. split ! $
-          move ! (8 ∷ []) $ use1 W (‵ (Slice κ₁ s) ⊛ ‵ (Slice κ₁ s)) (shr-slice-copy 𝓤 H A W (named 0) κ₁ u8 .twice s (sv s ∷ [])) $ split ! $ move ! (9 ∷ 4 ∷ 1 ∷ 2 ∷ []) $ group ! 4 $ use1 W (raw (Turn-of 𝓤 H A at-mem run .pre (to ν δ end row (t .todo) (t .cells)))) (goes ν δ end row (t .todo) (t .cells) g is-row (t .good)) $
-          calls-at ! (fmOf 𝓤 H (W .laws) 𝓣) (Turn-of 𝓤 H A at-mem run) known-turn (to ν δ end row (t .todo) (t .cells)) (and-then ! (load ! (from ! (stop !)) (look ! 12 refl)) (and-then ! (load ! (from ! (stop !)) (look ! 17 refl)) (and-then ! (load ! (from ! (stop !)) (look ! 8 refl)) (and-then ! (load ! (from ! (stop !)) (look ! 7 refl)) (and-then ! (load ! (from ! (stop !)) (look ! 14 refl)) (no-more !)))))) (λ v.
-          use1 W (later (some (λ (r : Turned). ((‵ (flft κ₁ q₁) ⊛ ‵ (flft (ν ∷ []) fullShare) ⊛ ‵ ftrue) ⊛ ‵ (D.the-row .own r (v ∷ []))) ⊛ some (λ (ws : Unit {0} × (Unit {0} × (Unit {0} × (Unit {0} × (List ℕ × (Unit {0})))))). ‵ (lasts callee.ended (κ₁, (ν ∷ [], tt)) (args δ end row (t .todo) (t .cells)) ws) ⊛ raw (fact 𝓤 (Said t (ws .1 .1 .1 .1 .0) (r .to) (r .todo))))))) (id⊢ 𝓤 _) $ await ! tt $ pick ! (λ r.
+          move ! (8 ∷ []) $ use1 W (‵ (Slice κ₁ s) ⊛ ‵ (Slice κ₁ s)) (shr-slice-copy 𝓤 H A W (named 0) κ₁ u8 .twice s (sv s ∷ [])) $ split ! $ move ! (9 ∷ 4 ∷ 1 ∷ 2 ∷ []) $ group ! 4 $ use1 W (raw (Turn-of 𝓤 H A at-mem run .pre (to ν δ end found (t .todo) (t .cells)))) (goes ν δ end found (t .todo) (t .cells) g is-row (t .good)) $
+          calls-at ! (fmOf 𝓤 H (W .laws) 𝓣) (Turn-of 𝓤 H A at-mem run) known-turn (to ν δ end found (t .todo) (t .cells)) (and-then ! (load ! (from ! (stop !)) (look ! 12 refl)) (and-then ! (load ! (from ! (stop !)) (look ! 17 refl)) (and-then ! (load ! (from ! (stop !)) (look ! 8 refl)) (and-then ! (load ! (from ! (stop !)) (look ! 7 refl)) (and-then ! (load ! (from ! (stop !)) (look ! 14 refl)) (no-more !)))))) (λ v.
+          use1 W (later (some (λ (r : Turned). ((‵ (flft κ₁ q₁) ⊛ ‵ (flft (ν ∷ []) fullShare) ⊛ ‵ ftrue) ⊛ ‵ (D.the-row .own r (v ∷ []))) ⊛ some (λ (ws : Unit {0} × (Unit {0} × (Unit {0} × (Unit {0} × (List ℕ × (Unit {0})))))). ‵ (lasts callee.ended (κ₁, (ν ∷ [], tt)) (args δ end found (t .todo) (t .cells)) ws) ⊛ raw (fact 𝓤 (Said t (ws .1 .1 .1 .1 .0) (r .to) (r .todo))))))) (id⊢ 𝓤 _) $ await ! tt $ pick ! (λ r.
           split ! $ move ! (1 ∷ []) $ pick ! (λ ws. split ! $ move ! (1 ∷ []) $ heard ! (Said t (ws .1 .1 .1 .1 .0) (r .to) (r .todo)) (λ is. fsplit ! $ move ! (1 ∷ []) $ fsplit ! $ move ! (1 ∷ []) $ fsplit ! $ move ! (1 ∷ []) $ fsplit ! $ move ! (1 ∷ []) $ fsplit ! $ fsplit ! $ move ! (1 ∷ []) $ feqL ! (λ l.
           move ! (6 ∷ []) $ split ! $ move ! (1 ∷ []) $ peeks ! D.the-row (Is D.the-row) (shows 𝓤 H A D.the-row) r (v ∷ []) (λ g′. drop ! $
           land ! (from ! (stop !)) (init ! 15 refl (LL.lawful D.the-type D′.the-laws 𝓤 H A W .typed r _ g′ .0)) $ rewrite ! 15 (λ (u : Val). ‵ (fat fullShare D′.mir l₇ 0 u)) (ap only (LL.tells D.the-type D′.the-laws r _ g′)) refl $
@@ -206,8 +206,8 @@ module _ {M : Type 1} (𝓤 : URA M) (H : Heap 𝓤) (A : Atoms 𝓤) (W : Given
           forget ! 12 refl $ forget ! 13 refl $ forget ! 14 refl $ forget ! 15 refl $ forget ! 16 refl $ forget ! 17 refl $ forget ! 18 refl $
           keep ! (4 ∷ 3 ∷ 10 ∷ 0 ∷ 1 ∷ 11 ∷ 12 ∷ 13 ∷ 14 ∷ 15 ∷ 16 ∷ 17 ∷ 18 ∷ 19 ∷ 20 ∷ 21 ∷ 22 ∷ 23 ∷ 24 ∷ 25 ∷ 26 ∷ 27 ∷ 28 ∷ 29 ∷ 30 ∷ 31 ∷ 32 ∷ 33 ∷ 34 ∷ 35 ∷ 36 ∷ []) $ again ! Fewer Ctx t (next t (some-left t e) (ws .1 .1 .1 .1 .0) l (r .to) (r .todo) is (todo-is r v g′)) (next-fewer t (some-left t e) (ws .1 .1 .1 .1 .0) l (r .to) (r .todo) is (todo-is r v g′)))))))))))))
         where
-          row : ObservationRow
-          row = observationRow (now s) (t .h)
+          found : ObservationFound
+          found = observationFound (now s) (t .h)
 
           end : Cursor
           end = observationTo (now s) (t .h)
@@ -251,5 +251,5 @@ observations-spec 𝓤 H 𝓜 𝓖 𝓡 =
     (tables 𝓤 H 𝓜 𝓡 code.env .C) (tables 𝓤 H 𝓜 𝓡 code.env .Λ) #me code.function (code.unfolded 𝓤 H 𝓜 𝓡)
     (meets 𝓤 H (𝓖 .A) (givenOf 𝓤 H 𝓜 𝓖) (𝓜 .mem) (𝓡 .run) (tablesOf 𝓤 H 𝓜 (tables 𝓤 H 𝓜 𝓡 code.env))
     (cited 𝓤 H (First-of 𝓤 H (𝓖 .A) (𝓜 .mem) (𝓡 .run)) 𝓜 𝓡 code.env #first first-def.routine code.calls-reader·elements·at-first (first-thm.met 𝓤 H 𝓜 𝓖 𝓡))
-    (cited 𝓤 H (call-one.Contract-of 𝓤 H (𝓖 .A) (𝓜 .mem) (𝓡 .run)) 𝓜 𝓡 code.env #one one-def.routine code.calls-rows·observation (one-thm.met 𝓤 H 𝓜 𝓖 𝓡))
+    (cited 𝓤 H (call-one.Contract-of 𝓤 H (𝓖 .A) (𝓜 .mem) (𝓡 .run)) 𝓜 𝓡 code.env #one one-def.routine code.calls-passages·observation (one-thm.met 𝓤 H 𝓜 𝓖 𝓡))
     (cited 𝓤 H (Turn-of 𝓤 H (𝓖 .A) (𝓜 .mem) (𝓡 .run)) 𝓜 𝓡 code.env #turn turn-def.routine code.calls-reader·elements·turn (turn-thm.met 𝓤 H 𝓜 𝓖 𝓡)))

@@ -6,9 +6,9 @@ use Rattle.cursor.specs.declared.Cursor.{Cursor}
 use Rattle.cursor.proofs.Cursor as T
 use Rattle.cursor.proofs.Cursor.Laws as T′
 use Rattle.cursor.proofs.Lent.{R, Good, sv, Slice}
-use Rattle.rows.specs.declared.MonthRow.{MonthRow}
-use Rattle.rows.proofs.MonthRow as T-MonthRow
-use Rattle.rows.proofs.MonthRow.Laws as L-MonthRow
+use Rattle.passages.specs.declared.MonthFound.{MonthFound}
+use Rattle.passages.proofs.MonthFound as T-MonthFound
+use Rattle.passages.proofs.MonthFound.Laws as L-MonthFound
 use Rattle.reader.specs.Volumes.{MonthPassed}
 use Rattle.reader.proofs.elements.month_by as callee
 use Rattle.reader.proofs.elements.month_by.Symbol as callee-def
@@ -20,26 +20,26 @@ use Rattle.reader.proofs.elements.past_month.Statement as stated
 use Rattle.reader.proofs.elements.past_month.Code as code
 
 abbrev stayed : Stays (me.ended .signature .params) (me.ended .kept)
-stayed = (stay-ref (0 ∷ []) tt (plain (λ _. R)), (stay-dropped (SliceRefOf (1 ∷ []) tt (plain (λ _. u8)) (λ _. tt)) yes, (stay-dropped (plain (λ _. T-MonthRow.the-row)) yes, tt)))
+stayed = (stay-ref (0 ∷ []) tt (plain (λ _. R)), (stay-dropped (SliceRefOf (1 ∷ []) tt (plain (λ _. u8)) (λ _. tt)) yes, (stay-dropped (plain (λ _. T-MonthFound.the-row)) yes, tt)))
 
 abbrev Callee : {M : Type 1} (𝓤 : URA M) (H : Heap 𝓤) (A : Atoms 𝓤) (mem : Memory → SProp 𝓤) (run : Routine → Fun 𝓤) → Contract 𝓤
 Callee 𝓤 H A mem run = tripleOf 𝓤 H A callee.signature (callee.spec 𝓤 H A mem run)
 
-module _ {M : Type 1} (𝓤 : URA M) (H : Heap 𝓤) (A : Atoms 𝓤) (W : Given 𝓤 H A) (at-mem : Memory → SProp 𝓤) (run : Routine → Fun 𝓤) (κ κ₁ : Lft) (q q₁ : Share) (b o : ℕ) (γ : GName) (h : Cursor) (s : RefT (List ℕ)) (x : MonthRow) (fits-x : Is T-MonthRow.the-row x (L-MonthRow.lowered x ∷ [])) where
-  abbrev a : RefT Cursor × (RefT (List ℕ) × (MonthRow × (Unit {0})))
+module _ {M : Type 1} (𝓤 : URA M) (H : Heap 𝓤) (A : Atoms 𝓤) (W : Given 𝓤 H A) (at-mem : Memory → SProp 𝓤) (run : Routine → Fun 𝓤) (κ κ₁ : Lft) (q q₁ : Share) (b o : ℕ) (γ : GName) (h : Cursor) (s : RefT (List ℕ)) (x : MonthFound) (fits-x : Is T-MonthFound.the-row x (L-MonthFound.lowered x ∷ [])) where
+  abbrev a : RefT Cursor × (RefT (List ℕ) × (MonthFound × (Unit {0})))
   a = (record { ptr = (b, o); name = γ; now = h }, (s, (x, tt)))
 
   abbrev vals : List Val × (List Val × (List Val × (Unit {0})))
-  vals = (vptr b o ∷ [], (sv s ∷ [], (L-MonthRow.lowered x ∷ [], tt)))
+  vals = (vptr b o ∷ [], (sv s ∷ [], (L-MonthFound.lowered x ∷ [], tt)))
 
   abbrev Post : Val → SProp 𝓤
   Post = walkOf 𝓤 H A me.ended stayed (me.clauses 𝓤 H A at-mem run) .post (((κ, (κ₁, tt)), (q, (q₁, tt)), tt, a, vals), tt)
 
   abbrev to : Callee 𝓤 H A at-mem run .Ghost
-  to = (((κ₁, tt), (q₁, tt), tt, (h, (s, (x, tt))), (T′.lowered h ∷ [], (sv s ∷ [], (L-MonthRow.lowered x ∷ [], tt)))), tt)
+  to = (((κ₁, tt), (q₁, tt), tt, (h, (s, (x, tt))), (T′.lowered h ∷ [], (sv s ∷ [], (L-MonthFound.lowered x ∷ [], tt)))), tt)
 
   goes : Good h → ent 𝓤 (⋆ 𝓤 H A ((‵ (flft κ₁ q₁) ⊛ ‵ ftrue) ∷ ‵ (Slice κ₁ s) ∷ [])) (Callee 𝓤 H A at-mem run .pre to)
-  goes g = qed W ((‵ (flft κ₁ q₁) ⊛ ‵ ftrue) ∷ ‵ (Slice κ₁ s) ∷ []) ∵ nothing ! $ owned ! T-MonthRow.the-row (Is T-MonthRow.the-row) (LL.makes T-MonthRow.the-type L-MonthRow.the-plain 𝓤 H A) x _ fits-x $ fjoin ! $ move ! (2 ∷ 0 ∷ []) $ fjoin ! $ owned ! R (Is R) (LL.makes T.the-type T′.the-plain 𝓤 H A) h _ g $ fjoin ! $ move ! (1 ∷ 0 ∷ []) $ join ! $ nothing ! $ move ! (1 ∷ 0 ∷ []) $ frame ! $ done !
+  goes g = qed W ((‵ (flft κ₁ q₁) ⊛ ‵ ftrue) ∷ ‵ (Slice κ₁ s) ∷ []) ∵ nothing ! $ owned ! T-MonthFound.the-row (Is T-MonthFound.the-row) (LL.makes T-MonthFound.the-type L-MonthFound.the-plain 𝓤 H A) x _ fits-x $ fjoin ! $ move ! (2 ∷ 0 ∷ []) $ fjoin ! $ owned ! R (Is R) (LL.makes T.the-type T′.the-plain 𝓤 H A) h _ g $ fjoin ! $ move ! (1 ∷ 0 ∷ []) $ join ! $ nothing ! $ move ! (1 ∷ 0 ∷ []) $ frame ! $ done !
 
   abbrev Said : Cursor → Type 0
   Said r = MonthPassed (now s) x h r
@@ -54,11 +54,11 @@ module _ {M : Type 1} (𝓤 : URA M) (H : Heap 𝓤) (A : Atoms 𝓤) (W : Given
       move ! (2 ∷ 3 ∷ []) $ join ! $ frame ! $ feqI ! (List Val) (vptr b o ∷ []) (vptr b o ∷ []) refl $ fjoin3 ! $ nothing ! $ nothing ! $ fjoin ! $ nothing ! $ fjoin ! $ move ! (1 ∷ 0 ∷ []) $ fjoin ! $ feqI ! (List Val) (vunit ∷ []) (vunit ∷ []) refl $ move ! (1 ∷ 0 ∷ []) $ done !
 
   module _ (C : Calls 𝓤 H) (Λ : Loops 𝓤 H) (fm : FmC 𝓤 H (W .laws) C) (known : Triple 𝓤 (C #callee) (Callee 𝓤 H A at-mem run)) where
-    walk : Is (ShrSlice (named 1) κ₁ u8) s (sv s ∷ []) → ent 𝓤 (onEntry 𝓤 H A me.signature (κ, (κ₁, tt)) (q, (q₁, tt)) a vals) (WpFn 𝓤 H C Λ code.function (vptr b o ∷ sv s ∷ L-MonthRow.lowered x ∷ []) Post)
+    walk : Is (ShrSlice (named 1) κ₁ u8) s (sv s ∷ []) → ent 𝓤 (onEntry 𝓤 H A me.signature (κ, (κ₁, tt)) (q, (q₁, tt)) a vals) (WpFn 𝓤 H C Λ code.function (vptr b o ∷ sv s ∷ L-MonthFound.lowered x ∷ []) Post)
     walk is-s =
-        qed W ((‵ (flft κ q) ⊛ ‵ (flft κ₁ q₁) ⊛ ‵ ftrue) ∷ ‵ (owns (MutRef (named 0) κ R ∷ ShrSlice (named 1) κ₁ u8 ∷ T-MonthRow.the-row ∷ []) a vals) ∷ []) ∵ enter ! C Λ code.function (vptr b o ∷ sv s ∷ L-MonthRow.lowered x ∷ []) _ $
+        qed W ((‵ (flft κ q) ⊛ ‵ (flft κ₁ q₁) ⊛ ‵ ftrue) ∷ ‵ (owns (MutRef (named 0) κ R ∷ ShrSlice (named 1) κ₁ u8 ∷ T-MonthFound.the-row ∷ []) a vals) ∷ []) ∵ enter ! C Λ code.function (vptr b o ∷ sv s ∷ L-MonthFound.lowered x ∷ []) _ $
         alloc1 ! (λ l₀. alloc1 ! (λ l₁. alloc1 ! (λ l₂. alloc1 ! (λ l₃. alloc1 ! (λ l₄. alloc1 ! (λ l₅. alloc0 ! $ params1 ! $
-        pass1 ! (init ! 8 refl (tt, tt)) $ pass1 ! (init ! 6 refl (tt, (tt, (record { fits = is-s .0 .1 .0 }, tt)))) $ pass1 ! (init ! 4 refl (LL.lawful T-MonthRow.the-type L-MonthRow.the-laws 𝓤 H A W .typed x _ fits-x .0)) $ pass0 ! $
+        pass1 ! (init ! 8 refl (tt, tt)) $ pass1 ! (init ! 6 refl (tt, (tt, (record { fits = is-s .0 .1 .0 }, tt)))) $ pass1 ! (init ! 4 refl (LL.lawful T-MonthFound.the-type L-MonthFound.the-laws 𝓤 H A W .typed x _ fits-x .0)) $ pass0 ! $
         move ! (13 ∷ []) $ fsplit ! $ move ! (1 ∷ []) $ fsplit ! $ move ! (1 ∷ []) $ fsplit ! $ move ! (3 ∷ []) $ fsplit3 ! $ drop ! $ move ! (17 ∷ []) $ split ! $ move ! (2 ∷ 3 ∷ 0 ∷ []) $
         opens ! tt R {h = h} b o (λ us. spelt ! R (Is R) (shows 𝓤 H A R) (LL.vals T.the-type T′.the-laws) (LL.tells T.the-type T′.the-laws) fullShare h us b o $
         move ! (1 ∷ []) $ peeks ! R (Is R) (shows 𝓤 H A R) h (T′.lowered h ∷ []) (λ g. drop ! $
@@ -78,9 +78,9 @@ module _ {M : Type 1} (𝓤 : URA M) (H : Heap 𝓤) (A : Atoms 𝓤) (W : Given
 
 meets : {M : Type 1} (𝓤 : URA M) (H : Heap 𝓤) (A : Atoms 𝓤) (W : Given 𝓤 H A) (mem : Memory → SProp 𝓤) (run : Routine → Fun 𝓤) (𝓣 : Tables 𝓤 H) → Triple 𝓤 (𝓣 .C #callee) (Callee 𝓤 H A mem run) → Meets 𝓤 H A me.signature (WpFn 𝓤 H (𝓣 .C) (𝓣 .Λ) code.function) (me.spec 𝓤 H A mem run)
 meets 𝓤 H A W mem run 𝓣 known =
-    walk-meets 𝓤 H A me.ended stayed W (goes-ref 𝓤 H A W 2 0 tt (plain (λ _. R)), (goes-dropped 𝓤 H A W 2 (SliceRefOf (1 ∷ []) tt (plain (λ _. u8)) (λ _. tt)) yes (λ κs x f. refl), (goes-dropped 𝓤 H A W 2 (plain (λ _. T-MonthRow.the-row)) yes (λ κs x f. refl), tt))) (me.clauses 𝓤 H A mem run)
+    walk-meets 𝓤 H A me.ended stayed W (goes-ref 𝓤 H A W 2 0 tt (plain (λ _. R)), (goes-dropped 𝓤 H A W 2 (SliceRefOf (1 ∷ []) tt (plain (λ _. u8)) (λ _. tt)) yes (λ κs x f. refl), (goes-dropped 𝓤 H A W 2 (plain (λ _. T-MonthFound.the-row)) yes (λ κs x f. refl), tt))) (me.clauses 𝓤 H A mem run)
     (WpFn 𝓤 H (𝓣 .C) (𝓣 .Λ) code.function) (WpFn-mono 𝓤 H (W .laws) 𝓣 code.function)
-    (walked 𝓤 H A me.ended stayed (me.clauses 𝓤 H A mem run) (WpFn 𝓤 H (𝓣 .C) (𝓣 .Λ) code.function) (λ κs. (ptr-vals, (slice-vals, (LL.vals T-MonthRow.the-type L-MonthRow.the-laws, tt)))) (λ κs. (mut-tells (named 0) (κs .0) R, (shr-slice-tells (named 1) (κs .1 .0) u8, (LL.tells T-MonthRow.the-type L-MonthRow.the-laws, tt))))
+    (walked 𝓤 H A me.ended stayed (me.clauses 𝓤 H A mem run) (WpFn 𝓤 H (𝓣 .C) (𝓣 .Λ) code.function) (λ κs. (ptr-vals, (slice-vals, (LL.vals T-MonthFound.the-type L-MonthFound.the-laws, tt)))) (λ κs. (mut-tells (named 0) (κs .0) R, (shr-slice-tells (named 1) (κs .1 .0) u8, (LL.tells T-MonthFound.the-type L-MonthFound.the-laws, tt))))
     (λ κs qs bounds a _ are. via 𝓤 _ (fst∗ 𝓤 _ (emp 𝓤)) (walk 𝓤 H A W mem run (κs .0) (κs .1 .0) (qs .0) (qs .1 .0) (a .0 .ptr .0) (a .0 .ptr .1) (a .0 .name) (a .0 .now) (a .1 .0) (a .1 .1 .0) (are .1 .1 .0) (𝓣 .C) (𝓣 .Λ) (fmOf 𝓤 H (W .laws) 𝓣) known (are .1 .0))))
 
 pub past-month-spec : {M : Type 1} → stated.statement M

@@ -1,4 +1,4 @@
--- Six stores in a row, where the test left room for them.
+-- Six stores, one behind the other, where the test left room for them.
 use lib.ListN.{length-set}
 use Rattle.message.specs.ObservationForm.{observed}
 use Rattle.reader.specs.FillingLaws.{stored-none, stored-six}

@@ -1,7 +1,7 @@
 -- The test of what was read, and the row's storing.
 use mathlib.Core.Path.{refl, ap, _∙_}
 use borrow.Author.Tests.{not-true, not-false}
-use Rattle.cursor.specs.Moves.{standing, cursorAt, keep}
+use Rattle.cursor.specs.MovesInner.{standing, cursorAt, keep}
 use Rattle.cursor.specs.MovesLaws.{mark-lost, mark-found}
 use borrow.Author.Needs.{needs}
 use Rattle.reader.proofs.elements.turn.Statement.{statement}

@@ -1,7 +1,7 @@
 -- What was read is tested against what was seen; where it stands, what is left is the next, and else nothing is left.
 use mathlib.Core.Path.{refl, ap, _∙_}
 use borrow.Author.Tests.{not-true, not-false}
-use Rattle.cursor.specs.Moves.{standing, cursorAt, keep}
+use Rattle.cursor.specs.MovesInner.{standing, cursorAt, keep}
 use Rattle.cursor.specs.MovesLaws.{mark-lost, mark-found}
 use native.Mathlib.Omega.{arith}
 use Rattle.text.specs.Ascii.{bytes}
