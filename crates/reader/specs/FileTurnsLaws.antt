@@ -27,14 +27,14 @@ use Rattle.reader.specs.declared.partners.PartnersTodo.{PartnersTodo}
 use Rattle.reader.specs.declared.file.Root.{Root}
 use Rattle.reader.specs.declared.file.Receiver.{Receiver}
 use Rattle.passages.specs.PassagesInner.{messageFound, messageTo, receiverFound}
-use Rattle.reader.specs.PassagesLaws.{MessageSteps, message-steps, ReceiverSteps, receiver-steps}
-use Rattle.reader.specs.ReaderItems.{folded}
-use Rattle.reader.specs.ReaderPartners.{adding}
-use Rattle.reader.specs.Filling.{Fills, rowsOfPartner}
-use Rattle.reader.specs.ReaderPlaces.{Steps}
-use Rattle.reader.specs.ReaderFile.{root-first, root-rest, filed, filed-fills}
-use Rattle.reader.specs.PartnerTurns.{PartnersWhole}
-use Rattle.reader.specs.FileTurns.{Rooted, Received, rootEnd, FileDone}
+use Rattle.reader.specs.PassagesLaws.{MessageSteps, message-steps, receiver-steps}
+use Rattle.reader.specs.FileTurnsInner.{ReceiverSteps, Rooted, Received, rootEnd, FileDone}
+use Rattle.series_reader.specs.ReadingInner.{folded}
+use Rattle.reader.specs.PartnersInner.{adding}
+use Rattle.series_reader.specs.FillingInner.{Fills, rowsOfPartner}
+use Rattle.reader.specs.PlacesLaws.{Steps}
+use Rattle.reader.specs.FileLaws.{root-first, root-rest, filed, filed-fills}
+use Rattle.reader.specs.PartnerTurnsInner.{PartnersWhole}
 
 -- ---- the root
 

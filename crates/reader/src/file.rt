@@ -10,7 +10,7 @@ ghost use Prim.Native.Nat.{suc};
 ghost use Rattle.message.specs.Bytes.{opening, ending, closing, counter};
 ghost use Rattle.message.specs.FileForm.{kindOf};
 ghost use Rattle.passages.specs.PassagesInner.{receiverFound};
-ghost use Rattle.reader.specs.FileTurns.{Rooted, Received, rootEnd, FileDone};
+ghost use Rattle.reader.specs.FileTurnsInner.{Rooted, Received, rootEnd, FileDone};
 
 // A file's kind.
 pub struct Root {

@@ -47,8 +47,8 @@ use Rattle.reader.proofs.partners.PartnersTodo.Laws as L-PartnersTodo
 use Rattle.reader.proofs.file.FileRead as T-FileRead
 use Rattle.reader.proofs.file.FileRead.Laws as L-FileRead
 use Rattle.passages.specs.PassagesInner.{messageFound, messageTo}
-use Rattle.reader.specs.PartnerTurns.{PartnersWhole}
-use Rattle.reader.specs.FileTurns.{Rooted, Received, rootEnd}
+use Rattle.reader.specs.PartnerTurnsInner.{PartnersWhole}
+use Rattle.reader.specs.FileTurnsInner.{Rooted, Received, rootEnd}
 use Rattle.reader.specs.FileTurnsLaws.{file-done}
 use Rattle.reader.proofs.file.file_read.Key.{name as #me}
 use Rattle.reader.proofs.file.file_read as me
