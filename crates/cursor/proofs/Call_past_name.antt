@@ -28,7 +28,7 @@ use denote.Triple.Call.{calls-at}
 use denote.Triple.Clauses.{lasts}
 use denote.Triple.Spec.{tripleOf}
 use denote.Builtin.{usize}
-use Rattle.cursor.specs.Moves.{pastName}
+use Rattle.cursor.specs.MovesInner.{pastName}
 use Rattle.cursor.specs.declared.Cursor.{Cursor}
 use Rattle.cursor.proofs.Lent.{R, sv, Slice, ref-at, Ref, Holder}
 use Rattle.cursor.proofs.past_name as me

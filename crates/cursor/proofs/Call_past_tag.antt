@@ -25,7 +25,7 @@ use denote.Triple.Statement.{Contract, Triple}
 use denote.Triple.Call.{calls-at}
 use denote.Triple.Clauses.{lasts}
 use denote.Triple.Spec.{tripleOf}
-use Rattle.cursor.specs.Moves.{pastTag}
+use Rattle.cursor.specs.MovesInner.{pastTag}
 use Rattle.cursor.specs.declared.Cursor.{Cursor}
 use Rattle.cursor.proofs.Lent.{R, sv, Slice, ref-at, Ref, Holder}
 use Rattle.cursor.proofs.past_tag as me

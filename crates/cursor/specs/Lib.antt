@@ -1,3 +1,3 @@
-pub mod Moves
+pub mod MovesInner
 pub mod MovesLaws
-pub mod MovesParsed
+pub mod ParsedLaws

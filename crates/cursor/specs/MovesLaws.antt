@@ -18,7 +18,7 @@ use Rattle.formats.specs.Name.{nameByte, nameParse}
 use Rattle.formats.specs.Place.{Within, Parsed, placed}
 use Rattle.cursor.specs.declared.Cursor.{Cursor}
 use Rattle.cursor.specs.declared.Read.{Read}
-use Rattle.cursor.specs.Moves.{cursorAt, readOf, markIf, standing, behind, taken, readAt, counterParse, pastTag, pastNumber, pastCounter, pastFixed, pastWord, pastName}
+use Rattle.cursor.specs.MovesInner.{cursorAt, readOf, markIf, standing, behind, taken, readAt, pastTag, pastNumber, pastCounter, pastFixed, pastWord, pastName}
 
 back : (s : List ℕ) (q : ℕ) → q ≤ length s → length s - length (drop q s) ≡ q
 back s q h = omega (arith, length-drop q s)

@@ -3,7 +3,7 @@
 use formats::Mark;
 use formats::Val;
 ghost use mathlib.Core.Path.{_≡_};
-ghost use Rattle.cursor.specs.Moves.{standing, cursorAt, keep, readOf, pastTag, pastNumber, pastCounter, pastFixed, pastWord, pastName};
+ghost use Rattle.cursor.specs.MovesInner.{standing, cursorAt, keep, readOf, pastTag, pastNumber, pastCounter, pastFixed, pastWord, pastName};
 
 // A place in a text, if `good`.
 pub struct Cursor {

@@ -1,2 +1,1 @@
 mod Cited
-pub mod Turn

@@ -13,28 +13,28 @@ use Rattle.formats.specs.declared.Mark.{Mark}
 use Rattle.formats.specs.declared.Mark.the-variants.{At, No}
 use Rattle.cursor.specs.declared.Cursor.{Cursor}
 use Rattle.cursor.specs.declared.Read.{Read}
-use Rattle.cursor.specs.Moves.{standing, cursorAt, pastTag, pastWord}
+use Rattle.cursor.specs.MovesInner.{standing, cursorAt, pastTag, pastWord}
 use Rattle.cursor.specs.MovesLaws.{stands-at, tag-stands}
-use Rattle.cursor.specs.MovesParsed.{tag-parsed, word-parsed}
+use Rattle.cursor.specs.ParsedLaws.{tag-parsed, word-parsed}
 use Rattle.kinds.specs.declared.Kind.{Kind}
 use Rattle.kinds.specs.declared.Kind.the-variants.{Toe01, Toe02, Toe03}
 use Rattle.message.specs.Bytes.{opening, closing, ending, root, counter}
 use Rattle.message.specs.Valid.{isMoment}
 use Rattle.message.specs.FileForm.{kindOf, kindForm, partnersForm}
-use Rattle.rows.specs.declared.MessageRow.{MessageRow}
-use Rattle.rows.specs.declared.ReceiverRow.{ReceiverRow}
+use Rattle.passages.specs.declared.MessageFound.{MessageFound}
+use Rattle.passages.specs.declared.ReceiverFound.{ReceiverFound}
 use Rattle.reader.specs.declared.partners.PartnersTodo.{PartnersTodo}
 use Rattle.reader.specs.declared.file.Root.{Root}
 use Rattle.reader.specs.declared.file.Receiver.{Receiver}
-use Rattle.rows.specs.Rows.{messageRow, messageTo, receiverRow}
-use Rattle.reader.specs.RowsLaws.{MessageSteps, message-steps, ReceiverSteps, receiver-steps}
-use Rattle.reader.specs.ReaderItems.{folded}
-use Rattle.reader.specs.ReaderPartners.{adding}
-use Rattle.reader.specs.Filling.{Fills, rowsOfPartner}
-use Rattle.reader.specs.ReaderPlaces.{Steps}
-use Rattle.reader.specs.ReaderFile.{root-first, root-rest, filed, filed-fills}
-use Rattle.reader.specs.PartnerTurns.{PartnersWhole}
-use Rattle.reader.specs.FileTurns.{Rooted, Received, rootEnd, FileDone}
+use Rattle.passages.specs.PassagesInner.{messageFound, messageTo, receiverFound}
+use Rattle.reader.specs.PassagesLaws.{MessageSteps, message-steps, receiver-steps}
+use Rattle.reader.specs.FileTurnsInner.{ReceiverSteps, Rooted, Received, rootEnd, FileDone}
+use Rattle.series_reader.specs.ReadingInner.{folded}
+use Rattle.reader.specs.PartnersInner.{adding}
+use Rattle.series_reader.specs.FillingInner.{Fills, rowsOfPartner}
+use Rattle.reader.specs.PlacesLaws.{Steps}
+use Rattle.reader.specs.FileLaws.{root-first, root-rest, filed, filed-fills}
+use Rattle.reader.specs.PartnerTurnsInner.{PartnersWhole}
 
 -- ---- the root
 
@@ -56,19 +56,19 @@ root-other s c a e g w f =
 
 -- ---- the receiver
 
-pub received : (s : List ℕ) (r : Root) (c : Cursor) (m b : Mark) (f : Cursor) (v : ReceiverRow) → m ≡ standing s c → Parsed (exactlyParse 29 isMoment) s m b (take 29 (left s m)) → f ≡ cursorAt b
-    → v ≡ receiverRow s f (closing "ReceiverID" ++ opening (counter (r .kind))) (ending (counter (r .kind)))
+pub received : (s : List ℕ) (r : Root) (c : Cursor) (m b : Mark) (f : Cursor) (v : ReceiverFound) → m ≡ standing s c → Parsed (exactlyParse 29 isMoment) s m b (take 29 (left s m)) → f ≡ cursorAt b
+    → v ≡ receiverFound s f (closing "ReceiverID" ++ opening (counter (r .kind))) (ending (counter (r .kind)))
     → Received s r c (v .to) (record { receiver = v .receiver; todo = record { kind = r .kind; left = v .count; low = 0; year = 0; month = 0; rows = 0 } })
 received s r c m b f v e p i j =
     record {
       behind = b;
       moment = rw e at p;
-      receiver = rw j (subst (λ (k : Mark). ReceiverSteps s k (standing s (row .to)) (r .kind) (row .receiver) (row .count)) (ap (standing s) i ∙ stands-at s b (p .within)) (receiver-steps s f (r .kind)));
+      receiver = rw j (subst (λ (k : Mark). ReceiverSteps s k (standing s (found .to)) (r .kind) (found .receiver) (found .count)) (ap (standing s) i ∙ stands-at s b (p .within)) (receiver-steps s f (r .kind)));
       todo = refl;
     }
   where
-    row : ReceiverRow
-    row = receiverRow s f (closing "ReceiverID" ++ opening (counter (r .kind))) (ending (counter (r .kind)))
+    found : ReceiverFound
+    found = receiverFound s f (closing "ReceiverID" ++ opening (counter (r .kind))) (ending (counter (r .kind)))
 
 -- ---- the end
 
@@ -78,7 +78,7 @@ root-end s Toe01 c = tag-parsed s c (bytes "</AggregatedToEVolumesForFSP>")
 root-end s Toe02 c = tag-parsed s c (bytes "</AggregatedToEVolumesForSupplier>")
 root-end s Toe03 c = tag-parsed s c (bytes "</IndividualToEVolumesForSupplier>")
 
-pub file-done : (s ys : List ℕ) (h₁ : Cursor) (r : Root) → Rooted s (cursorAt (At 0)) h₁ r → (h₂ : Cursor) (m : MessageRow) → (h₂ ≡ messageTo s h₁) × (m ≡ messageRow s h₁)
+pub file-done : (s ys : List ℕ) (h₁ : Cursor) (r : Root) → Rooted s (cursorAt (At 0)) h₁ r → (h₂ : Cursor) (m : MessageFound) → (h₂ ≡ messageTo s h₁) × (m ≡ messageFound s h₁)
     → (h₃ : Cursor) (v : Receiver) → Received s r h₂ h₃ v → (h₄ : Cursor) (told : PartnersTodo) (zs : List ℕ) → PartnersWhole s (v .todo) h₃ ys h₄ told zs → (h₅ : Cursor) → h₅ ≡ rootEnd s (r .kind) h₄ → length s < 2 ^ 64
     → FileDone s ys (record { root = r; receiver = v .receiver; told = told; message = m; to = h₅ }) zs
 file-done s ys h₁ r e₁ h₂ m e₂ h₃ v e₃ h₄ told zs e₄ h₅ e₅ long = (filed steps, filed-fills steps (whole .1))

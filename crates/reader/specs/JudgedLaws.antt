@@ -21,9 +21,9 @@ use Rattle.message.specs.Rows.{rowsOf, Message, message}
 use Rattle.message.specs.Messages.{readMessage}
 use Rattle.message.specs.Calls.{idPlace, momentPlace, factsOf, readAnswer}
 use Rattle.message.specs.CallsLaws.{says-no-file, says-short, says-file}
-use Rattle.reader.specs.ReaderItems.{folded}
-use Rattle.reader.specs.ReaderPartners.{adding}
-use Rattle.reader.specs.ReaderFile.{partners-rows, partners-month}
+use Rattle.series_reader.specs.ReadingInner.{folded}
+use Rattle.reader.specs.PartnersInner.{adding}
+use Rattle.reader.specs.FileLaws.{partners-rows, partners-month}
 
 -- ---- the parts of a file, and the file by its rows
 

@@ -14,27 +14,28 @@ use Rattle.formats.specs.Combine.{strip, mapParse}
 use Rattle.formats.specs.Place.{Within, Parsed}
 use Rattle.formats.specs.PlaceLaws.{parsed, not-there}
 use Rattle.cursor.specs.declared.Cursor.{Cursor}
-use Rattle.cursor.specs.Moves.{keep, standing, pastTag}
+use Rattle.cursor.specs.MovesInner.{keep, standing, pastTag}
 use Rattle.cursor.specs.MovesLaws.{standing-within, stands-at}
-use Rattle.cursor.specs.MovesParsed.{tag-parsed, fixed-fits}
+use Rattle.cursor.specs.ParsedLaws.{tag-parsed, fixed-fits}
 use Rattle.kinds.specs.declared.Kind.{Kind}
 use Rattle.kinds.specs.declared.Kind.the-variants.{Toe01, Toe02, Toe03}
 use Rattle.message.specs.Bytes.{opening, closing, ending, group, partner}
 use Rattle.message.specs.PartnerForm.{partnerForm}
-use Rattle.reader.specs.declared.series.SeriesTodo.{SeriesTodo}
+use Rattle.series_reader.specs.declared.series.SeriesTodo.{SeriesTodo}
 use Rattle.reader.specs.declared.partners.PartnersTodo.{PartnersTodo}
-use Rattle.reader.specs.RowsLaws.{company-read, access-read, access-fits}
-use Rattle.reader.specs.Reading.{parsed-no}
-use Rattle.reader.specs.ReaderItems.{run-same}
-use Rattle.reader.specs.ReaderSeries.{Room}
-use Rattle.reader.specs.ReaderPartner.{Head, headParse, of-company, partnerKept, partner-read, tagForm, room-on, head-room, room-keep}
-use Rattle.reader.specs.ReaderPartners.{partnerItem, next-partner, partnersKept, partners-start, partners-end, partners-bad, partners-step}
-use Rattle.reader.specs.Filling.{Fills, rowsOfPartner}
-use Rattle.reader.specs.FillingLaws.{fills-no}
-use Rattle.reader.specs.FillingParts.{partner-fills, next-partner-fills, partnersFrom, partners-filled, partners-fill-none, partners-fill-bad, partners-fill-step}
-use Rattle.reader.specs.SeriesTurns.{SeriesWhole}
-use Rattle.reader.specs.SeriesTurnsLaws.{from-none}
-use Rattle.reader.specs.PartnerTurns.{headOf, headTodo, groupEnd, PartnerAfter, PartnerEnd, PartnerOn, PartnerTurned, PartnerStep, PartnersWhole}
+use Rattle.reader.specs.PassagesLaws.{company-read, access-read, access-fits}
+use Rattle.series_reader.specs.ReadingLaws.{parsed-no}
+use Rattle.series_reader.specs.ItemsLaws.{run-same}
+use Rattle.series_reader.specs.SeriesInner.{Room}
+use Rattle.reader.specs.PartnerLaws.{Head, headParse, of-company, partner-read, tagForm, room-on, head-room, room-keep}
+use Rattle.reader.specs.PartnersInner.{partnerKept, partnerItem}
+use Rattle.reader.specs.PartnersLaws.{next-partner, partnersKept, partners-start, partners-end, partners-bad, partners-step}
+use Rattle.series_reader.specs.FillingInner.{Fills, rowsOfPartner}
+use Rattle.series_reader.specs.FillingLaws.{fills-no}
+use Rattle.reader.specs.PartnersFillingLaws.{partner-fills, next-partner-fills, partnersFrom, partners-filled, partners-fill-none, partners-fill-bad, partners-fill-step}
+use Rattle.series_reader.specs.SeriesTurnsInner.{SeriesWhole}
+use Rattle.series_reader.specs.SeriesTurnsLaws.{from-none}
+use Rattle.reader.specs.PartnerTurnsInner.{headOf, headTodo, groupEnd, PartnerAfter, PartnerEnd, PartnerOn, PartnerTurned, PartnerStep, PartnersWhole}
 
 -- ---- the head and the end of a partner
 

@@ -2,15 +2,15 @@
 use crate::partners::PartnersTodo;
 use cursor::Cursor;
 use kinds::Kind;
-use rows::MessageRow;
-use rows::ReceiverRow;
+use passages::MessageFound;
+use passages::ReceiverFound;
 ghost use mathlib.Core.Path.{_≡_};
 ghost use mathlib.Core.List.{_++_};
 ghost use Prim.Native.Nat.{suc};
 ghost use Rattle.message.specs.Bytes.{opening, ending, closing, counter};
 ghost use Rattle.message.specs.FileForm.{kindOf};
-ghost use Rattle.rows.specs.Rows.{receiverRow};
-ghost use Rattle.reader.specs.FileTurns.{Rooted, Received, rootEnd, FileDone};
+ghost use Rattle.passages.specs.PassagesInner.{receiverFound};
+ghost use Rattle.reader.specs.FileTurnsInner.{Rooted, Received, rootEnd, FileDone};
 
 // A file's kind.
 pub struct Root {
@@ -61,18 +61,18 @@ pub fn past_root(c: &mut Cursor, s: &[u8]) -> Root
 }
 
 // The receiver and the counter of partners, in a file of a kind.
-fn receiver_row(c: Cursor, s: &[u8], kind: Kind) -> ReceiverRow
-    ensures { λ r. ⌜ r ≡ receiverRow (now (s .entry)) c (closing "ReceiverID" ++ opening (counter kind)) (ending (counter kind)) ⌝ }
+fn receiver_of(c: Cursor, s: &[u8], kind: Kind) -> ReceiverFound
+    ensures { λ r. ⌜ r ≡ receiverFound (now (s .entry)) c (closing "ReceiverID" ++ opening (counter kind)) (ending (counter kind)) ⌝ }
 {
     match kind {
-        Kind::Toe01 => rows::receiver_by(
+        Kind::Toe01 => passages::receiver_by(
             c,
             s,
             b"</ReceiverID><SupplierCounter>",
             b"/SupplierCounter>",
         ),
-        Kind::Toe02 => rows::receiver_by(c, s, b"</ReceiverID><FSPCounter>", b"/FSPCounter>"),
-        Kind::Toe03 => rows::receiver_by(
+        Kind::Toe02 => passages::receiver_by(c, s, b"</ReceiverID><FSPCounter>", b"/FSPCounter>"),
+        Kind::Toe03 => passages::receiver_by(
             c,
             s,
             b"</ReceiverID><SDPSupplyCounter>",
@@ -101,7 +101,7 @@ fn receiver_by(c: Cursor, s: &[u8], root: Root) -> ReceiverRead
     let m = cursor::place(c, s);
     let b = message::moment_at(s, m);
     let behind = cursor::at_mark(b);
-    let v = receiver_row(behind, s, kind);
+    let v = receiver_of(behind, s, kind);
     let to = v.to;
     let todo = PartnersTodo {
         kind,
@@ -151,7 +151,7 @@ pub struct FileRead {
     pub root: Root,
     pub receiver: u64,
     pub told: PartnersTodo,
-    pub message: MessageRow,
+    pub message: MessageFound,
     pub to: Cursor,
 }
 
@@ -161,7 +161,7 @@ pub fn file_read(s: &[u8], out: &mut [u64]) -> FileRead
 {
     let mut c = Cursor { at: 0, good: true };
     let root = past_root(&mut c, s);
-    let message = rows::message(&mut c, s);
+    let message = passages::message(&mut c, s);
     let v = past_receiver(&mut c, s, root);
     let todo = v.todo;
     let told = crate::partners::partners(&mut c, s, todo, out);

@@ -1,8 +1,6 @@
 // The reader of a file.
-mod elements;
 mod file;
 mod partners;
-mod series;
 
 use crate::file::FileRead;
 use message::FileFacts;
@@ -10,7 +8,7 @@ use message::ReadAnswer;
 ghost use mathlib.Core.Path.{_≡_};
 ghost use Prim.Native.Nat.{_+_, _-_};
 ghost use Rattle.message.specs.Calls.{readAnswer, ReadCalled};
-ghost use Rattle.reader.specs.ReaderFacts.{factsRead};
+ghost use Rattle.reader.specs.FileInner.{factsRead};
 
 // The number of places between two.
 fn between(a: usize, b: usize) -> usize

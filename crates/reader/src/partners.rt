@@ -1,10 +1,10 @@
 // The partners of a file: the loop over them moves the cursor that was lent to it.
-use crate::series::SeriesTodo;
 use cursor::Cursor;
 use kinds::Kind;
+use series_reader::series::SeriesTodo;
 ghost use mathlib.Core.Path.{_≡_};
 ghost use Prim.Native.Nat.{_+_, _-_, _≤_, _<_};
-ghost use Rattle.reader.specs.PartnerTurns.{companyHead, accessHead, headOf, headTodo, groupEnd, partnersNone, partnersNext, PartnerEnd, PartnerStep, PartnersWhole};
+ghost use Rattle.reader.specs.PartnerTurnsInner.{companyHead, accessHead, headOf, headTodo, groupEnd, partnersNone, partnersNext, PartnerEnd, PartnerStep, PartnersWhole};
 
 // The partners that are left of a file: so many, with numbers from `low` on, behind the month that was seen and so many rows.
 pub struct PartnersTodo {
@@ -28,7 +28,7 @@ pub struct Head {
 fn company_head(c: Cursor, s: &[u8], before: &[u8], behind: &[u8]) -> Head
     ensures { λ r. ⌜ r ≡ companyHead (now (s .entry)) c (now (before .entry)) (now (behind .entry)) ⌝ }
 {
-    let r = rows::company_by(c, s, before, behind);
+    let r = passages::company_by(c, s, before, behind);
     let to = r.to;
     Head {
         number: r.number,
@@ -42,7 +42,7 @@ fn company_head(c: Cursor, s: &[u8], before: &[u8], behind: &[u8]) -> Head
 fn access_head(c: Cursor, s: &[u8]) -> Head
     ensures { λ r. ⌜ r ≡ accessHead (now (s .entry)) c ⌝ }
 {
-    let r = rows::access_by(c, s);
+    let r = passages::access_by(c, s);
     let to = r.to;
     Head {
         number: r.number,
@@ -163,7 +163,7 @@ fn left_behind(x: PartnerSeen) -> PartnersTodo
     let t = x.todo;
     let u = x.series;
     let kind = t.kind;
-    let left = crate::elements::less_one(t.left);
+    let left = series_reader::elements::less_one(t.left);
     let low = number_behind(u.partner);
     PartnersTodo {
         kind,
@@ -208,7 +208,7 @@ pub fn partner(c: &mut Cursor, s: &[u8], t: PartnersTodo, out: &mut [u64]) -> Pa
     ensures { λ r. ⌜ PartnerStep (now (s .entry)) t (now (c .entry)) (now (out .entry)) (now (c .exit)) r (now (out .exit)) ⌝ }
 {
     let todo = past_head(c, s, t);
-    let series = crate::series::series_list(c, s, todo, out);
+    let series = series_reader::series::series_list(c, s, todo, out);
     let x = PartnerSeen { todo: t, series };
     past_end(c, s, x)
 }

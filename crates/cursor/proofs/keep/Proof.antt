@@ -1,6 +1,6 @@
 -- Where the test holds the cursor is the one at its own place.
 use mathlib.Core.Path.{ap, _∙_}
-use Rattle.cursor.specs.Moves.{cursorAt}
+use Rattle.cursor.specs.MovesInner.{cursorAt}
 use borrow.Author.Needs.{needs}
 use Rattle.cursor.proofs.keep.Statement.{statement}
 use Rattle.cursor.proofs.keep.Tie as tie

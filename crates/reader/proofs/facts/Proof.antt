@@ -1,6 +1,6 @@
 -- The facts are the reading's own fields; the ID's length is the places between its cursors.
 use borrow.Author.Needs.{needs}
-use Rattle.reader.specs.ReaderFacts.{factsRead}
+use Rattle.reader.specs.FileInner.{factsRead}
 use Rattle.reader.proofs.facts.Statement.{statement}
 use Rattle.reader.proofs.facts.Tie as tie
 

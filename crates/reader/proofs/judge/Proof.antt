@@ -1,6 +1,6 @@
 -- What the reading said judges the file.
 use borrow.Author.Tests.{not-true, not-false}
-use Rattle.reader.specs.ReaderFacts.{read-lost, read-left, read-short, read-file}
+use Rattle.reader.specs.FactsLaws.{read-lost, read-left, read-short, read-file}
 use borrow.Author.Needs.{needs}
 use Rattle.reader.proofs.judge.Statement.{statement}
 use Rattle.reader.proofs.judge.Tie as tie

@@ -1,7 +1,7 @@
 -- A refusal leaves the rows; what was judged a file fills them in its second reading.
 use mathlib.Core.Path.{sym, _∙_}
 use Rattle.message.specs.CallsLaws.{called-refused}
-use Rattle.reader.specs.ReaderFacts.{read-filled}
+use Rattle.reader.specs.FactsLaws.{read-filled}
 use borrow.Author.Needs.{needs}
 use Rattle.reader.proofs.read.Statement.{statement}
 use Rattle.reader.proofs.read.Tie as tie

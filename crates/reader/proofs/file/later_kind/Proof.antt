@@ -1,5 +1,5 @@
 -- The second root's kind, or the third's.
-use Rattle.reader.specs.ReaderFile.{kind-second, kind-third}
+use Rattle.reader.specs.FileLaws.{kind-second, kind-third}
 use Rattle.reader.proofs.file.later_kind.Statement.{statement}
 use Rattle.reader.proofs.file.later_kind.Tie as tie
 

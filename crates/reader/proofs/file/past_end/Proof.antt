@@ -9,7 +9,7 @@ use Rattle.cursor.proofs.Lent.{R, Good, sv, Slice}
 use Rattle.reader.specs.declared.file.Root.{Root}
 use Rattle.reader.proofs.file.Root as T-Root
 use Rattle.reader.proofs.file.Root.Laws as L-Root
-use Rattle.reader.specs.FileTurns.{rootEnd}
+use Rattle.reader.specs.FileTurnsInner.{rootEnd}
 use Rattle.reader.proofs.file.end_by as callee
 use Rattle.reader.proofs.file.end_by.Symbol as callee-def
 use Rattle.reader.proofs.file.end_by.Symbol.{name as #callee}

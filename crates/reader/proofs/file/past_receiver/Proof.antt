@@ -14,7 +14,7 @@ use Rattle.reader.proofs.file.Receiver as T-Receiver
 use Rattle.reader.proofs.file.Receiver.Laws as L-Receiver
 use Rattle.reader.proofs.file.ReceiverRead as T-ReceiverRead
 use Rattle.reader.proofs.file.ReceiverRead.Laws as L-ReceiverRead
-use Rattle.reader.specs.FileTurns.{Received}
+use Rattle.reader.specs.FileTurnsInner.{Received}
 use Rattle.reader.proofs.file.receiver_by as callee
 use Rattle.reader.proofs.file.receiver_by.Symbol as callee-def
 use Rattle.reader.proofs.file.receiver_by.Symbol.{name as #callee}

@@ -11,7 +11,7 @@ use Rattle.reader.proofs.file.Root as T-Root
 use Rattle.reader.proofs.file.Root.Laws as L-Root
 use Rattle.reader.proofs.file.RootRead as T-RootRead
 use Rattle.reader.proofs.file.RootRead.Laws as L-RootRead
-use Rattle.reader.specs.FileTurns.{Rooted}
+use Rattle.reader.specs.FileTurnsInner.{Rooted}
 use Rattle.reader.proofs.file.root_by as callee
 use Rattle.reader.proofs.file.root_by.Symbol as callee-def
 use Rattle.reader.proofs.file.root_by.Symbol.{name as #callee}

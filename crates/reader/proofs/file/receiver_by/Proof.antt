@@ -14,17 +14,17 @@ moment-at-requires c κs = rw (c .place .ensures) (standing-within (c .before .b
 at-mark-requires : tie.Need-at-mark-requires
 at-mark-requires c κs = search needs
 
-receiver-row-requires : tie.Need-receiver-row-requires
-receiver-row-requires c κs = search needs
+receiver-of-requires : tie.Need-receiver-of-requires
+receiver-of-requires c κs = search needs
 
 returns : tie.Need-returns
 returns c =
     let a = c .before .before .before .before .before .before .args in
     let b = c .before .before .before .moment-at in
-    let v = c .before .receiver-row in
+    let v = c .before .receiver-of in
     received (a .s .now) (a .root) (a .c) (c .before .before .before .before .place .result) (b .result) (c .before .before .at-mark .result) (v .result) (c .before .before .before .before .place .ensures) (b .ensures) (c .before .before .at-mark .ensures) (v .ensures)
 
 pub receiver-by-spec : {M : Type 1} → statement M
 receiver-by-spec =
     tie.close
-    (tie.spec place-requires moment-at-requires at-mark-requires receiver-row-requires returns)
+    (tie.spec place-requires moment-at-requires at-mark-requires receiver-of-requires returns)

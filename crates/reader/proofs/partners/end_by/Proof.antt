@@ -1,7 +1,7 @@
 -- The number is tested against those before it; where it stands, what is left is the next, and else nothing is left.
 use mathlib.Core.Path.{refl, ap, _∙_}
 use borrow.Author.Tests.{not-true, not-false}
-use Rattle.cursor.specs.Moves.{standing, cursorAt, keep}
+use Rattle.cursor.specs.MovesInner.{standing, cursorAt, keep}
 use Rattle.cursor.specs.MovesLaws.{mark-lost, mark-found}
 use lib.Dec.{leb}
 use native.Mathlib.Omega.{arith}

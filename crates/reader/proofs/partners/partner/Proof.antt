@@ -11,25 +11,25 @@ use Rattle.reader.proofs.partners.past_head as head-of
 use Rattle.reader.proofs.partners.past_head.Symbol as head-of-def
 use Rattle.reader.proofs.partners.past_head.Symbol.{name as #head-of}
 use Rattle.reader.proofs.partners.past_head.Met as head-of-thm
-use Rattle.reader.proofs.series.series_list as list-of
-use Rattle.reader.proofs.series.series_list.Symbol as list-of-def
-use Rattle.reader.proofs.series.series_list.Symbol.{name as #list-of}
-use Rattle.reader.proofs.series.series_list.Met as list-of-thm
+use Rattle.series_reader.proofs.series.series_list as list-of
+use Rattle.series_reader.proofs.series.series_list.Symbol as list-of-def
+use Rattle.series_reader.proofs.series.series_list.Symbol.{name as #list-of}
+use Rattle.series_reader.proofs.series.series_list.Met as list-of-thm
 use Rattle.reader.proofs.partners.past_end as end-of
 use Rattle.reader.proofs.partners.past_end.Symbol as end-of-def
 use Rattle.reader.proofs.partners.past_end.Symbol.{name as #end-of}
 use Rattle.reader.proofs.partners.past_end.Met as end-of-thm
 use Rattle.reader.specs.declared.partners.PartnersTodo.{PartnersTodo}
-use Rattle.reader.specs.declared.series.SeriesTodo.{SeriesTodo}
+use Rattle.series_reader.specs.declared.series.SeriesTodo.{SeriesTodo}
 use Rattle.reader.specs.declared.partners.PartnerSeen.{PartnerSeen}
 use Rattle.reader.proofs.partners.PartnersTodo as T-PartnersTodo
 use Rattle.reader.proofs.partners.PartnersTodo.Laws as L-PartnersTodo
-use Rattle.reader.proofs.series.SeriesTodo as T-SeriesTodo
-use Rattle.reader.proofs.series.SeriesTodo.Laws as L-SeriesTodo
+use Rattle.series_reader.proofs.series.SeriesTodo as T-SeriesTodo
+use Rattle.series_reader.proofs.series.SeriesTodo.Laws as L-SeriesTodo
 use Rattle.reader.proofs.partners.PartnerSeen as T-PartnerSeen
 use Rattle.reader.proofs.partners.PartnerSeen.Laws as L-PartnerSeen
-use Rattle.reader.specs.SeriesTurns.{SeriesWhole}
-use Rattle.reader.specs.PartnerTurns.{headOf, headTodo, PartnerEnd}
+use Rattle.series_reader.specs.SeriesTurnsInner.{SeriesWhole}
+use Rattle.reader.specs.PartnerTurnsInner.{headOf, headTodo, PartnerEnd}
 use Rattle.reader.specs.PartnerTurnsLaws.{partner-done}
 use Rattle.reader.proofs.partners.partner.Key.{name as #me}
 use Rattle.reader.proofs.partners.partner as me
@@ -118,5 +118,5 @@ partner-spec 𝓤 H 𝓜 𝓖 𝓡 =
     (tables 𝓤 H 𝓜 𝓡 code.env .C) (tables 𝓤 H 𝓜 𝓡 code.env .Λ) #me code.function (code.unfolded 𝓤 H 𝓜 𝓡)
     (meets 𝓤 H (𝓖 .A) (givenOf 𝓤 H 𝓜 𝓖) (𝓜 .mem) (𝓡 .run) (tablesOf 𝓤 H 𝓜 (tables 𝓤 H 𝓜 𝓡 code.env))
     (cited 𝓤 H (Of-head-of 𝓤 H (𝓖 .A) (𝓜 .mem) (𝓡 .run)) 𝓜 𝓡 code.env #head-of head-of-def.routine code.calls-reader·partners·past-head (head-of-thm.met 𝓤 H 𝓜 𝓖 𝓡))
-    (cited 𝓤 H (Of-list-of 𝓤 H (𝓖 .A) (𝓜 .mem) (𝓡 .run)) 𝓜 𝓡 code.env #list-of list-of-def.routine code.calls-reader·series·series-list (list-of-thm.met 𝓤 H 𝓜 𝓖 𝓡))
+    (cited 𝓤 H (Of-list-of 𝓤 H (𝓖 .A) (𝓜 .mem) (𝓡 .run)) 𝓜 𝓡 code.env #list-of list-of-def.routine code.calls-series-reader·series·series-list (list-of-thm.met 𝓤 H 𝓜 𝓖 𝓡))
     (cited 𝓤 H (Of-end-of 𝓤 H (𝓖 .A) (𝓜 .mem) (𝓡 .run)) 𝓜 𝓡 code.env #end-of end-of-def.routine code.calls-reader·partners·past-end (end-of-thm.met 𝓤 H 𝓜 𝓖 𝓡)))

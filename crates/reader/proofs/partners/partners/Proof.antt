@@ -24,7 +24,7 @@ use Rattle.cursor.proofs.Lends.{Plain, Rows, calls-rows}
 use Rattle.reader.specs.declared.partners.PartnersTodo.{PartnersTodo}
 use Rattle.reader.proofs.partners.PartnersTodo as T-PartnersTodo
 use Rattle.reader.proofs.partners.PartnersTodo.Laws as L-PartnersTodo
-use Rattle.reader.specs.PartnerTurns.{PartnerStep, PartnersWhole}
+use Rattle.reader.specs.PartnerTurnsInner.{PartnerStep, PartnersWhole}
 use Rattle.reader.specs.PartnerTurnsLaws.{Starts, Leads, leads-first, leads-last, leads-on}
 use Rattle.reader.proofs.partners.partner as one
 use Rattle.reader.proofs.partners.partner.Symbol as one-def

@@ -14,7 +14,7 @@ use Rattle.reader.proofs.partners.PartnersTodo as T-PartnersTodo
 use Rattle.reader.proofs.partners.PartnersTodo.Laws as L-PartnersTodo
 use Rattle.reader.proofs.partners.PartnerRead as T-PartnerRead
 use Rattle.reader.proofs.partners.PartnerRead.Laws as L-PartnerRead
-use Rattle.reader.specs.PartnerTurns.{PartnerEnd}
+use Rattle.reader.specs.PartnerTurnsInner.{PartnerEnd}
 use Rattle.reader.proofs.partners.end_by as callee
 use Rattle.reader.proofs.partners.end_by.Symbol as callee-def
 use Rattle.reader.proofs.partners.end_by.Symbol.{name as #callee}

@@ -10,11 +10,11 @@ use Rattle.reader.specs.declared.partners.PartnersTodo.{PartnersTodo}
 use Rattle.reader.specs.declared.partners.HeadRead.{HeadRead}
 use Rattle.reader.proofs.partners.PartnersTodo as T-PartnersTodo
 use Rattle.reader.proofs.partners.PartnersTodo.Laws as L-PartnersTodo
-use Rattle.reader.proofs.series.SeriesTodo as T-SeriesTodo
-use Rattle.reader.proofs.series.SeriesTodo.Laws as L-SeriesTodo
+use Rattle.series_reader.proofs.series.SeriesTodo as T-SeriesTodo
+use Rattle.series_reader.proofs.series.SeriesTodo.Laws as L-SeriesTodo
 use Rattle.reader.proofs.partners.HeadRead as T-HeadRead
 use Rattle.reader.proofs.partners.HeadRead.Laws as L-HeadRead
-use Rattle.reader.specs.PartnerTurns.{headOf, headTodo}
+use Rattle.reader.specs.PartnerTurnsInner.{headOf, headTodo}
 use Rattle.reader.proofs.partners.head_by as callee
 use Rattle.reader.proofs.partners.head_by.Symbol as callee-def
 use Rattle.reader.proofs.partners.head_by.Symbol.{name as #callee}
