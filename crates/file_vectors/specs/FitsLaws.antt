@@ -1,6 +1,6 @@
 -- A file call that is not refused answers no more rows and bytes than it was lent.
 use mathlib.Core.Path.{_≡_, refl, subst}
-use mathlib.Core.Bool.{Bool, true, false, cond, _&&_}
+use mathlib.Core.Bool.{_&&_}
 use mathlib.Core.List.{List}
 use mathlib.Core.Option.{Option, none, some}
 use Prim.Native.Nat.{ℕ, _*_, _≤_}
@@ -10,15 +10,16 @@ use lib.ListN.{length}
 use borrow.Author.Tests.{leb-true}
 use native.Mathlib.Omega.{arith}
 use Rattle.moments.specs.Ids.{isTransactionId}
-use Rattle.book.specs.Refusals.{Refusal, refused, unless}
+use Rattle.refusals.specs.Refusals.{Refusal, unless, short}
+use Rattle.refusals.specs.RefusalsLaws.{never, not-refused, not-later, not-short}
 use Rattle.book.specs.Book.{Book, bookOf}
-use Rattle.volumes.specs.Settlement.{rowWidth, rowCount, orElse, bookRefusal}
+use Rattle.volumes.specs.Settlement.{rowWidth, rowCount, bookRefusal}
 use Rattle.volumes.specs.Series.{Kind}
 use Rattle.message.specs.Valid.{isMoment}
 use Rattle.reports.specs.FileRows.{fileText}
 use Rattle.reports.specs.Roles.{receivers}
 use Rattle.reports.specs.Calls.{stands, textOf, shortRefusal, askedRefusal, fileRefusal, fileSays, fileAnswer, FileCalled}
-use Rattle.message.specs.Calls.{kindNumbered}
+use Rattle.kinds.specs.Numbers.{kindNumbered}
 use Rattle.reports.specs.declared.FileAnswer.{FileAnswer}
 use Rattle.reports.specs.declared.FileAnswer.the-variants.{File}
 use Rattle.cases.specs.declared.Loaded.{Loaded}
@@ -33,31 +34,22 @@ record Room (book : Book) (text : List ℕ) (numbers bytes : ℕ) : Type 0 where
   pub rows : rowWidth * rowCount book ≤ numbers
   pub file : length text ≤ bytes
 
-never : (r : Refusal) → some r ≡ none → ⊥
-never r e = let z : _≡_ {A = ℕ} 0 1 = cc in omega arith
-
 -- refusal 10 is where the rows or the file are too short, so without a refusal both are long enough
 asked-room : (book : Book) (kind : Option Kind) (receiver : ℕ) (id moment : List ℕ) (numbers bytes : ℕ) → askedRefusal book kind receiver id moment numbers bytes ≡ none → Room book (textOf book kind receiver id moment) numbers bytes
 unfolding askedRefusal shortRefusal textOf
-asked-room book none receiver id moment numbers bytes h = absurd (never _ h)
+asked-room book none receiver id moment numbers bytes h = absurd (never 12 h)
 asked-room book (some kind) receiver id moment numbers bytes h =
-    go (stands receiver (receivers book kind)) (isTransactionId id && isMoment moment) (leb (rowWidth * rowCount book) numbers) refl (leb (length (fileText book kind receiver id moment)) bytes) refl h
-  where
-    go : (s f a : Bool) → leb (rowWidth * rowCount book) numbers ≡ a → (b : Bool) → leb (length (fileText book kind receiver id moment)) bytes ≡ b
-        → unless s 11 (unless f 12 (unless a 10 (cond b none (refused 10 1)))) ≡ none → Room book (fileText book kind receiver id moment) numbers bytes
-    go true true true p true q h = record { rows = leb-true (rowWidth * rowCount book) numbers p; file = leb-true (length (fileText book kind receiver id moment)) bytes q }
-    go true true true p false q h = absurd (never _ h)
-    go true true false p b q h = absurd (never _ h)
-    go true false a p b q h = absurd (never _ h)
-    go false f a p b q h = absurd (never _ h)
+    let n = rowWidth * rowCount book in
+    let text = fileText book kind receiver id moment in
+    let last = short 1 (length text) bytes in
+    let f = isTransactionId id && isMoment moment in
+    let named = not-refused (stands receiver (receivers book kind)) 11 (unless f 12 (unless (leb n numbers) 10 last)) h .1 in
+    let long = not-refused (leb n numbers) 10 last (not-refused f 12 (unless (leb n numbers) 10 last) named .1) in
+    record { rows = leb-true n numbers (long .0); file = not-short 1 (length text) bytes (long .1) }
 
 room : (bytes : List ℕ) (kind receiver : ℕ) (id moment : List ℕ) (numbers size : ℕ) → fileRefusal bytes kind receiver id moment numbers size ≡ none → Room (bookOf bytes) (textOf (bookOf bytes) (kindNumbered kind) receiver id moment) numbers size
-unfolding fileRefusal orElse
-room bytes kind receiver id moment numbers size h = go (bookRefusal bytes) h
-  where
-    go : (r : Option Refusal) → orElse r (askedRefusal (bookOf bytes) (kindNumbered kind) receiver id moment numbers size) ≡ none → Room (bookOf bytes) (textOf (bookOf bytes) (kindNumbered kind) receiver id moment) numbers size
-    go none h = asked-room (bookOf bytes) (kindNumbered kind) receiver id moment numbers size h
-    go (some r) h = absurd (never r h)
+unfolding fileRefusal
+room bytes kind receiver id moment numbers size h = asked-room (bookOf bytes) (kindNumbered kind) receiver id moment numbers size (not-later (bookRefusal bytes) _ h)
 
 pub fits : (bytes : List ℕ) (kind receiver : ℕ) (id moment : List ℕ) (lent rowsAfter : List ℤ) (before after : List ℕ) (answer : FileAnswer) (numbers size : ℕ) → FileCalled bytes kind receiver id moment lent rowsAfter before after answer → length lent ≤ numbers → length before ≤ size → Fits answer numbers size
 unfolding fileAnswer fileSays

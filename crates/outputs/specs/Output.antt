@@ -10,11 +10,12 @@ use Rattle.text.specs.Ascii.{bytes}
 use Rattle.text.specs.Decimal.{plain}
 use Rattle.formats.specs.Format.{Res, got, bad}
 use Rattle.requests.specs.Line.{Words, line}
-use Rattle.book.specs.Refusals.{Refusal, refused, unless}
+use Rattle.refusals.specs.Refusals.{Refusal, refused, unless}
 use Rattle.book.specs.Book.{bookOf}
 use Rattle.volumes.specs.Settlement.{rows}
-use Rattle.reports.specs.Calls.{over, afterwards, textOf, fileRefusal}
-use Rattle.message.specs.Calls.{kindNumbered}
+use Rattle.refusals.specs.Buffers.{over, afterwards}
+use Rattle.reports.specs.Calls.{textOf, fileRefusal}
+use Rattle.kinds.specs.Numbers.{kindNumbered}
 
 -- "at most 65,536 bytes in all", "The program's rows buffer has 8,192 numbers, its file buffer 65,536 bytes."
 abbrev pub inputMost : ℕ

@@ -1,6 +1,6 @@
 -- The room that a line of refusal takes; and that each way through the program's function prints what the definition says.
 use mathlib.Core.Path.{_≡_, refl, sym, ap, _∙_}
-use mathlib.Core.List.{List, _++_}
+use mathlib.Core.List.{List}
 use mathlib.Core.Option.{Option, none, some}
 use Prim.Native.Nat.{ℕ, _+_, _-_, _^_, _≤_, _<_}
 use borrow.Author.Tests.{le-leb, lt-leb}
@@ -10,17 +10,19 @@ use lib.Seq.{take-all}
 use native.Mathlib.Nat.{zero-add}
 use native.Mathlib.Omega.{arith}
 use Rattle.text.specs.Decimal.{plain}
-use Rattle.text.specs.Written.{written, Wrote}
+use Rattle.text.specs.Written.{Wrote}
 use Rattle.formats.specs.Format.{got}
-use Rattle.book.specs.Refusals.{Refusal}
+use Rattle.refusals.specs.Refusals.{Refusal}
 use Rattle.requests.specs.declared.Asked.{Asked}
 use Rattle.requests.specs.declared.Request.the-variants.{Line, NoLine}
 use Rattle.requests.specs.Line.{Words, line, asked, requestOf}
 use Rattle.requests.specs.LineLaws.{placed, found, found-none}
 use Rattle.book.specs.Book.{bookOf}
 use Rattle.volumes.specs.Settlement.{rows, rowCount}
-use Rattle.reports.specs.Calls.{over, afterwards, textOf, fileRefusal, fileSays, fileAnswer, FileCalled}
-use Rattle.message.specs.Calls.{kindNumbered}
+use Rattle.refusals.specs.Buffers.{over, afterwards}
+use Rattle.reports.specs.Calls.{textOf, fileRefusal, fileSays, fileAnswer, FileCalled}
+use Rattle.kinds.specs.Numbers.{kindNumbered}
+use Rattle.message.specs.CallsLaws.{written-over}
 use Rattle.message.specs.SizeLaws.{few-digits}
 use Rattle.reports.specs.declared.FileAnswer.{FileAnswer}
 use Rattle.reports.specs.declared.FileAnswer.the-variants.{File, Refused}
@@ -31,10 +33,6 @@ pub digits-few : (v : ℕ) → v < 2 ^ 64 → length (plain v) ≤ 20
 digits-few v h = few-digits 20 v (omega arith) (omega arith)
 
 -- ---- what is printed
-
-written-over : (d bs : List ℕ) → written d 0 bs ≡ over bs d
-unfolding written over
-written-over d bs = ap (λ (n : ℕ). bs ++ drop n d) (zero-add (length bs))
 
 module _ (input : List ℕ) where
   pub printed-refused : (r : Refusal) (rows : List ℤ) (before after : List ℕ) (q : ℕ) → judged (length input) (line .parse input) ≡ some r
