@@ -1,5 +1,5 @@
 -- A file call is one of seven: refused as the book is, for its kind, its receiver, its ID or moment, its rows, its file, or filled.
-use mathlib.Core.Path.{_≡_, refl, ap, _∙_}
+use mathlib.Core.Path.{_≡_, ap, _∙_}
 use mathlib.Core.Bool.{true, false, _&&_}
 use mathlib.Core.List.{List}
 use mathlib.Core.Option.{Option, none, some}

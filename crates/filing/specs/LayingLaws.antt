@@ -1,6 +1,6 @@
 -- What is laid for each partner is, one behind the other, what the file has.
 use mathlib.Core.Path.{_≡_, refl, ap, _∙_}
-use mathlib.Core.Bool.{Bool, true, false}
+use mathlib.Core.Bool.{Bool, true, false, false≢true}
 use mathlib.Core.Option.{none}
 use mathlib.Core.List.{List, [], _++_, flatMap}
 use Prim.Native.Nat.{ℕ, _+_, _-_, _≤_, _<_}
@@ -18,8 +18,10 @@ use Rattle.emitter.specs.Parts.{fileHead, fileEnd}
 use Rattle.emitter.specs.PartsLaws.{file-parts}
 use Rattle.reports.specs.FileRows.{partnersOf, fileOf, fileText}
 use Rattle.reports.specs.Registered.{Registered}
-use Rattle.filing.specs.Partners.{pointsIn, partnerColumn, noPartner, Next, partnerIf, partnersFrom}
-use Rattle.filing.specs.PartnersLaws.{points-in, partners-next, partners-end}
+use Rattle.partners.specs.Partners.{pointsIn, partnerColumn, noPartner, Next, partnerIf, partnersFrom}
+use Rattle.partners.specs.PartnersLaws.{points-in, partners-next, partners-end}
+use Rattle.formats.specs.declared.Mark.{Mark}
+use Rattle.emitter.specs.Laid.{Laid, ahead}
 
 -- ---- all partners
 
@@ -59,3 +61,22 @@ file-bytes book kind receiver id moment n e =
     let partners = partnersOf book kind receiver in
     ap (λ (k : ℕ). fileHead kind id moment receiver k ++ flatMap (partnerBytes kind) partners ++ fileEnd kind) e
     ∙ file-parts (fileOf book kind receiver id moment)
+
+-- ---- measured in another order: only the length counts
+
+pub laid-turned : {d out : List ℕ} {m n : Mark} {a : List ℕ} (b : List ℕ) → length a ≡ length b → Laid false d m a out n → Laid false d m b out n
+laid-turned {d} {out} {m} {n} {a} b e v =
+    record {
+      keeps = v .keeps;
+      behind = v .behind ∙ ap (ahead (length d) m) e;
+      dry = v .dry;
+      wrote = λ g p q h i. absurd (false≢true g);
+    }
+
+turned : (a b c : List ℕ) → length ((a ++ b) ++ c) ≡ length ((b ++ a) ++ c)
+turned a b c = omega (arith, length-append (a ++ b) c, length-append a b, length-append (b ++ a) c, length-append b a)
+
+pub file-turned : (book : Book) (kind : Kind) (receiver : ℕ) (id moment : List ℕ) (n : ℕ) → n ≡ length (partnersOf book kind receiver)
+    → length ((flatMap (partnerBytes kind) (partnersOf book kind receiver) ++ fileHead kind id moment receiver n) ++ fileEnd kind) ≡ length (fileText book kind receiver id moment)
+file-turned book kind receiver id moment n e =
+    turned (flatMap (partnerBytes kind) (partnersOf book kind receiver)) (fileHead kind id moment receiver n) (fileEnd kind) ∙ ap length (file-bytes book kind receiver id moment n e)

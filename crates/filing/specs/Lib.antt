@@ -1,9 +1,3 @@
 pub mod SheetLaws
 pub mod FileCallLaws
-pub mod Partners
-pub mod PartnersLaws
-pub mod Observations
-pub mod ObservationsLaws
-pub mod PartnerRows
 pub mod LayingLaws
-pub mod PartnerRowsLaws

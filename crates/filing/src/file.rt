@@ -1,7 +1,7 @@
 // The file call: a receiver's file of a book, and the book's settlement rows.
 use crate::laying::measure_file;
 use crate::laying::write_measured;
-use crate::partners::in_role;
+use partners::register::in_role;
 use formats::Mark;
 use kinds::Numbered;
 use reports::FileAnswer;

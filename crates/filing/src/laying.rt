@@ -1,7 +1,7 @@
 // A receiver's file laid partner by partner: the rows filled, then laid by the writer's own emitter.
-use crate::filling::fill_partner;
-use crate::partners::NO_PARTNER;
-use crate::partners::next_partner;
+use partners::rows::fill_partner;
+use partners::register::NO_PARTNER;
+use partners::register::next_partner;
 use emitter::Title;
 use emitter::parts::emit_file_end;
 use emitter::parts::emit_file_head;
@@ -19,7 +19,7 @@ ghost use Rattle.message.specs.Bytes.{partnerBytes};
 ghost use Rattle.emitter.specs.Laid.{Laid, Stands};
 ghost use Rattle.reports.specs.FileRows.{partnerNumbers, partnersOf, fileText};
 ghost use Rattle.series.specs.Sums.{DeliveredIn};
-ghost use Rattle.filing.specs.Partners.{partnerIf};
+ghost use Rattle.partners.specs.Partners.{partnerIf};
 
 // What is laid: the place behind it, and how many partners it has.
 pub struct Counted {

@@ -1,6 +1,4 @@
 // A book's sheets and files: the sheet call and the file call.
 pub mod file;
-mod filling;
 mod laying;
-mod partners;
 pub mod sheet;

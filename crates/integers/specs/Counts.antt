@@ -5,12 +5,16 @@ use mathlib.Core.Bool.{Bool, true, false, cond}
 use mathlib.Core.List.{List, [], _∷_, _++_, List·Memᴰ, List·Memᴰ·head, List·Memᴰ·tail, List·Memᴰ·not-nil, List·Memᴰ·cases-cons}
 use Prim.Native.Nat.{ℕ, _+_, _≤_}
 use native.Mathlib.Omega.{arith}
-use lib.Dec.{eqb}
+use lib.Dec.{eqb, leb}
 use borrow.Author.Tests.{eqb-true, eqb-false, eq-eqb}
 
 unfoldable pub times : ℕ → List ℕ → ℕ
 times p [] = 0
 times p (q ∷ l) = cond (eqb p q) 1 0 + times p l
+
+-- a number stands in a list
+unfoldable pub stands : ℕ → List ℕ → Bool
+stands x l = leb 1 (times x l)
 
 pub eqb-sym : (x y : ℕ) → eqb x y ≡ eqb y x
 eqb-sym x y = go (eqb x y) refl (eqb y x) refl

@@ -17,7 +17,7 @@ use Rattle.volumes.specs.Sheets.{parties, sheet}
 use Rattle.volumes.specs.Series.{Kind}
 use Rattle.message.specs.Valid.{isMoment}
 use Rattle.kinds.specs.Numbers.{kindNumbered}
-unfoldable pub use Rattle.sheets.specs.Parties.{stands}
+unfoldable pub use Rattle.integers.specs.Counts.{stands}
 use Rattle.reports.specs.FileRows.{fileText}
 use Rattle.reports.specs.Roles.{receivers}
 use Rattle.reports.specs.declared.SheetAnswer.{SheetAnswer}

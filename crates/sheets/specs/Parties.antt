@@ -1,17 +1,10 @@
 -- The balance parties of a register's rows.
-use mathlib.Core.Bool.{Bool}
 use mathlib.Core.List.{List, map, flatMap}
 use Prim.Native.Nat.{ℕ}
-use lib.Dec.{leb}
-use Rattle.integers.specs.Counts.{times}
 use Rattle.integers.specs.Ranges.{range}
 use Rattle.book.specs.Register.{pointAt}
 use Rattle.volumes.specs.Sheets.{partiesOf}
 use Rattle.settlement.specs.Sections.{pointCountIn}
-
--- a number stands in a list
-unfoldable pub stands : ℕ → List ℕ → Bool
-stands x l = leb 1 (times x l)
 
 -- the parties of the first n rows
 unfoldable pub partiesTo : List ℕ → ℕ → List ℕ

@@ -9,7 +9,7 @@ use native.Mathlib.Nat.{eq-or-lt-of-le}
 use native.Mathlib.Numerals.{add-one}
 use native.Mathlib.Omega.{arith}
 use borrow.Author.Tests.{ne-eqb, leb-true, leb-false, le-leb, lt-leb}
-use Rattle.integers.specs.Counts.{times, times-append, mem-times}
+use Rattle.integers.specs.Counts.{times, stands, times-append, mem-times}
 use Rattle.integers.specs.Ranges.{range, range-more}
 use Rattle.book.specs.declared.Point.{Point}
 use Rattle.book.specs.Register.{pointAt}
@@ -20,7 +20,7 @@ use Rattle.volumes.specs.QuartersLaws.{flatMap-append}
 use Rattle.volumes.specs.Sheets.{partiesOf, parties}
 use Rattle.settlement.specs.Sections.{pointCountIn}
 use Rattle.settlement.specs.SectionsLaws.{points-counted}
-use Rattle.sheets.specs.Parties.{stands, partiesTo, partiesIn}
+use Rattle.sheets.specs.Parties.{partiesTo, partiesIn}
 
 -- in the columns of one point
 module _ (party : ℕ) (point : Point) where

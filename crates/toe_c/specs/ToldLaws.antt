@@ -37,7 +37,7 @@ use Rattle.reports.specs.declared.SheetAnswer.{SheetAnswer}
 use Rattle.reports.specs.declared.FileAnswer.{FileAnswer}
 use Rattle.reports.specs.Calls.{sheetRefusal, sheetSays, sheetAnswer, SheetCalled, textOf, fileRefusal, fileSays, fileAnswer, FileCalled}
 use Rattle.series.specs.VolumesLaws.{volumes-most}
-use Rattle.filing.specs.ObservationsLaws.{month-most}
+use Rattle.partners.specs.ObservationsLaws.{month-most}
 use Rattle.toe_c.specs.Codes.{Reply, counts, refuses, settleReply, sheetReply, fileReply, readReply, writeReply, codeOf, Tells, withFacts}
 use Rattle.toe_c.specs.Small.{SmallReply}
 use Rattle.toe_c.specs.SmallLaws.{decoded}

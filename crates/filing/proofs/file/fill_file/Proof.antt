@@ -1,6 +1,5 @@
 -- The volumes have room in their local list, and stand in its first places.
 use native.Mathlib.Omega.{arith}
-use lib.ListN.{replicate, length-replicate}
 use borrow.Author.Needs.{needs}
 use Rattle.book.specs.Book.{bookOf}
 use Rattle.series.specs.VolumesLaws.{volumes-most, volumes-stand}

@@ -5,7 +5,7 @@ use Rattle.book.specs.Book.{bookOf}
 use Rattle.volumes.specs.SettlementLaws.{passing}
 use Rattle.reports.specs.Roles.{receivers}
 use Rattle.reports.specs.Calls.{stands}
-use Rattle.filing.specs.PartnersLaws.{role-in}
+use Rattle.partners.specs.PartnersLaws.{role-in}
 use Rattle.filing.specs.FileCallLaws.{asked-other, asked-malformed, asked-short, asked-well}
 use borrow.Author.Needs.{needs}
 use Rattle.filing.proofs.file.judge_asked.Statement.{statement}

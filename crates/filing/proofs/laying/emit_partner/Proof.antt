@@ -12,10 +12,10 @@ use Rattle.message.specs.Rows.{rowsFrom}
 use Rattle.emitter.specs.Laid.{laid-is}
 use Rattle.writer.specs.Contents.{partnersIn}
 use Rattle.series.specs.SumsLaws.{parts-of}
-use Rattle.filing.specs.ObservationsLaws.{period-of, Dated, dated}
+use Rattle.partners.specs.ObservationsLaws.{period-of, Dated, dated}
 use Rattle.reports.specs.RegisteredLaws.{registered}
-use Rattle.filing.specs.PartnerRows.{partnerRowsOf}
-use Rattle.filing.specs.PartnerRowsLaws.{filled-stand, filled-length, partner-writable, partner-bytes, partner-count}
+use Rattle.partners.specs.PartnerRows.{partnerRowsOf}
+use Rattle.partners.specs.PartnerRowsLaws.{filled-stand, filled-length, partner-writable, partner-bytes, partner-count}
 use native.Mathlib.Omega.{arith}
 use borrow.Author.Needs.{needs}
 use Rattle.filing.proofs.laying.emit_partner.Statement.{statement}

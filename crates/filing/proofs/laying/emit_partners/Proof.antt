@@ -10,11 +10,11 @@ use Rattle.message.specs.Bytes.{partnerBytes}
 use Rattle.emitter.specs.Laid.{Laying, laid-stands, laying-none, laying-then, laying-all}
 use Rattle.reports.specs.FileRows.{partnersOf}
 use Rattle.reports.specs.RegisteredLaws.{registered}
-use Rattle.filing.specs.Partners.{partnerColumn, noPartner, Next, partnersFrom}
-use Rattle.filing.specs.PartnersLaws.{partners-all, partners-end}
+use Rattle.partners.specs.Partners.{partnerColumn, noPartner, Next, partnersFrom}
+use Rattle.partners.specs.PartnersLaws.{partners-all, partners-end}
 use Rattle.reports.specs.FormLaws.{partners-few}
 use Rattle.filing.specs.LayingLaws.{next-in, scan-falls, partners-bytes, partners-end-bytes, partners-count}
-use Rattle.filing.specs.PartnerRowsLaws.{next-known}
+use Rattle.partners.specs.PartnerRowsLaws.{next-known}
 use borrow.Author.Needs.{needs}
 use native.Mathlib.Omega.{arith}
 use Rattle.filing.proofs.laying.emit_partners.Statement.{statement}
