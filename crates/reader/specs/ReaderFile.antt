@@ -26,7 +26,7 @@ use Rattle.message.specs.FileForm.{Parts, roots, kindOf, kindForm, partnersForm
 use Rattle.reader.specs.ReaderItems.{unview, folded}
 use Rattle.reader.specs.ReaderSeries.{counting}
 use Rattle.reader.specs.ReaderPartners.{adding}
-use Rattle.reader.specs.ReaderPlaces.{Steps, Placed, placed}
+use Rattle.reader.specs.ReaderPlaces.{Steps, PlacedMarks, placed}
 use Rattle.reader.specs.Filling.{Fills, rowsOfPartner}
 use Rattle.reader.specs.FillingLaws.{began, fills-within}
 use Rattle.reader.specs.FillingParts.{rows-filled}
@@ -87,7 +87,7 @@ pub record Filed (s : List ℕ) (o : Mark) (k : Kind) (receiver : ℕ) (t : (ℕ
   pub partners : List Partner
   pub parsed : Parsed (fileBody .parse) s (At 0) o (k, (span nameByte (left s b), (take 29 (left s d), (receiver, (count, partners)))))
   pub is : (q : ℕ) → o ≡ At q → folded adding ((0, 0), 0) partners ≡ t
-  pub places : (q : ℕ) → o ≡ At q → Placed k (span nameByte (left s b)) b c d
+  pub places : (q : ℕ) → o ≡ At q → PlacedMarks k (span nameByte (left s b)) b c d
 
 -- the rows of the parts of a file
 abbrev pub rowsOfParts : Parts → List Row

@@ -27,7 +27,7 @@ use Rattle.reader.specs.FillingLaws.{began}
 abbrev pub idStart : Kind → ℕ
 idStart k = length (opening (root k) ++ opening "TransactionID")
 
-pub record Placed (k : Kind) (id : List ℕ) (b c d : Mark) : Type 0 where
+pub record PlacedMarks (k : Kind) (id : List ℕ) (b c d : Mark) : Type 0 where
   pub start : b ≡ At (idStart k)
   pub end : c ≡ At (idStart k + length id + 1)
   pub moment : d ≡ At (idStart k + length id + 1 + length (ending "TransactionID" ++ opening "MessageCreateDateTime"))
@@ -62,7 +62,7 @@ pub record Steps (s : List ℕ) (a b c d e f g h i j l o : Mark) (k : Kind) (com
   pub end : Parsed (strip (closing (root k))) s l o tt
 
 pub placed : {s : List ℕ} {a b c d e f g h i j l o : Mark} {k : Kind} {receiver n : ℕ} {t : (ℕ × ℕ) × ℕ} → Steps s a b c d e f g h i j l o k receiver n t
-    → (q : ℕ) → o ≡ At q → Placed k (span nameByte (left s b)) b c d
+    → (q : ℕ) → o ≡ At q → PlacedMarks k (span nameByte (left s b)) b c d
 placed {s} {a} {b} {c} {d} {k = k} p q z =
     let id = span nameByte (left s b) in
     let tags = ending "TransactionID" ++ opening "MessageCreateDateTime" in

@@ -25,7 +25,7 @@ ghost use Rattle.book.specs.Book.{Book, bookOf};
 ghost use Rattle.volumes.specs.Quarters.{monthQuarters};
 ghost use Rattle.volumes.specs.Baseline.{pointOf};
 ghost use Rattle.volumes.specs.Series.{takenBy, Told, receiverOf, partnerOf, sameSupply, sameDirection, isPoint, isEngagement, grainsAt, seriesWatts, seriesOf};
-ghost use Rattle.series.specs.Sums.{byPosition, cellAt, added, Addable, Parts, Parted, DeliveredIn};
+ghost use Rattle.series.specs.Sums.{byPosition, cellAt, added, VolumesAddable, Parts, Parted, DeliveredIn};
 
 // Whether a kind's files are aggregated: those take transfer points, and the individual ones pass-through points.
 fn is_aggregated(kind: Kind) -> bool
@@ -141,7 +141,7 @@ pub fn is_engagement(
 
 // Adds n delivered volumes, from `at` on, to the cells from `first` on.
 fn add_volumes(grains: &mut [u64], first: usize, volumes: &[u64], at: usize, n: usize)
-    requires { ⌜ Addable (now grains) first (now volumes) at n ⌝ }
+    requires { ⌜ VolumesAddable (now grains) first (now volumes) at n ⌝ }
     ensures { λ r. ⌜ now (grains .exit) ≡ added (now (grains .entry)) first (λ k. getD (now (volumes .entry)) (at + k) 0) n ⌝ }
 {
     let mut k = 0;
