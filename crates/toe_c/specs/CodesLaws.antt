@@ -5,7 +5,6 @@ use Prim.Native.Nat.{ℕ, _^_, _≤_, _<_}
 use lib.IntN.{ℤ}
 use lib.ListN.{length}
 use lib.Seq.{sets}
-use native.Mathlib.Omega.{arith}
 use borrow.Author.Tests.{le-leb, lt-leb}
 use Rattle.refusals.specs.Buffers.{over, afterwards}
 use Rattle.refusals.specs.BuffersLaws.{sets-over}
