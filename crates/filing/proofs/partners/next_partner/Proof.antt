@@ -6,12 +6,12 @@ use Rattle.settlement.specs.Sections.{pointCountIn}
 use Rattle.volumes.specs.Series.{partnerOf}
 use Rattle.volumes.specs.SeriesLaws.{told-at}
 use Rattle.reports.specs.FileRows.{isTaken}
-use Rattle.filing.specs.PartnersLaws.{Scanned, nearer, scanned-none, scanned-more, scanned-all}
+use Rattle.filing.specs.PartnersLaws.{PartnersScanned, nearer, scanned-none, scanned-more, scanned-all}
 use Rattle.filing.proofs.partners.next_partner.Statement.{statement}
 use Rattle.filing.proofs.partners.next_partner.Tie as tie
 
 abbrev Inv-loop : tie.InvT-loop
-Inv-loop register kind receiver low n next₀ i₀ next i = (i ≤ n) × Scanned register kind receiver low i next
+Inv-loop register kind receiver low n next₀ i₀ next i = (i ≤ n) × PartnersScanned register kind receiver low i next
 
 abbrev μ-loop : tie.MeasureT-loop
 μ-loop register kind receiver low n next₀ i₀ next i = n - i
