@@ -97,7 +97,7 @@ unfolding complete known range
 window-early readings base q h = rw (lt-leb 24 q h)
 
 -- where an engagement's quarter-hours, and those of a day like it, stand among the readings
-pub record Stands (c : Calendar) (e : Engagement) (d room : ℕ) : Type 0 where
+pub record DayStands (c : Calendar) (e : Engagement) (d room : ℕ) : Type 0 where
   pub short : e .first + e .count ≤ 96
   pub many : e .count ≤ 96
   pub early : d < 64
@@ -106,7 +106,7 @@ pub record Stands (c : Calendar) (e : Engagement) (d room : ℕ) : Type 0 where
   pub base : quartersOf c * e .point ≤ 1566720
   pub roomy : 4 * (quartersOf c * e .point + (dayStart c d + (e .first + e .count))) ≤ room
 
-pub stands : (c : Calendar) (calendar readings : List ℕ) (e : Engagement) (d : ℕ) → Fits c calendar readings e → d < daysOf c → Stands c e d (length readings)
+pub stands : (c : Calendar) (calendar readings : List ℕ) (e : Engagement) (d : ℕ) → Fits c calendar readings e → d < daysOf c → DayStands c e d (length readings)
 unfolding dayStart quarters
 stands c calendar readings e d f h =
     let n = days-few c (f .ranged) in

@@ -52,7 +52,7 @@ held book k at n e h =
     record { inside = omega arith; size = simp (length-take, length-drop) (omega arith) }
 
 -- the sections of a book that is laid out for a calendar, so many points and so many engagements
-pub record Laid (book : List ℕ) (c : Calendar) (points rows : ℕ) : Type 0 where
+pub record LaidOut (book : List ℕ) (c : Calendar) (points rows : ℕ) : Type 0 where
   pub long : 56 ≤ length book
   pub calendar : Held book 0 (daysOf c)
   pub pairs : Held book 1 8
@@ -60,7 +60,7 @@ pub record Laid (book : List ℕ) (c : Calendar) (points rows : ℕ) : Type 0 wh
   pub readings : Held book 3 (4 * quartersOf c * points)
   pub engagements : Held book 4 (engagementWidth * rows)
 
-pub laid : (book : List ℕ) (c : Calendar) (points rows : ℕ) → adjoining book 0 56 (sizes c points rows) ≡ true → Laid book c points rows
+pub laid : (book : List ℕ) (c : Calendar) (points rows : ℕ) → adjoining book 0 56 (sizes c points rows) ≡ true → LaidOut book c points rows
 laid book c points rows e =
     let days = daysOf c in
     let reg = pointWidth * points in

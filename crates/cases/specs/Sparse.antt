@@ -80,13 +80,13 @@ PiecesBy line from before after true = Pieces line from before (length line) aft
 PiecesBy line from before after false = Unit {0}
 
 -- the first n bytes are zeros but for the pieces from a place on, the rest is as it was before
-pub record Filled (line : List ℕ) (from n : ℕ) (before after : List ℕ) : Type 0 where
+pub record LineFilled (line : List ℕ) (from n : ℕ) (before after : List ℕ) : Type 0 where
   pub room : n ≤ length after
   pub pieces : Pieces line from (replicate n 0) (length line) (take n after)
   pub rest : drop n after ≡ drop n before
 
 abbrev pub FilledBy : List ℕ → ℕ → ℕ → List ℕ → List ℕ → Bool → Type 0
-FilledBy line from n before after true = Filled line from n before after
+FilledBy line from n before after true = LineFilled line from n before after
 FilledBy line from n before after false = Unit {0}
 
 -- from `at` on a line says `LENGTH OFFSET HEX ..`
@@ -94,7 +94,7 @@ pub record Sparse (line : List ℕ) (at : ℕ) (before after : List ℕ) (n : �
   pub length-end : ℕ
   pub first : Ends line at 32 length-end
   pub says : numberOf (wordIn line at length-end) ≡ Value n
-  pub filled : Filled line (nextWord line length-end) n before after
+  pub filled : LineFilled line (nextWord line length-end) n before after
 
 abbrev pub SparseBy : List ℕ → ℕ → List ℕ → List ℕ → Loaded → Type 0
 SparseBy line at before after (Bytes n) = Sparse line at before after n

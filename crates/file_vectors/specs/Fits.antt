@@ -7,11 +7,11 @@ use Rattle.file_vectors.specs.declared.Field.{Field}
 use Rattle.file_vectors.specs.declared.Field.the-variants.{Value, Nothing}
 
 -- the rows and the bytes of an answer stand in so many numbers and bytes
-abbrev pub Fits : FileAnswer → ℕ → ℕ → Type 0
-Fits (File count n) numbers bytes = (rowWidth * count ≤ numbers) × (n ≤ bytes)
-Fits (Refused number item) numbers bytes = Unit {0}
+abbrev pub FileFits : FileAnswer → ℕ → ℕ → Type 0
+FileFits (File count n) numbers bytes = (rowWidth * count ≤ numbers) × (n ≤ bytes)
+FileFits (Refused number item) numbers bytes = Unit {0}
 
 -- the next word starts in a line of that length, or at its end
-abbrev pub Within : Field → ℕ → Type 0
-Within (Value n next) length = next ≤ length
-Within Nothing length = Unit {0}
+abbrev pub FieldWithin : Field → ℕ → Type 0
+FieldWithin (Value n next) length = next ≤ length
+FieldWithin Nothing length = Unit {0}

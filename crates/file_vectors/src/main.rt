@@ -5,7 +5,7 @@ use reports::FileAnswer;
 use text::Number;
 ghost use Prim.Native.Nat.{_*_, _≤_};
 ghost use lib.ListN.{length};
-ghost use Rattle.file_vectors.specs.Fits.{Within, Fits};
+ghost use Rattle.file_vectors.specs.Fits.{FieldWithin, FileFits};
 
 // What a line says at a place, and where its next word starts.
 pub enum Field {
@@ -14,7 +14,7 @@ pub enum Field {
 }
 
 // What is asked for, and how many numbers and bytes are lent.
-pub struct Asked {
+pub struct Case {
     pub kind: u8,
     pub receiver: u64,
     pub rows: usize,
@@ -39,7 +39,7 @@ fn answer_file(rows: &[i64], file: &[u8], count: usize, n: usize)
 }
 
 fn answer(said: FileAnswer, rows: &[i64], file: &[u8])
-    requires { ⌜ Fits said (length (now rows)) (length (now file)) ⌝ }
+    requires { ⌜ FileFits said (length (now rows)) (length (now file)) ⌝ }
 {
     match said {
         FileAnswer::File(count, n) => answer_file(rows, file, count, n),
@@ -52,7 +52,7 @@ fn answer(said: FileAnswer, rows: &[i64], file: &[u8])
 }
 
 // Asks for the file with the first numbers of rows and the first bytes of file.
-fn file_case(book: &[u8], id: &[u8], moment: &[u8], asked: Asked, rows: &mut [i64], file: &mut [u8])
+fn file_case(book: &[u8], id: &[u8], moment: &[u8], asked: Case, rows: &mut [i64], file: &mut [u8])
     requires { ⌜ (asked .rows ≤ length (now rows)) × (asked .file ≤ length (now file)) ⌝ }
 {
     cases::lent::prepare(rows);
@@ -77,7 +77,7 @@ fn run_book(
     at: usize,
     id: &[u8],
     moment: &[u8],
-    asked: Asked,
+    asked: Case,
     book: &mut [u8],
     rows: &mut [i64],
     file: &mut [u8],
@@ -97,7 +97,7 @@ fn run_timed(
     line: &[u8],
     at: usize,
     id: &[u8],
-    asked: Asked,
+    asked: Case,
     book: &mut [u8],
     rows: &mut [i64],
     file: &mut [u8],
@@ -119,7 +119,7 @@ fn run_timed(
 fn run_named(
     line: &[u8],
     at: usize,
-    asked: Asked,
+    asked: Case,
     book: &mut [u8],
     rows: &mut [i64],
     file: &mut [u8],
@@ -140,7 +140,7 @@ fn run_named(
 // The number that the word at `at` says.
 fn field_at(line: &[u8], at: usize) -> Field
     requires { ⌜ at ≤ length (now line) ⌝ }
-    ensures { λ r. ⌜ Within r (length (now (line .entry))) ⌝ }
+    ensures { λ r. ⌜ FieldWithin r (length (now (line .entry))) ⌝ }
 {
     let end = cases::words::find(line, at, b' ');
     let said = cases::words::number(&line[at..end]);
@@ -182,7 +182,7 @@ fn run_lent(
         cases::answers::no_case();
         return;
     }
-    let asked = Asked {
+    let asked = Case {
         kind,
         receiver,
         rows: r,

@@ -4,12 +4,11 @@ use mathlib.Core.Bool.{true, false, _&&_}
 use mathlib.Core.List.{List}
 use mathlib.Core.Option.{Option, none, some}
 use Prim.Native.Nat.{ℕ, _*_, _≤_, _<_}
-use lib.Dec.{leb}
 use lib.IntN.{ℤ}
 use native.Mathlib.Omega.{arith}
 use lib.ListN.{length}
 use lib.Seq.{sets}
-use borrow.Author.Tests.{leb-true, le-leb, lt-leb}
+use borrow.Author.Tests.{le-leb, lt-leb}
 use Rattle.formats.specs.declared.Mark.{Mark}
 use Rattle.formats.specs.declared.Mark.the-variants.{At, No}
 use Rattle.moments.specs.Ids.{isTransactionId}
@@ -17,7 +16,7 @@ use Rattle.refusals.specs.Refusals.{Refusal, refused, unless, orElse, short}
 use Rattle.book.specs.Book.{Book, bookOf}
 use Rattle.volumes.specs.Settlement.{rowWidth, rows, rowCount, bookRefusal}
 use Rattle.volumes.specs.SettlementLaws.{rows-length}
-use Rattle.refusals.specs.RefusalsLaws.{not-refused, unless-else}
+use Rattle.refusals.specs.RefusalsLaws.{not-refused, not-short, unless-else}
 use Rattle.volumes.specs.Series.{Kind}
 use Rattle.message.specs.Valid.{isMoment}
 use Rattle.kinds.specs.Numbers.{kindNumbered}
@@ -37,7 +36,7 @@ unfoldable pub askedVerdict : Book → Kind → ℕ → List ℕ → List ℕ �
 askedVerdict book kind receiver id moment lent =
     unless (stands receiver (receivers book kind)) 11
     (unless (isTransactionId id && isMoment moment) 12
-    (unless (leb (rowWidth * rowCount book) lent) 10 none))
+    (short 0 (rowWidth * rowCount book) lent))
 
 module _ (book : Book) (kind : Kind) (receiver : ℕ) (id moment : List ℕ) (lent : ℕ) where
   pub asked-other : stands receiver (receivers book kind) ≡ false → refused 11 0 ≡ askedVerdict book kind receiver id moment lent
@@ -60,10 +59,10 @@ module _ (book : Book) (kind : Kind) (receiver : ℕ) (id moment : List ℕ) (le
   pub asked-room : askedVerdict book kind receiver id moment lent ≡ none → rowWidth * rowCount book ≤ lent
   unfolding askedVerdict
   asked-room e =
-      let room = unless (leb (rowWidth * rowCount book) lent) 10 none in
+      let room = short 0 (rowWidth * rowCount book) lent in
       let e₁ = not-refused (stands receiver (receivers book kind)) 11 (unless (isTransactionId id && isMoment moment) 12 room) e in
       let e₂ = not-refused (isTransactionId id && isMoment moment) 12 room (e₁ .1) in
-      leb-true (rowWidth * rowCount book) lent (not-refused (leb (rowWidth * rowCount book) lent) 10 none (e₂ .1) .0)
+      not-short 0 (rowWidth * rowCount book) lent (e₂ .1)
 
 -- and then 10 with item 1
 unfoldable pub roomFor : List ℕ → List ℕ → Option Refusal
@@ -75,21 +74,16 @@ pub record FileFilled (book : Book) (text : List ℕ) (rowsBefore rowsAfter : Li
   pub rows : rowsAfter ≡ afterwards (roomFor text before) (rows book) rowsBefore
   pub file : after ≡ afterwards (roomFor text before) text before
 
-short-then : (rowNumbers rowsLent fileLength fileLent : ℕ) → shortRefusal rowNumbers rowsLent fileLength fileLent ≡ orElse (unless (leb rowNumbers rowsLent) 10 none) (short 1 fileLength fileLent)
-unfolding shortRefusal orElse
-short-then rowNumbers rowsLent fileLength fileLent = unless-else (leb rowNumbers rowsLent) 10 none (short 1 fileLength fileLent)
-
 asked-then : (book : Book) (kind : Kind) (receiver : ℕ) (id moment : List ℕ) (lent : ℕ) (before : List ℕ)
     → askedRefusal book (some kind) receiver id moment lent (length before) ≡ orElse (askedVerdict book kind receiver id moment lent) (roomFor (fileText book kind receiver id moment) before)
-unfolding askedRefusal askedVerdict roomFor
+unfolding askedRefusal shortRefusal askedVerdict roomFor
 asked-then book kind receiver id moment lent before =
     let s = stands receiver (receivers book kind) in
     let f = isTransactionId id && isMoment moment in
     let n = rowWidth * rowCount book in
     let later = roomFor (fileText book kind receiver id moment) before in
-    let room = unless (leb n lent) 10 none in
-    ap (λ q. unless s 11 (unless f 12 q)) (short-then n lent (length (fileText book kind receiver id moment)) (length before))
-    ∙ ap (λ q. unless s 11 q) (unless-else f 12 room later)
+    let room = short 0 n lent in
+    ap (λ q. unless s 11 q) (unless-else f 12 room later)
     ∙ unless-else s 11 (unless f 12 room) later
 
 module _ (bytes : List ℕ) (kind receiver : ℕ) (id moment : List ℕ) (lent : List ℤ) (before : List ℕ) where

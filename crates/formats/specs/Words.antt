@@ -14,13 +14,13 @@ wordAt (w ∷ ws) zero = w
 wordAt (w ∷ ws) (suc n) = wordAt ws n
 
 -- the first reading, or the second with the next number
-abbrev pub orElse : Res (Unit {0}) → Res ℕ → Res ℕ
-orElse (got u r) y = got 0 r
-orElse bad y = bind y (λ n r. got (suc n) r)
+abbrev pub orNext : Res (Unit {0}) → Res ℕ → Res ℕ
+orNext (got u r) y = got 0 r
+orNext bad y = bind y (λ n r. got (suc n) r)
 
 unfoldable pub wordsParse : List (List ℕ) → List ℕ → Res ℕ
 wordsParse [] s = bad
-wordsParse (w ∷ ws) s = orElse (strip w s) (wordsParse ws s)
+wordsParse (w ∷ ws) s = orNext (strip w s) (wordsParse ws s)
 
 -- no word begins a later one
 unfoldable pub Apart : List (List ℕ) → Type 0
@@ -33,7 +33,7 @@ words-sound [] s = tt
 words-sound (w ∷ ws) s = go (strip w s) (strip-sound w s) (wordsParse ws s) (words-sound ws s)
   where
     go : (x : Res (Unit {0})) → Sound (λ u. Unit {0}) (λ u. w) s x → (y : Res ℕ) → Sound (λ n. n < length ws) (wordAt ws) s y
-        → Sound (λ n. n < length (w ∷ ws)) (wordAt (w ∷ ws)) s (orElse x y)
+        → Sound (λ n. n < length (w ∷ ws)) (wordAt (w ∷ ws)) s (orNext x y)
     go (got u r) h y k = (h .0, omega arith)
     go bad h (got n r) k = (k .0, omega (arith, k .1))
     go bad h bad k = tt

@@ -3,10 +3,9 @@ use mathlib.Core.Path.{_≡_}
 use mathlib.Core.List.{List, [], _++_}
 use mathlib.Core.Option.{Option, none, some}
 use Prim.Native.Nat.{ℕ, _*_}
-use lib.Dec.{leb}
 use lib.ListN.{length}
 use Rattle.formats.specs.Format.{Res, got, bad}
-use Rattle.refusals.specs.Refusals.{Refusal, refused, unless}
+use Rattle.refusals.specs.Refusals.{Refusal, refused, short}
 use Rattle.refusals.specs.Buffers.{afterwards}
 use Rattle.kinds.specs.declared.Kind.{Kind}
 use Rattle.kinds.specs.declared.Kind.the-variants.{Toe01}
@@ -41,7 +40,7 @@ factsOf m =
 -- "Reader: 13, 10 with item 0.", by what the bytes are read as and how many numbers are lent
 unfoldable pub readRefusal : Res Message → ℕ → Option Refusal
 readRefusal bad lent = refused 13 0
-readRefusal (got m rest) lent = unless (leb (6 * length (m .rows)) lent) 10 none
+readRefusal (got m rest) lent = short 0 (6 * length (m .rows)) lent
 
 -- what was read; nothing in what is no file
 unfoldable pub messageIn : Res Message → Message

@@ -1,6 +1,6 @@
 -- What a reading's answer shows, what each answer needs, and that ID and moment stand at the places that are named.
 use mathlib.Core.Path.{_≡_, refl, sym, ap, _∙_}
-use mathlib.Core.Bool.{Bool, true, false}
+use mathlib.Core.Bool.{Bool, true, false, cond}
 use mathlib.Core.List.{List, _++_, append-assoc, flatMap}
 use mathlib.Core.Option.{Option, none, some}
 use Prim.Native.Nat.{ℕ, _*_, _≤_, _<_}
@@ -13,7 +13,7 @@ use borrow.Author.Tests.{leb-true, le-leb, lt-leb}
 use Rattle.text.specs.Decimal.{fixed, plain}
 use Rattle.text.specs.Written.{written}
 use Rattle.formats.specs.Format.{Res, got, bad}
-use Rattle.refusals.specs.Refusals.{Refusal, unless}
+use Rattle.refusals.specs.Refusals.{Refusal, refused}
 use Rattle.refusals.specs.Buffers.{over, afterwards}
 use Rattle.message.specs.declared.FileFacts.{FileFacts}
 use Rattle.message.specs.declared.ReadAnswer.{ReadAnswer}
@@ -69,7 +69,7 @@ pub record ReadAccepted (file before after : List ℕ) (facts : FileFacts) : Typ
 
 module _ (file before after : List ℕ) (facts : FileFacts) where
   accepted-message : (m : Message) (rest : List ℕ) → readMessage file ≡ got m rest → (b : Bool) → leb (6 * length (m .rows)) (length before) ≡ b
-      → File facts ≡ readSays (unless b 10 none) (factsOf m) → after ≡ afterwards (unless b 10 none) (numbers (m .rows)) before → ReadAccepted file before after facts
+      → File facts ≡ readSays (cond b none (refused 10 0)) (factsOf m) → after ≡ afterwards (cond b none (refused 10 0)) (numbers (m .rows)) before → ReadAccepted file before after facts
   unfolding readSays afterwards
   accepted-message m rest e true f a w =
       record { message = m; rest = rest; read = e; long = leb-true (6 * length (m .rows)) (length before) f; says = cc; rows = w }
@@ -87,7 +87,7 @@ module _ (file before after : List ℕ) (facts : FileFacts) where
 
 -- 13 is answered of no file only
 module _ (file before after : List ℕ) where
-  refused-message : (facts : FileFacts) (b : Bool) → Refused 13 0 ≡ readSays (unless b 10 none) facts → ⊥
+  refused-message : (facts : FileFacts) (b : Bool) → Refused 13 0 ≡ readSays (cond b none (refused 10 0)) facts → ⊥
   unfolding readSays
   refused-message facts true e = let z : _≡_ {A = ℕ} 0 1 = cc in omega arith
   refused-message facts false e = let z : _≡_ {A = ℕ} 13 10 = cc in omega arith

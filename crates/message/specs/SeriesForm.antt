@@ -19,7 +19,7 @@ use Rattle.kinds.specs.declared.Kind.{Kind}
 use Rattle.kinds.specs.declared.Kind.the-variants.{Toe03}
 use Rattle.message.specs.Contents.{Observation, TimeSeries}
 use Rattle.message.specs.Bytes.{opening, ending, closing, element, observationBytes, periodBytes, supplies, deliveries, supplyBytes, volumeBytes, seriesBytes, inSeries}
-use Rattle.message.specs.Valid.{most, IsVolume, IsSeries, Counted, lastPosition}
+use Rattle.message.specs.Valid.{most, IsVolume, IsSeries, IsCounter, lastPosition}
 use Rattle.message.specs.ObservationForm.{plainNumber, observations, observations-ok, ok-observations, period}
 
 -- ---- a time series
@@ -71,10 +71,10 @@ ofVolume supply v = record { supply = supply; delivery = v .0; year = v .1 .1 .0
 unfoldable pub volumeOf : TimeSeries → Volume
 volumeOf s = (s .delivery, (length (s .observations), ((s .year, s .month), s .observations)))
 
-pub counted-to : (n m : ℕ) → counted .Ok n → m ≡ n → Counted m
+pub counted-to : (n m : ℕ) → counted .Ok n → m ≡ n → IsCounter m
 counted-to n m ok e = record { some = omega (arith, ltb-true 0 n (ok .1)); fits = omega (arith, ok .0) }
 
-pub counted-from : (n : ℕ) → Counted n → counted .Ok n
+pub counted-from : (n : ℕ) → IsCounter n → counted .Ok n
 counted-from n c = (c .fits, lt-ltb 0 n (c .some))
 
 -- all but the supply direction

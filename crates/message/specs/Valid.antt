@@ -31,7 +31,7 @@ pub record IsObservation (last : ℕ) (o : Observation) : Type 0 where
   pub below : o .watts < 1000000000000
 
 -- how many there are: "Zero watts aren't written, nor empty series, nor a partner without a series; counters count what follows"
-pub record Counted (n : ℕ) : Type 0 where
+pub record IsCounter (n : ℕ) : Type 0 where
   pub some : 1 ≤ n
   pub fits : n ≤ most
 
@@ -46,7 +46,7 @@ pub record IsPeriod (year month : ℕ) : Type 0 where
 pub record IsVolume (s : TimeSeries) : Type 0 where
   pub delivery : s .delivery < 2
   pub period : IsPeriod (s .year) (s .month)
-  pub counted : Counted (length (s .observations))
+  pub counted : IsCounter (length (s .observations))
   pub rising : rises 1 (map position (s .observations)) ≡ true
   pub each : All (IsObservation (lastPosition (s .year) (s .month))) (s .observations)
 
@@ -63,7 +63,7 @@ OneSupply Toe03 l = All (λ (s : TimeSeries). s .supply ≡ supplyOf l) l
 -- "off-take before injection, up before down ... all strictly"
 pub record IsPartner (k : Kind) (p : Partner) : Type 0 where
   pub number : p .number < 10 ^ digits k
-  pub counted : Counted (length (p .series))
+  pub counted : IsCounter (length (p .series))
   pub rising : rises 0 (map place (p .series)) ≡ true
   pub each : All IsSeries (p .series)
   pub one : OneSupply k (p .series)

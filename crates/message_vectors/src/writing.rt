@@ -13,7 +13,7 @@ ghost use Prim.Native.Nat.{_≤_};
 ghost use lib.ListN.{length};
 
 // What a file is written of beside its rows, its ID and its moment.
-struct Head {
+struct FileHead {
     kind: u8,
     receiver: u64,
     year: u64,
@@ -21,7 +21,7 @@ struct Head {
 }
 
 // Whether a file's kind, receiver, year and month are those that it was written of.
-fn same_head(head: Head, facts: FileFacts) -> bool {
+fn same_head(head: FileHead, facts: FileFacts) -> bool {
     let kind = facts.kind;
     if kind_number(kind) != head.kind {
         return false;
@@ -44,7 +44,7 @@ fn stands(file: &[u8], at: usize, n: usize, word: &[u8]) -> bool {
 
 // Whether what is read of a file is what it was written of.
 fn read_back(
-    head: Head,
+    head: FileHead,
     rows: &[u64],
     id: &[u8],
     moment: &[u8],
@@ -78,7 +78,7 @@ fn print_part(file: &[u8], from: usize, to: usize) {
 
 // The bytes between two places of those that were written, which are to be read back; the bytes behind them are to be kept.
 fn answer_bytes(
-    head: Head,
+    head: FileHead,
     rows: &[u64],
     id: &[u8],
     moment: &[u8],
@@ -98,7 +98,7 @@ fn answer_bytes(
 
 // Writes from rows into the first `lent` bytes of file.
 fn write_rows(
-    head: Head,
+    head: FileHead,
     rows: &[u64],
     id: &[u8],
     moment: &[u8],
@@ -143,7 +143,7 @@ fn load_rows(line: &[u8], at: usize, rows: &mut [u64]) -> usize
 
 // `ID MOMENT COUNT NUMBER ..`, from `at` on.
 fn write_words(
-    head: Head,
+    head: FileHead,
     line: &[u8],
     at: usize,
     file: &mut [u8],
@@ -190,7 +190,7 @@ pub fn write_case(
 {
     let mut said = [0; 5];
     let next = numbers(line, at, &mut said);
-    let head = Head {
+    let head = FileHead {
         kind: (said[0] % 256) as u8,
         receiver: said[1],
         year: said[2],

@@ -26,7 +26,7 @@ use Rattle.volumes.specs.SoundLaws.{mem-range}
 use Rattle.volumes.specs.UsedLaws.{range-mem}
 use Rattle.message.specs.Contents.{Partner}
 use Rattle.reports.specs.FileRows.{isTaken, partnerNumbers, partnerAt, partnersOf, partnersBy}
-use Rattle.reports.specs.Registered.{Numbered, Registered}
+use Rattle.reports.specs.Registered.{NumbersFit, Registered}
 use Rattle.reports.specs.Roles.{receivers}
 use Rattle.reports.specs.Calls.{stands}
 use Rattle.reports.specs.CallsLaws.{stands-mem, mem-stands}
@@ -77,7 +77,7 @@ abbrev AtMost : List ℕ → Kind → ℕ → ℕ → ℕ → ℕ → Type 0
 AtMost register kind receiver low n j = isTaken kind receiver (pointAt register j) ≡ true → low ≤ partnerOf kind (pointAt register j) → n ≤ partnerOf kind (pointAt register j)
 
 -- the same, of the first i rows
-pub record Scanned (register : List ℕ) (kind : Kind) (receiver low i next : ℕ) : Type 0 where
+pub record PartnersScanned (register : List ℕ) (kind : Kind) (receiver low i next : ℕ) : Type 0 where
   pub found : next < noPartner → (j : ℕ) × (j < i) × (isTaken kind receiver (pointAt register j) ≡ true) × (partnerOf kind (pointAt register j) ≡ next) × (low ≤ next)
   pub least : (j : ℕ) → j < i → isTaken kind receiver (pointAt register j) ≡ true → low ≤ partnerOf kind (pointAt register j) → next ≤ partnerOf kind (pointAt register j)
 
@@ -86,10 +86,10 @@ unfoldable pub nearer : Bool → ℕ → ℕ → ℕ → ℕ
 nearer taken low partner next = cond (taken && (leb low partner && ltb partner next)) partner next
 
 module _ (register : List ℕ) (kind : Kind) (receiver low : ℕ) where
-  pub scanned-none : Scanned register kind receiver low 0 noPartner
+  pub scanned-none : PartnersScanned register kind receiver low 0 noPartner
   scanned-none = record { found = λ h. absurd (omega arith); least = λ j h. absurd (omega arith) }
 
-  pub scanned-more : (i next : ℕ) → Scanned register kind receiver low i next → Scanned register kind receiver low (i + 1) (nearer (isTaken kind receiver (pointAt register i)) low (partnerOf kind (pointAt register i)) next)
+  pub scanned-more : (i next : ℕ) → PartnersScanned register kind receiver low i next → PartnersScanned register kind receiver low (i + 1) (nearer (isTaken kind receiver (pointAt register i)) low (partnerOf kind (pointAt register i)) next)
   unfolding nearer
   scanned-more i next s = go (isTaken kind receiver (pointAt register i) && (leb low (partnerOf kind (pointAt register i)) && ltb (partnerOf kind (pointAt register i)) next)) refl
     where
@@ -102,7 +102,7 @@ module _ (register : List ℕ) (kind : Kind) (receiver low : ℕ) where
       left : (taken && (leb low partner && ltb partner next)) ≡ false → AtMost register kind receiver low next i
       left e t l = ltb-false partner next (rw (t, le-leb low partner l) at e)
 
-      go : (b : Bool) → (taken && (leb low partner && ltb partner next)) ≡ b → Scanned register kind receiver low (i + 1) (cond b partner next)
+      go : (b : Bool) → (taken && (leb low partner && ltb partner next)) ≡ b → PartnersScanned register kind receiver low (i + 1) (cond b partner next)
       go true e =
           let u = both taken (leb low partner && ltb partner next) e in
           let v = both (leb low partner) (ltb partner next) (u .1) in
@@ -114,7 +114,7 @@ module _ (register : List ℕ) (kind : Kind) (receiver low : ℕ) where
       go false e = record { found = λ k. let f = s .found k in (f .0, omega (arith, f .1), f .2, f .3, f .4); least = below-more (AtMost register kind receiver low next) i (s .least) (left e) }
 
 -- of all rows: the next of the column
-pub scanned-all : (register : List ℕ) (kind : Kind) (receiver low next : ℕ) → Scanned register kind receiver low (pointCountIn register) next → Next low (partnerColumn (pointsIn register) kind receiver) next
+pub scanned-all : (register : List ℕ) (kind : Kind) (receiver low next : ℕ) → PartnersScanned register kind receiver low (pointCountIn register) next → Next low (partnerColumn (pointsIn register) kind receiver) next
 unfolding partnerColumn
 scanned-all register kind receiver low next s = record { member = λ h. found (s .found h); least = λ x m l. at x l (Memᴰ·of-map (partnerOf kind) (keep (isTaken kind receiver) (pointsIn register)) m) }
   where
@@ -151,7 +151,7 @@ module _ (book : Book) (kind : Kind) (receiver : ℕ) where
       rw (add-one, next-least low next (partnerColumn (book .points) kind receiver) (record { member = m .0; from = m .1; least = s .least }))
       (keep-first (partnerAt book kind receiver next) (map (partnerAt book kind receiver) (keep (leb (suc next)) (partnerNumbers book kind receiver))))
 
-  below : (k : Kind) (point : Point) → Numbered point → partnerOf k point < noPartner
+  below : (k : Kind) (point : Point) → NumbersFit point → partnerOf k point < noPartner
   unfolding partnerOf
   below Toe01 point n = omega (arith, n .supplier)
   below Toe02 point n = omega (arith, n .fsp)

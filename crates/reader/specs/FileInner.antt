@@ -22,7 +22,7 @@ abbrev pub idStart : Kind → ℕ
 idStart k = length (opening (root k) ++ opening "TransactionID")
 
 -- the mark b before the ID, c behind it and the byte that ends it, d before the moment
-pub record Placed (k : Kind) (id : List ℕ) (b c d : Mark) : Type 0 where
+pub record PlacedMarks (k : Kind) (id : List ℕ) (b c d : Mark) : Type 0 where
   pub start : b ≡ At (idStart k)
   pub end : c ≡ At (idStart k + length id + 1)
   pub moment : d ≡ At (idStart k + length id + 1 + length (ending "TransactionID" ++ opening "MessageCreateDateTime"))
@@ -33,7 +33,7 @@ pub record Filed (s : List ℕ) (o : Mark) (k : Kind) (receiver : ℕ) (t : (ℕ
   pub partners : List Partner
   pub parsed : Parsed (fileBody .parse) s (At 0) o (k, (span nameByte (left s b), (take 29 (left s d), (receiver, (count, partners)))))
   pub is : (q : ℕ) → o ≡ At q → folded adding ((0, 0), 0) partners ≡ t
-  pub places : (q : ℕ) → o ≡ At q → Placed k (span nameByte (left s b)) b c d
+  pub places : (q : ℕ) → o ≡ At q → PlacedMarks k (span nameByte (left s b)) b c d
 
 -- the rows of the parts of a file
 abbrev pub rowsOfParts : Parts → List Row

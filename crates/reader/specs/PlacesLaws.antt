@@ -23,7 +23,7 @@ use Rattle.series_reader.specs.ItemsLaws.{read-long}
 use Rattle.reader.specs.PartnerLaws.{tagForm}
 use Rattle.reader.specs.PartnersInner.{adding}
 use Rattle.series_reader.specs.FillingLaws.{began}
-use Rattle.reader.specs.FileInner.{idStart, Placed}
+use Rattle.reader.specs.FileInner.{idStart, PlacedMarks}
 
 -- what ends somewhere began somewhere
 there : {A : Type 0} {f : List ℕ → Res A} {s : List ℕ} {m r : Mark} {v : A} → Parsed f s m r v → (q : ℕ) × (r ≡ At q) → (p : ℕ) × (m ≡ At p)
@@ -55,7 +55,7 @@ pub record Steps (s : List ℕ) (a b c d e f g h i j l o : Mark) (k : Kind) (com
   pub end : Parsed (strip (closing (root k))) s l o tt
 
 pub placed : {s : List ℕ} {a b c d e f g h i j l o : Mark} {k : Kind} {receiver n : ℕ} {t : (ℕ × ℕ) × ℕ} → Steps s a b c d e f g h i j l o k receiver n t
-    → (q : ℕ) → o ≡ At q → Placed k (span nameByte (left s b)) b c d
+    → (q : ℕ) → o ≡ At q → PlacedMarks k (span nameByte (left s b)) b c d
 placed {s} {a} {b} {c} {d} {k = k} p q z =
     let id = span nameByte (left s b) in
     let tags = ending "TransactionID" ++ opening "MessageCreateDateTime" in

@@ -4,7 +4,6 @@ use mathlib.Core.Bool.{_&&_}
 use mathlib.Core.List.{List, []}
 use mathlib.Core.Option.{Option, none, some}
 use Prim.Native.Nat.{ℕ, _*_}
-use lib.Dec.{leb}
 use lib.IntN.{ℤ}
 use lib.ListN.{length}
 use Rattle.moments.specs.Ids.{isTransactionId}
@@ -32,7 +31,7 @@ unfoldable pub sheetRefusal : List ℕ → ℕ → ℕ → Option Refusal
 sheetRefusal bytes party lent =
     orElse (bookRefusal bytes)
     (unless (stands party (parties (bookOf bytes))) 11
-    (unless (leb (monthQuarters (bookOf bytes .calendar)) lent) 10 none))
+    (short 0 (monthQuarters (bookOf bytes .calendar)) lent))
 
 -- how many sums, or the refusal's number and item
 unfoldable pub sheetSays : Option Refusal → ℕ → SheetAnswer
@@ -56,8 +55,7 @@ textOf book (some kind) receiver id moment = fileText book kind receiver id mome
 
 -- "Of two short buffers item 0 is named.": the rows, then the file
 unfoldable pub shortRefusal : ℕ → ℕ → ℕ → ℕ → Option Refusal
-shortRefusal rowNumbers rowsLent fileLength fileLent =
-    unless (leb rowNumbers rowsLent) 10 (short 1 fileLength fileLent)
+shortRefusal rowNumbers rowsLent fileLength fileLent = orElse (short 0 rowNumbers rowsLent) (short 1 fileLength fileLent)
 
 -- "12 for the kind, 11, 12 for ID or moment, 10"
 unfoldable pub askedRefusal : Book → Option Kind → ℕ → List ℕ → List ℕ → ℕ → ℕ → Option Refusal

@@ -5,14 +5,13 @@ use mathlib.Core.List.{List, List·Memᴰ}
 use mathlib.Core.Option.{Option, none, some}
 use Prim.Native.Nat.{ℕ, zero, suc, _*_, _≤_}
 use native.Mathlib.Omega.{arith}
-use lib.Dec.{leb}
 use lib.ListN.{length}
 use borrow.Author.Tests.{leb-true, le-leb}
 use Rattle.integers.specs.Counts.{times, mem-times, times-mem}
 use Rattle.integers.specs.Tests.{both}
 use Rattle.moments.specs.Ids.{isTransactionId}
 use Rattle.book.specs.Book.{Book, bookOf}
-use Rattle.refusals.specs.Refusals.{Refusal, unless, orElse}
+use Rattle.refusals.specs.Refusals.{Refusal, unless, orElse, short}
 use Rattle.volumes.specs.Quarters.{monthQuarters}
 use Rattle.volumes.specs.Settlement.{rowWidth, rowCount, bookRefusal}
 use Rattle.refusals.specs.RefusalsLaws.{never, not-refused, not-later}
@@ -52,7 +51,7 @@ sheet-not-refused bytes party lent e = sheet-says-none (sheetRefusal bytes party
 pub sheet-party : (bytes : List ℕ) (party lent : ℕ) → sheetRefusal bytes party lent ≡ none → List·Memᴰ party (parties (bookOf bytes))
 unfolding sheetRefusal
 sheet-party bytes party lent e =
-    let long = unless (leb (monthQuarters (bookOf bytes .calendar)) lent) 10 none in
+    let long = short 0 (monthQuarters (bookOf bytes .calendar)) lent in
     let s = stands party (parties (bookOf bytes)) in
     stands-mem party (parties (bookOf bytes)) (not-refused s 11 long (not-later (bookRefusal bytes) (unless s 11 long) e) .0)
 
@@ -91,11 +90,11 @@ pub record InForm (book : Book) (kind : Kind) (receiver : ℕ) (id moment : List
 in-form : (book : Book) (kind : Kind) (receiver : ℕ) (id moment : List ℕ) (rowsLent fileLent : ℕ) → askedRefusal book (some kind) receiver id moment rowsLent fileLent ≡ none → InForm book kind receiver id moment
 unfolding askedRefusal
 in-form book kind receiver id moment rowsLent fileLent e =
-    let short = shortRefusal (rowWidth * rowCount book) rowsLent (length (fileText book kind receiver id moment)) fileLent in
+    let room = shortRefusal (rowWidth * rowCount book) rowsLent (length (fileText book kind receiver id moment)) fileLent in
     let s = stands receiver (receivers book kind) in
     let f = isTransactionId id && isMoment moment in
-    let e₁ = not-refused s 11 (unless f 12 short) e in
-    let e₂ = both (isTransactionId id) (isMoment moment) (not-refused f 12 short (e₁ .1) .0) in
+    let e₁ = not-refused s 11 (unless f 12 room) e in
+    let e₂ = both (isTransactionId id) (isMoment moment) (not-refused f 12 room (e₁ .1) .0) in
     record { role = stands-mem receiver (receivers book kind) (e₁ .0); named = e₂ .0; timed = e₂ .1 }
 
 module _ (bytes : List ℕ) (kind : Kind) (receiver : ℕ) (id moment : List ℕ) (rowsLent fileLent : ℕ) where

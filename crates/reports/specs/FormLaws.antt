@@ -40,7 +40,7 @@ use Rattle.message.specs.Bytes.{digits, supplyOf}
 use Rattle.message.specs.Valid.{lastPosition, IsObservation, IsVolume, IsSeries, OneSupply, IsPartner, isMoment, monthOf, periods, firstOf, IsFile}
 use Rattle.reports.specs.FileRows.{supplyNumber, deliveryNumber, isTaken, partnerNumbers, directions, positions, observationAt, isWritten, observationsOf, timeSeries, timeSeriesOf, partnerAt, partnersOf, fileOf, observationBy, observationsBy, timeSeriesBy, partnerBy, partnersBy}
 use Rattle.reports.specs.Roles.{receivers}
-use Rattle.reports.specs.Registered.{Numbered, Registered}
+use Rattle.reports.specs.Registered.{NumbersFit, Registered}
 use Rattle.reports.specs.PointsLaws.{Of, Inside, watts-point}
 
 -- ---- lists
@@ -95,7 +95,7 @@ month-positions : (c : Calendar) → monthQuarters c ≡ lastPosition (c .year) 
 unfolding monthQuarters dayStart calendarDays lastPosition
 month-positions c = omega arith
 
-partner-fits : (kind : Kind) (point : Point) → Numbered point → partnerOf kind point < 10 ^ digits kind
+partner-fits : (kind : Kind) (point : Point) → NumbersFit point → partnerOf kind point < 10 ^ digits kind
 unfolding partnerOf digits
 partner-fits Toe01 point h = h .supplier
 partner-fits Toe02 point h = h .fsp
@@ -228,7 +228,7 @@ one-supply book sound registered Toe01 receiver n = tt
 one-supply book sound registered Toe02 receiver n = tt
 one-supply book sound registered Toe03 receiver n = one-of-all (timeSeriesOf book Toe03 receiver n) (one-access book sound registered receiver n)
 
-receiver-fits : (kind : Kind) (point : Point) → Numbered point → receiverOf kind point < 10 ^ 10
+receiver-fits : (kind : Kind) (point : Point) → NumbersFit point → receiverOf kind point < 10 ^ 10
 unfolding receiverOf
 receiver-fits Toe01 point h = h .fsp
 receiver-fits Toe02 point h = h .supplier

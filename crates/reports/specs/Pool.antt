@@ -75,7 +75,7 @@ volume i k = delivered (bookOf pool) (engagementAt engagements i) k
 
 -- it is accepted; two points have half a watt each at the first position, of which the provider's and the supplier's file make 1 W; the one passed through
 -- has half a watt there and half a watt at the second, and the supplier's file of access points carries 1 W at the second
-pub record Shown : Type 0 where
+pub record PoolShown : Type 0 where
   pub accepted : Accepted pool
   pub halves : (volume 0 0 ≡ 15120) × (volume 1 0 ≡ 15120)
   pub provider : Carries pool Toe01 7 3 1 1

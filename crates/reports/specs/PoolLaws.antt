@@ -40,7 +40,7 @@ use Rattle.volumes.specs.Sheets.{covers, quarterAt}
 use Rattle.volumes.specs.Series.{Kind, Toe01, Toe02, Toe03, takes, receiverOf, partnerOf, sameSupply, sameDirection, isPoint, isEngagement, grainsOf, grainsAt, seriesWatts, seriesOf}
 use Rattle.reports.specs.Small.{Carries}
 use Rattle.reports.specs.SmallLaws.{no-change, none-first, passes, carries-by, accepted-by}
-use Rattle.reports.specs.Pool.{header, calendar, pairs, register, words, wattAt, readings, engagements, pool, volume, Shown}
+use Rattle.reports.specs.Pool.{header, calendar, pairs, register, words, wattAt, readings, engagements, pool, volume, PoolShown}
 
 -- ---- readings
 
@@ -228,7 +228,7 @@ pool-carries : (kind : Kind) (receiver partner p w : ℕ) → 1 ≤ p → p ≤ 
 pool-carries kind receiver partner p w low high e =
     carries-by pool pool-passes pool-refusal kind receiver partner p w low (omega (arith, month-long)) (ap (λ b. seriesWatts b kind receiver (seriesOf partner OffTake Up) p) book-is ∙ e)
 
-pub shown : Shown
+pub shown : PoolShown
 shown =
     record {
       accepted = accepted-by pool pool-refusal;

@@ -19,10 +19,10 @@ use Rattle.book.specs.Book.{bookOf}
 use Rattle.book.specs.declared.Point.{Point}
 use Rattle.volumes.specs.SoundLaws.{passes, first-none, mem-range}
 use Rattle.volumes.specs.BookLaws.{points-length}
-use Rattle.reports.specs.Registered.{Numbered, Registered}
+use Rattle.reports.specs.Registered.{NumbersFit, Registered}
 
 module _ (days : ℕ) (register : List ℕ) where
-  numbered-row : (i : ℕ) → badPoint days register i ≡ false → Numbered (pointAt register i)
+  numbered-row : (i : ℕ) → badPoint days register i ≡ false → NumbersFit (pointAt register i)
   unfolding badPoint numbersGood
   numbered-row i e =
       let row = registerRow register i in
@@ -73,7 +73,7 @@ row-of bytes e point m = go (Memᴰ·of-map (pointAt (registerSection bytes)) (r
         let r = mem-range 0 (pointCount bytes) i k in
         (i, first-none (badPoint (daysOf (calendarOf bytes)) (registerSection bytes)) 0 (pointCount bytes) (passes bytes e .points) i (r .0) (r .1), q)
 
-numbered-point : (bytes : List ℕ) (point : Point) → GoodRow bytes point → Numbered point
+numbered-point : (bytes : List ℕ) (point : Point) → GoodRow bytes point → NumbersFit point
 numbered-point bytes point (i, f, q) = rw (← q) (numbered-row (daysOf (calendarOf bytes)) (registerSection bytes) i f)
 
 shared-points : (bytes : List ℕ) (a b : Point) → GoodRow bytes a → GoodRow bytes b → a .access ≡ b .access → a .supply ≡ b .supply

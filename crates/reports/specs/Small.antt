@@ -59,6 +59,6 @@ pub record Carries (bytes : List ℕ) (kind : Kind) (receiver partner p watts : 
   pub written : (c : FileCall bytes) → wrote kind c ≡ true → c .receiver ≡ receiver → wattsIn (carried c) partner 0 0 p ≡ watts
 
 -- it is accepted, and the provider's file carries 1,000 W for the supplier at the first position
-pub record Shown : Type 0 where
+pub record SmallShown : Type 0 where
   pub accepted : Accepted small
   pub carries : Carries small Toe01 7 3 1 1000

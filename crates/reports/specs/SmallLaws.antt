@@ -41,7 +41,7 @@ use Rattle.reports.specs.FileRows.{supplyNumber, deliveryNumber, fileRow
 use Rattle.reports.specs.Watts.{wattsIn}
 use Rattle.reports.specs.CarryLaws.{carries}
 use Rattle.reports.specs.Demand3Laws.{carried-is}
-use Rattle.reports.specs.Small.{header, calendar, pairs, register, readings, engagements, small, Carries, Shown}
+use Rattle.reports.specs.Small.{header, calendar, pairs, register, readings, engagements, small, Carries, SmallShown}
 
 small-length : length small ≡ 11309
 unfolding small header calendar pairs register readings engagements
@@ -237,7 +237,7 @@ pub accepted-by : (bytes : List ℕ) → bookRefusal bytes ≡ none → Accepted
 unfolding Accepted
 accepted-by bytes good = settling-long bytes (rowWidth * rowCount (bookOf bytes)) (omega arith) ∙ good
 
-pub shown : Shown
+pub shown : SmallShown
 shown =
     record {
       accepted = accepted-by small small-refusal;

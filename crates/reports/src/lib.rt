@@ -1,7 +1,7 @@
 // The sheets and files of a book: the calls' answers, and demand 3 of the calls' contracts. Definitions and laws stand in specs/; crate `filing` has the calls.
 ghost use Rattle.reports.specs.Demand3.{Demand3, Possible};
-ghost use Rattle.reports.specs.Small.{Shown as SmallShown};
-ghost use Rattle.reports.specs.Pool.{Shown as PoolShown};
+ghost use Rattle.reports.specs.Small.{SmallShown};
+ghost use Rattle.reports.specs.Pool.{PoolShown};
 
 // What a sheet call answers: the sums that it filled, or a number and an item of document 01.
 pub enum SheetAnswer {

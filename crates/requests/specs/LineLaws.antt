@@ -104,7 +104,7 @@ no-line s kind receiver l = sym (ap requestBy (l .parsed .run .run))
 -- ---- the words of a line, as parts of the input
 
 -- where the words and the book behind them stand
-pub record Placed (s : List ℕ) (w : Words) (rest : List ℕ) : Type 0 where
+pub record PlacedWords (s : List ℕ) (w : Words) (rest : List ℕ) : Type 0 where
   pub room : asked w .book ≤ length s
   pub id : take (asked w .«id_length») (drop (asked w .id) s) ≡ w .1 .1 .0
   pub moment : take 29 (drop (asked w .moment) s) ≡ w .1 .1 .1
@@ -141,7 +141,7 @@ moment-long : (w : Words) → line .Ok w → length (w .1 .1 .1) ≡ 29
 unfolding line
 moment-long w ok = ok .1 .1 .1 .0
 
-pub placed : (s : List ℕ) (w : Words) (rest : List ℕ) → line .parse s ≡ got w rest → Placed s w rest
+pub placed : (s : List ℕ) (w : Words) (rest : List ℕ) → line .parse s ≡ got w rest → PlacedWords s w rest
 unfolding asked
 placed s w rest e =
     let f = sound-of line s w rest e in

@@ -36,7 +36,7 @@ added l at v zero = l
 added l at v (suc k) = set (added l at v k) (at + k) (getD l (at + k) 0 + v k)
 
 -- n volumes from a place on can be added to the cells from another on: no sum wraps
-pub record Addable (grains : List ℕ) (first : ℕ) (volumes : List ℕ) (at n : ℕ) : Type 0 where
+pub record VolumesAddable (grains : List ℕ) (first : ℕ) (volumes : List ℕ) (at n : ℕ) : Type 0 where
   pub cells : first + n ≤ length grains
   pub given : at + n ≤ length volumes
   pub fits : (k : ℕ) → k < n → getD grains (first + k) 0 + getD volumes (at + k) 0 < 2 ^ 64

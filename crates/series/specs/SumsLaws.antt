@@ -41,7 +41,7 @@ use Rattle.settlement.specs.SectionsLaws.{rows-counted, same-book, opened}
 use Rattle.settlement.specs.EngagedLaws.{engaged}
 use Rattle.settlement.specs.PartsLaws.{rowCountTo, count-more, count-most}
 use Rattle.baseline.specs.BasesLaws.{next-cell}
-use Rattle.series.specs.Sums.{byPosition, cellAt, grainsTo, added, Addable, Parts, DeliveredIn}
+use Rattle.series.specs.Sums.{byPosition, cellAt, grainsTo, added, VolumesAddable, Parts, DeliveredIn}
 use Rattle.series.specs.Volumes.{bookVolumes}
 use Rattle.series.specs.VolumesLaws.{volumes-length, volume-of}
 
@@ -333,7 +333,7 @@ module _ {c : Calendar} {register engagements : List ℕ} {volumes : List ℕ} {
   own-volume-is k h = ap (λ (a : ℕ). getD volumes (a + k) 0) place ∙ volume-is s i k inside (omega (arith, at-most-own))
 
   -- the volumes of one engagement more can be added, and their sums are those of one more
-  pub turn-adds : Addable grains first volumes at own
+  pub turn-adds : VolumesAddable grains first volumes at own
   turn-adds =
       record {
         cells = omega (arith, cells-inside, ap length held, by-length (grainsTo book kind receiver series i) (monthQuarters c) before room);

@@ -137,7 +137,7 @@ pub fn is_engagement(role: Role, s: Series, point: Point, e: Engagement) -> bool
 
 // Adds n delivered volumes, from `at` on, to the cells from `first` on.
 fn add_volumes(grains: &mut [u64], first: usize, volumes: &[u64], at: usize, n: usize)
-    requires { ⌜ Addable (now grains) first (now volumes) at n ⌝ }
+    requires { ⌜ VolumesAddable (now grains) first (now volumes) at n ⌝ }
     ensures { λ r. ⌜ now (grains .exit) ≡ added (now (grains .entry)) first (λ k. getD (now (volumes .entry)) (at + k) 0) n ⌝ }
 {
     let mut k = 0;

@@ -5,6 +5,6 @@ use Rattle.settlement.specs.declared.settle.Settled.{Settled}
 use Rattle.settlement.specs.declared.settle.Settled.the-variants.{Rows, Refused}
 
 -- the rows of an answer stand in so many numbers
-abbrev pub Fits : Settled → ℕ → Type 0
-Fits (Rows count) n = rowWidth * count ≤ n
-Fits (Refused number item) n = Unit {0}
+abbrev pub RowsFit : Settled → ℕ → Type 0
+RowsFit (Rows count) n = rowWidth * count ≤ n
+RowsFit (Refused number item) n = Unit {0}

@@ -5,7 +5,7 @@ use settlement::settle::Settled;
 use text::Number;
 ghost use Prim.Native.Nat.{_*_, _≤_};
 ghost use lib.ListN.{length};
-ghost use Rattle.settle_vectors.specs.Fits.{Fits};
+ghost use Rattle.settle_vectors.specs.Fits.{RowsFit};
 
 // The number of rows, and the rows; the numbers behind them are to be kept.
 fn answer_rows(rows: &[i64], count: usize)
@@ -20,7 +20,7 @@ fn answer_rows(rows: &[i64], count: usize)
 }
 
 fn answer(settled: Settled, rows: &[i64])
-    requires { ⌜ Fits settled (length (now rows)) ⌝ }
+    requires { ⌜ RowsFit settled (length (now rows)) ⌝ }
 {
     match settled {
         Settled::Rows(count) => answer_rows(rows, count),

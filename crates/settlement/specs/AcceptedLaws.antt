@@ -15,10 +15,10 @@ use Rattle.settlement.specs.declared.settle.Settled.the-variants.{Rows}
 use Rattle.settlement.specs.Calls.{settleSays, settleAnswer, SettleCalled}
 
 -- rows are answered where nothing is refused
-not-refused : (x : Option Refusal) (n count : ℕ) → settleSays x n ≡ Rows count → x ≡ none
+answered-none : (x : Option Refusal) (n count : ℕ) → settleSays x n ≡ Rows count → x ≡ none
 unfolding settleSays
-not-refused none n count e = refl
-not-refused (some r) n count e = let z : _≡_ {A = ℕ} 0 1 = cc in absurd (omega arith)
+answered-none none n count e = refl
+answered-none (some r) n count e = let z : _≡_ {A = ℕ} 0 1 = cc in absurd (omega arith)
 
 module _ (bytes : List ℕ) (before after : List ℤ) (r : Settled) (long : rowWidth * rowCount (bookOf bytes) ≤ length before) (call : SettleCalled bytes before after r) where
   by-book : r ≡ settleSays (bookRefusal bytes) (rowCount (bookOf bytes))
@@ -32,4 +32,4 @@ module _ (bytes : List ℕ) (before after : List ℤ) (r : Settled) (long : rowW
   pub settles-accepted : (count : ℕ) → r ≡ Rows count → Accepted bytes
   unfolding Accepted
   settles-accepted count e =
-      settling-long bytes (rowWidth * rowCount (bookOf bytes)) (omega arith) ∙ not-refused (bookRefusal bytes) (rowCount (bookOf bytes)) count (sym by-book ∙ e)
+      settling-long bytes (rowWidth * rowCount (bookOf bytes)) (omega arith) ∙ answered-none (bookRefusal bytes) (rowCount (bookOf bytes)) count (sym by-book ∙ e)

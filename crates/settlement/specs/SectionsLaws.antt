@@ -6,7 +6,7 @@ use Prim.Native.Nat.{ℕ, zero, suc, _+_, _≤_}
 use native.Mathlib.Omega.{arith}
 use lib.ListN.{length}
 use Rattle.book.specs.Header.{calendarOf, pointCount, engagementCount, offsetOf, lengthOf, layoutGood, registerSection, engagementSection}
-use Rattle.book.specs.HeaderLaws.{Laid, laid, headed}
+use Rattle.book.specs.HeaderLaws.{LaidOut, laid, headed}
 use Rattle.book.specs.Book.{bookOf}
 use Rattle.book.specs.Judged.{refusalOf}
 use Rattle.volumes.specs.Settlement.{settlementRefusal, rowCount, bookRefusal}
@@ -15,7 +15,7 @@ use Rattle.volumes.specs.SettlementLaws.{passing}
 use Rattle.settlement.specs.Sections.{pointCountIn, engagementCountIn, engagementsIn, rowCountIn, bookWith, Opened}
 
 -- the sections, as a good layout says
-pub all-held : (bytes : List ℕ) → refusalOf bytes ≡ none → Laid bytes (calendarOf bytes) (pointCount bytes) (engagementCount bytes)
+pub all-held : (bytes : List ℕ) → refusalOf bytes ≡ none → LaidOut bytes (calendarOf bytes) (pointCount bytes) (engagementCount bytes)
 unfolding layoutGood
 all-held bytes e = laid bytes (calendarOf bytes) (pointCount bytes) (engagementCount bytes) (passes bytes e .layout)
 
@@ -26,7 +26,7 @@ bytes-long bytes e = all-held bytes e .long
 pub section-inside : (bytes : List ℕ) → refusalOf bytes ≡ none → (k : ℕ) → k ≤ 4 → offsetOf bytes k + lengthOf bytes k ≤ length bytes
 section-inside bytes e k h = at k h
   where
-    l : Laid bytes (calendarOf bytes) (pointCount bytes) (engagementCount bytes)
+    l : LaidOut bytes (calendarOf bytes) (pointCount bytes) (engagementCount bytes)
     l = all-held bytes e
 
     at : (k : ℕ) → k ≤ 4 → offsetOf bytes k + lengthOf bytes k ≤ length bytes

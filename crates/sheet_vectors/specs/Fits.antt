@@ -4,6 +4,6 @@ use Rattle.reports.specs.declared.SheetAnswer.{SheetAnswer}
 use Rattle.reports.specs.declared.SheetAnswer.the-variants.{Sheet, Refused}
 
 -- the sums of an answer stand in so many numbers
-abbrev pub Fits : SheetAnswer → ℕ → Type 0
-Fits (Sheet count) n = count ≤ n
-Fits (Refused number item) n = Unit {0}
+abbrev pub SumsFit : SheetAnswer → ℕ → Type 0
+SumsFit (Sheet count) n = count ≤ n
+SumsFit (Refused number item) n = Unit {0}

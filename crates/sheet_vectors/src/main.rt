@@ -5,7 +5,7 @@ use reports::SheetAnswer;
 use text::Number;
 ghost use Prim.Native.Nat.{_≤_};
 ghost use lib.ListN.{length};
-ghost use Rattle.sheet_vectors.specs.Fits.{Fits};
+ghost use Rattle.sheet_vectors.specs.Fits.{SumsFit};
 
 // A place and its sum, where that isn't 0.
 fn print_sum(place: usize, sum: i64) {
@@ -38,7 +38,7 @@ fn answer_sums(sums: &[i64], count: usize)
 }
 
 fn answer(said: SheetAnswer, sums: &[i64])
-    requires { ⌜ Fits said (length (now sums)) ⌝ }
+    requires { ⌜ SumsFit said (length (now sums)) ⌝ }
 {
     match said {
         SheetAnswer::Sheet(count) => answer_sums(sums, count),

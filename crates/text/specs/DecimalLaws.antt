@@ -175,12 +175,12 @@ plain-is n v one lead = ap (λ (k : ℕ). fixed (suc k) v) (count-is v n (v / 10
     behind m e = let p : 0 < above (suc m) v = subst (λ (k : ℕ). 0 < above k v) e (lead (omega arith)) in omega (arith, above-tail m v)
 
 -- how many digits stand behind the first, and what the first is
-pub record Plain (v n : ℕ) : Type 0 where
+pub record PlainDigits (v n : ℕ) : Type 0 where
   pub bytes : plain v ≡ fixed (suc n) v
   pub one : above n v < 10
   pub lead : 0 < n → 0 < above n v
 
-pub plain-has : (v : ℕ) → Plain v (count v (v / 10))
+pub plain-has : (v : ℕ) → PlainDigits v (count v (v / 10))
 unfolding plain
 plain-has v =
     let n = count v (v / 10) in

@@ -41,7 +41,7 @@ use Rattle.message.specs.Rows.{Message}
 use Rattle.formats.specs.Format.{Res, got, bad}
 use Rattle.writer.specs.Rows.{isRows, rowsMessage}
 use Rattle.writer.specs.WriteCalls.{textFrom, writeRefusal, writeSays, writeAnswer, WriteCalled}
-use Rattle.toe_c.specs.Codes.{settleReply, sheetReply, fileReply, readReply, writeReply, refusalCode, Decoded, withFacts}
+use Rattle.toe_c.specs.Codes.{Reply, counts, refuses, settleReply, sheetReply, fileReply, readReply, writeReply, refusalCode, Decoded, withFacts}
 use Rattle.volumes.specs.Quarters.{monthQuarters}
 use Rattle.volumes.specs.Sheets.{parties}
 use Rattle.reports.specs.declared.SheetAnswer.{SheetAnswer}
@@ -58,6 +58,36 @@ AllSmall (some r) = Small (r .number) (r .item)
 
 few : (number item : ℕ) → number ≤ 31 → item ≤ 512 → Small number item
 few number item h k = record { number-few = h; item-few = k }
+
+-- each call's answer is a reply by its refusal
+abbrev pub replyBy : Option Refusal → ℕ → Reply
+replyBy none n = counts n
+replyBy (some r) n = refuses (r .number) (r .item)
+
+pub settle-by : (x : Option Refusal) (n : ℕ) → settleReply (settleSays x n) ≡ replyBy x n
+unfolding settleSays
+settle-by none n = refl
+settle-by (some r) n = refl
+
+pub sheet-by : (x : Option Refusal) (n : ℕ) → sheetReply (sheetSays x n) ≡ replyBy x n
+unfolding sheetSays
+sheet-by none n = refl
+sheet-by (some r) n = refl
+
+pub file-by : (x : Option Refusal) (rowCount n : ℕ) → fileReply (fileSays x rowCount n) ≡ replyBy x n
+unfolding fileSays
+file-by none rowCount n = refl
+file-by (some r) rowCount n = refl
+
+pub write-by : (x : Option Refusal) (n : ℕ) → writeReply (writeSays x n) ≡ replyBy x n
+unfolding writeSays
+write-by none n = refl
+write-by (some r) n = refl
+
+pub read-by : (x : Option Refusal) (f : FileFacts) → readReply (readSays x f) ≡ replyBy x (f .rows)
+unfolding readSays
+read-by none f = refl
+read-by (some r) f = refl
 
 -- two refusals of one code are the same
 pub told-apart : (m n i j : ℕ) → Small m i → Small n j → refusalCode m i ≡ refusalCode n j → (m ≡ n) × (i ≡ j)
@@ -174,18 +204,20 @@ book-small bytes = small-else (refusalOf bytes) (settlementRefusal (bookOf bytes
 
 pub settling-small : (bytes : List ℕ) (lent : ℕ) → AllSmall (settlingRefusal bytes lent)
 unfolding settlingRefusal
-settling-small bytes lent = small-else (bookRefusal bytes) _ (book-small bytes) (λ e. small-unless (leb (rowWidth * rowCount (bookOf bytes)) lent) 10 none (omega arith) (λ f. tt))
+settling-small bytes lent = small-else (bookRefusal bytes) _ (book-small bytes) (λ e. small-short 0 (rowWidth * rowCount (bookOf bytes)) lent (omega arith))
 
 -- ---- the calls' answers
 
-settle-said : (x : Option Refusal) (count : ℕ) → AllSmall x → SmallReply (settleReply (settleSays x count))
-unfolding settleSays
-settle-said none count h = tt
-settle-said (some r) count h = h
+by-small : (x : Option Refusal) (n : ℕ) → AllSmall x → SmallReply (replyBy x n)
+by-small none n h = tt
+by-small (some r) n h = h
 
 pub settle-small : {bytes : List ℕ} {before after : List ℤ} {r : Settled} → SettleCalled bytes before after r → SmallReply (settleReply r)
 unfolding settleAnswer
-settle-small {bytes} {before} s = rw (s .answer) (settle-said (settlingRefusal bytes (length before)) (rowCount (bookOf bytes)) (settling-small bytes (length before)))
+settle-small {bytes} {before} s =
+    let x = settlingRefusal bytes (length before) in
+    let n = rowCount (bookOf bytes) in
+    rw (s .answer, settle-by x n) (by-small x n (settling-small bytes (length before)))
 
 -- 1 to 9, 11 and 10
 sheet-judged : (bytes : List ℕ) (party lent : ℕ) → AllSmall (sheetRefusal bytes party lent)
@@ -193,22 +225,20 @@ unfolding sheetRefusal
 sheet-judged bytes party lent =
     small-else (bookRefusal bytes) _ (book-small bytes) (λ e.
     small-unless (stands party (parties (bookOf bytes))) 11 _ (omega arith) (λ f.
-    small-unless (leb (monthQuarters (bookOf bytes .calendar)) lent) 10 none (omega arith) (λ g. tt)))
-
-sheet-said : (x : Option Refusal) (count : ℕ) → AllSmall x → SmallReply (sheetReply (sheetSays x count))
-unfolding sheetSays
-sheet-said none count h = tt
-sheet-said (some r) count h = h
+    small-short 0 (monthQuarters (bookOf bytes .calendar)) lent (omega arith)))
 
 pub sheet-small : {bytes : List ℕ} {party : ℕ} {before after : List ℤ} {r : SheetAnswer} → SheetCalled bytes party before after r → SmallReply (sheetReply r)
 unfolding sheetAnswer
 sheet-small {bytes} {party} {before} s =
-    rw (s .answer) (sheet-said (sheetRefusal bytes party (length before)) (monthQuarters (bookOf bytes .calendar)) (sheet-judged bytes party (length before)))
+    let x = sheetRefusal bytes party (length before) in
+    let n = monthQuarters (bookOf bytes .calendar) in
+    rw (s .answer, sheet-by x n) (by-small x n (sheet-judged bytes party (length before)))
 
 -- 1 to 9, 12, 11, 12 and 10
 short-judged : (rowNumbers rowsLent fileLength fileLent : ℕ) → AllSmall (shortRefusal rowNumbers rowsLent fileLength fileLent)
 unfolding shortRefusal
-short-judged rowNumbers rowsLent fileLength fileLent = small-unless (leb rowNumbers rowsLent) 10 _ (omega arith) (λ e. small-short 1 fileLength fileLent (omega arith))
+short-judged rowNumbers rowsLent fileLength fileLent =
+    small-else (short 0 rowNumbers rowsLent) (short 1 fileLength fileLent) (small-short 0 rowNumbers rowsLent (omega arith)) (λ e. small-short 1 fileLength fileLent (omega arith))
 
 asked-judged : (book : Book) (kind : Option Kind) (receiver : ℕ) (id moment : List ℕ) (rowsLent fileLent : ℕ) → AllSmall (askedRefusal book kind receiver id moment rowsLent fileLent)
 unfolding askedRefusal
@@ -223,16 +253,12 @@ unfolding fileRefusal
 file-judged bytes kind receiver id moment rowsLent fileLent =
     small-else (bookRefusal bytes) _ (book-small bytes) (λ e. asked-judged (bookOf bytes) (kindNumbered kind) receiver id moment rowsLent fileLent)
 
-file-said : (x : Option Refusal) (rowCount count : ℕ) → AllSmall x → SmallReply (fileReply (fileSays x rowCount count))
-unfolding fileSays
-file-said none rowCount count h = tt
-file-said (some r) rowCount count h = h
-
 pub file-small : {bytes : List ℕ} {kind receiver : ℕ} {id moment : List ℕ} {rowsBefore rowsAfter : List ℤ} {before after : List ℕ} {r : FileAnswer} → FileCalled bytes kind receiver id moment rowsBefore rowsAfter before after r → SmallReply (fileReply r)
 unfolding fileAnswer
 file-small {bytes} {kind} {receiver} {id} {moment} {rowsBefore} {before = before} c =
     let x = fileRefusal bytes kind receiver id moment (length rowsBefore) (length before) in
-    rw (c .answer) (file-said x (rowCount (bookOf bytes)) (length (textOf (bookOf bytes) (kindNumbered kind) receiver id moment)) (file-judged bytes kind receiver id moment (length rowsBefore) (length before)))
+    let n = length (textOf (bookOf bytes) (kindNumbered kind) receiver id moment) in
+    rw (c .answer, file-by x (rowCount (bookOf bytes)) n) (by-small x n (file-judged bytes kind receiver id moment (length rowsBefore) (length before)))
 
 -- writing from rows: 12, 13, 12 and 10
 write-judged : (kind : Option Kind) (receiver year month : ℕ) (rows id moment : List ℕ) (lent : ℕ) → AllSmall (writeRefusal kind receiver year month rows id moment lent)
@@ -243,31 +269,25 @@ write-judged (some kind) receiver year month rows id moment lent =
     small-unless (isTransactionId id && isMoment moment) 12 _ (omega arith) (λ f.
     small-short 1 (length (messageBytes (rowsMessage kind receiver year month rows id moment))) lent (omega arith)))
 
-write-said : (x : Option Refusal) (count : ℕ) → AllSmall x → SmallReply (writeReply (writeSays x count))
-unfolding writeSays
-write-said none count h = tt
-write-said (some r) count h = h
-
 pub write-small : {kind receiver year month : ℕ} {rows id moment before after : List ℕ} {r : WriteAnswer} → WriteCalled kind receiver year month rows id moment before after r → SmallReply (writeReply r)
 unfolding writeAnswer
 write-small {kind} {receiver} {year} {month} {rows} {id} {moment} {before} w =
     let x = writeRefusal (kindNumbered kind) receiver year month rows id moment (length before) in
-    rw (w .answer) (write-said x (length (textFrom (kindNumbered kind) receiver year month rows id moment)) (write-judged (kindNumbered kind) receiver year month rows id moment (length before)))
+    let n = length (textFrom (kindNumbered kind) receiver year month rows id moment) in
+    rw (w .answer, write-by x n) (by-small x n (write-judged (kindNumbered kind) receiver year month rows id moment (length before)))
 
 -- reading: 13 and 10
 read-judged : (x : Res Message) (lent : ℕ) → AllSmall (readRefusal x lent)
 unfolding readRefusal
 read-judged bad lent = few 13 0 (omega arith) (omega arith)
-read-judged (got m rest) lent = small-unless (leb (6 * length (m .rows)) lent) 10 none (omega arith) (λ e. tt)
-
-read-said : (x : Option Refusal) (facts : FileFacts) → AllSmall x → SmallReply (readReply (readSays x facts))
-unfolding readSays
-read-said none facts h = tt
-read-said (some r) facts h = h
+read-judged (got m rest) lent = small-short 0 (6 * length (m .rows)) lent (omega arith)
 
 pub read-small : (file : List ℕ) (lent : ℕ) {r : ReadAnswer} → r ≡ readAnswer file lent → SmallReply (readReply r)
 unfolding readAnswer
-read-small file lent e = rw e (read-said (readRefusal (readMessage file) lent) (factsOf (messageIn (readMessage file))) (read-judged (readMessage file) lent))
+read-small file lent e =
+    let x = readRefusal (readMessage file) lent in
+    let f = factsOf (messageIn (readMessage file)) in
+    rw (e, read-by x f) (by-small x (f .rows) (read-judged (readMessage file) lent))
 
 pub facts-small : (lent : ℕ) (r : ReadAnswer) → SmallReply (readReply r) → SmallReply (readReply (withFacts lent r))
 unfolding withFacts

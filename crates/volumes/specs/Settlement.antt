@@ -4,7 +4,7 @@ use mathlib.Core.Bool.{Bool, false, cond}
 use mathlib.Core.List.{List, [], _∷_, _++_, map, flatMap}
 use mathlib.Core.Option.{Option, none, some}
 use Prim.Native.Nat.{ℕ, suc, _*_, min}
-use lib.Dec.{leb, ltb}
+use lib.Dec.{ltb}
 use lib.IntN.{ℤ, pos, negsuc, negℤ, _-ℤ_}
 use lib.ListN.{length}
 use Rattle.integers.specs.Sums.{sumOf}
@@ -16,7 +16,7 @@ use Rattle.book.specs.declared.Direction.{Direction}
 use Rattle.book.specs.declared.Direction.the-variants.{Up, Down}
 use Rattle.book.specs.declared.Point.{Point}
 use Rattle.book.specs.declared.Engagement.{Engagement}
-use Rattle.refusals.specs.Refusals.{Refusal, refused, unless, orElse}
+use Rattle.refusals.specs.Refusals.{Refusal, refused, orElse, short}
 use Rattle.book.specs.Book.{Book, bookOf}
 use Rattle.book.specs.Judged.{refusalOf}
 use Rattle.volumes.specs.Quarters.{quarterHours}
@@ -115,7 +115,7 @@ bookRefusal bytes = orElse (refusalOf bytes) (settlementRefusal (bookOf bytes))
 
 -- and 10 where the rows lent, so many numbers, are "shorter than the answer"
 unfoldable pub settlingRefusal : List ℕ → ℕ → Option Refusal
-settlingRefusal bytes lent = orElse (bookRefusal bytes) (unless (leb (rowWidth * rowCount (bookOf bytes)) lent) 10 none)
+settlingRefusal bytes lent = orElse (bookRefusal bytes) (short 0 (rowWidth * rowCount (bookOf bytes)) lent)
 
 -- "A book is accepted if settling with a long enough buffer doesn't refuse it."
 unfoldable pub Accepted : List ℕ → Type 0

@@ -178,7 +178,7 @@ good-row c points engagements i e =
     (in-place c points row (good .0), on-terms row (good .1))
 
 -- what the refusals that did not come say together
-pub record Passed (bytes : List ℕ) : Type 0 where
+pub record PassedBook (bytes : List ℕ) : Type 0 where
   pub header : headerGood bytes ≡ true
   pub layout : layoutGood bytes ≡ true
   pub calendar : calendarGood (calendarSection bytes) ≡ true
@@ -187,7 +187,7 @@ pub record Passed (bytes : List ℕ) : Type 0 where
   pub readings : first (badReading (readingSection bytes)) 0 (quartersOf (calendarOf bytes) * pointCount bytes) ≡ none
   pub engagements : first (badEngagement (calendarOf bytes) (pointCount bytes) (engagementSection bytes)) 0 (engagementCount bytes) ≡ none
 
-pub passes : (bytes : List ℕ) → refusalOf bytes ≡ none → Passed bytes
+pub passes : (bytes : List ℕ) → refusalOf bytes ≡ none → PassedBook bytes
 unfolding refusalOf sectionsRefusal rowsRefusal firstBadReading
 passes bytes e =
     let c = calendarOf bytes in

@@ -4,7 +4,7 @@ use mathlib.Core.Bool.{_&&_}
 use borrow.Author.Tests.{not-true, not-false}
 use lib.ListN.{length}
 use Rattle.book.specs.Header.{calendarSection, pairSection}
-use Rattle.book.specs.HeaderLaws.{Laid, laid}
+use Rattle.book.specs.HeaderLaws.{LaidOut, laid}
 use Rattle.book.specs.Tables.{calendarGood, pairsGood}
 use Rattle.book.specs.Judged.{rowsRefusal, sectionsRefusal}
 use native.Mathlib.Omega.{arith}
@@ -13,7 +13,7 @@ use Rattle.judging.proofs.judge.judge_sections.Statement.{statement}
 use Rattle.judging.proofs.judge.judge_sections.Tie as tie
 
 -- the sections, as the layout says
-known : (s : tie.Start) → Laid (s .args .book .now) (s .args .c) (s .args .points) (s .args .rows)
+known : (s : tie.Start) → LaidOut (s .args .book .now) (s .args .c) (s .args .points) (s .args .rows)
 known s = laid (s .args .book .now) (s .args .c) (s .args .points) (s .args .rows) (s .pre .3)
 
 section-requires : tie.Need-section-requires

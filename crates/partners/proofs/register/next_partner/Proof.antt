@@ -6,12 +6,12 @@ use Rattle.settlement.specs.Sections.{pointCountIn}
 use Rattle.volumes.specs.Series.{partnerOf}
 use Rattle.volumes.specs.SeriesLaws.{told-at}
 use Rattle.reports.specs.FileRows.{isTaken}
-use Rattle.partners.specs.PartnersLaws.{Scanned, nearer, scanned-none, scanned-more, scanned-all}
+use Rattle.partners.specs.PartnersLaws.{PartnersScanned, nearer, scanned-none, scanned-more, scanned-all}
 use Rattle.partners.proofs.register.next_partner.Statement.{statement}
 use Rattle.partners.proofs.register.next_partner.Tie as tie
 
 abbrev Inv-loop : tie.InvT-loop
-Inv-loop register role low kind n next₀ i₀ next i = (i ≤ n) × Scanned register (role .kind) (role .receiver) low i next
+Inv-loop register role low kind n next₀ i₀ next i = (i ≤ n) × PartnersScanned register (role .kind) (role .receiver) low i next
 
 abbrev μ-loop : tie.MeasureT-loop
 μ-loop register role low kind n next₀ i₀ next i = n - i

@@ -21,20 +21,20 @@ use Rattle.settlement.proofs.rows.write_rows.Statement.{statement}
 use Rattle.settlement.proofs.rows.write_rows.Tie as tie
 
 -- the rows passed are stored
-pub record Filled (out₀ : List ℤ) (at : ℕ) (f : ℕ → List ℤ) (count : ℕ) (out : List ℤ) (k : ℕ) : Type 0 where
+pub record RowsFilled (out₀ : List ℤ) (at : ℕ) (f : ℕ → List ℤ) (count : ℕ) (out : List ℤ) (k : ℕ) : Type 0 where
   pub inside : k ≤ count
   pub list : out ≡ sets out₀ at (flatMap f (range 0 k))
 
-filled-length : {out₀ : List ℤ} {at : ℕ} {f : ℕ → List ℤ} {count : ℕ} {out : List ℤ} {k : ℕ} → Filled out₀ at f count out k → length out ≡ length out₀
+filled-length : {out₀ : List ℤ} {at : ℕ} {f : ℕ → List ℤ} {count : ℕ} {out : List ℤ} {k : ℕ} → RowsFilled out₀ at f count out k → length out ≡ length out₀
 filled-length {out₀} {at} {f} {count} {out} {k} h = ap length (h .list) ∙ length-sets out₀ at (flatMap f (range 0 k))
 
-filled-next : {out₀ : List ℤ} {at : ℕ} {f : ℕ → List ℤ} {count : ℕ} {out out′ : List ℤ} {k : ℕ} → ((i : ℕ) → length (f i) ≡ rowWidth) → Filled out₀ at f count out k → k < count → out′ ≡ sets out (at + rowWidth * k) (f k) → Filled out₀ at f count out′ (k + 1)
+filled-next : {out₀ : List ℤ} {at : ℕ} {f : ℕ → List ℤ} {count : ℕ} {out out′ : List ℤ} {k : ℕ} → ((i : ℕ) → length (f i) ≡ rowWidth) → RowsFilled out₀ at f count out k → k < count → out′ ≡ sets out (at + rowWidth * k) (f k) → RowsFilled out₀ at f count out′ (k + 1)
 filled-next {out₀} {at} {f} {count} {out} {out′} {k} w h l e =
     record { inside = omega arith; list = e ∙ ap (λ o. sets o (at + rowWidth * k) (f k)) (h .list) ∙ sets-next rowWidth out₀ at f k w }
 
 abbrev Inv-loop : tie.InvT-loop
 Inv-loop out₀ at point bases readings first count direction requested k₀ out k =
-    Filled out₀ at (rowAt direction point requested bases readings first) count out k
+    RowsFilled out₀ at (rowAt direction point requested bases readings first) count out k
 
 abbrev μ-loop : tie.MeasureT-loop
 μ-loop out₀ at point bases readings first count direction requested k₀ out k = count - k
