@@ -10,7 +10,7 @@ use Rattle.moments.specs.Moments.{momentBytes, periodStart, periodEnd}
 use Rattle.kinds.specs.declared.Kind.{Kind}
 use Rattle.message.specs.Bytes.{opening, closing, element, root, counter, group, partner, digits, quantityBytes, observationBytes, periodBytes, supplies, supplyBytes, deliveries, volumeBytes}
 use Rattle.message.specs.Bytes.{withPartner, seriesBytes, supplyOf, partnerBytes, fileBytes}
-use Rattle.message.specs.Contents.{Series, Partner, File}
+use Rattle.message.specs.Contents.{TimeSeries, Partner, File}
 use Rattle.message.specs.ObservationForm.{observed}
 use Rattle.emitter.specs.Parts.{deliveryBytes, headBytes, seriesHead, seriesEnd, partnerHead, partnerEnd, originBytes, fileHead, fileEnd}
 
@@ -65,7 +65,7 @@ file-head-parts k id moment receiver n = simp append-assoc
 
 -- ---- head, what is held, end
 
-pub series-parts : (k : Kind) (s : Series)
+pub series-parts : (k : Kind) (s : TimeSeries)
     → seriesHead k (s .supply) (s .delivery) (length (s .observations)) (s .year) (s .month) ++ flatMap observationBytes (s .observations) ++ seriesEnd ≡ seriesBytes k s
 unfolding seriesHead seriesEnd headBytes deliveryBytes volumeBytes seriesBytes
 series-parts k s = simp append-assoc

@@ -38,7 +38,7 @@ use Rattle.volumes.specs.Series.{Kind, grainsAt, seriesOf}
 use Rattle.volumes.specs.Sound.{Sound}
 use Rattle.volumes.specs.Settlement.{rows}
 use Rattle.settlement.specs.StoresLaws.{sets-append}
-use Rattle.message.specs.Contents.{Observation, Series as TimeSeries, Partner, number}
+use Rattle.message.specs.Contents.{Observation, TimeSeries, Partner, number}
 use Rattle.message.specs.Valid.{monthOf, periods, IsPartner, IsPeriod}
 use Rattle.message.specs.Bytes.{partnerBytes}
 use Rattle.message.specs.ObservationForm.{observed}
@@ -47,8 +47,8 @@ use Rattle.message.specs.Rows.{Row, rowNumbers, numbers, rowsFrom, seriesRows, 
 use Rattle.message.specs.RowsLaws.{partners-undo}
 use Rattle.message.specs.SixesLaws.{length-numbers}
 use Rattle.volumes.specs.QuartersLaws.{flatMap-append}
-use Rattle.writer.specs.WriterRows.{rowAt, Paired}
-use Rattle.writer.specs.WriterContents.{partnersIn, Writable}
+use Rattle.writer.specs.Rows.{rowAt, Paired}
+use Rattle.writer.specs.Contents.{partnersIn, Writable}
 use Rattle.reports.specs.FileRows.{supplyNumber, deliveryNumber, directions, partnerNumbers, observationsOf, isWritten, partnerAt, partnersOf, fileText, Volumes, observationsBy, timeSeriesBy, partnerBy, partnersBy}
 use Rattle.filing.specs.Partners.{partnerIf, partnerColumn, noPartner, Next}
 use Rattle.series.specs.Sums.{cellAt}

@@ -9,7 +9,7 @@ use Rattle.formats.specs.Words.{wordAt}
 use Rattle.moments.specs.Moments.{momentBytes, periodStart, periodEnd}
 use Rattle.kinds.specs.declared.Kind.{Kind}
 use Rattle.kinds.specs.declared.Kind.the-variants.{Toe01, Toe02, Toe03}
-use Rattle.message.specs.Contents.{Observation, Series, Partner, File}
+use Rattle.message.specs.Contents.{Observation, TimeSeries, Partner, File}
 
 -- <name>, /name>, </name> (60 is the byte <), and an element
 unfoldable pub opening : String → List ℕ
@@ -79,7 +79,7 @@ unfoldable pub supplyBytes : ℕ → List ℕ
 supplyBytes supply = element "SupplyDirection" (wordAt supplies supply)
 
 -- a time series from its delivery direction on
-unfoldable pub volumeBytes : Series → List ℕ
+unfoldable pub volumeBytes : TimeSeries → List ℕ
 volumeBytes s =
     element "DeliveryDirection" (wordAt deliveries (s .delivery))
     ++ element "UnitType" (bytes "KWT")
@@ -97,11 +97,11 @@ withPartner Toe01 b = []
 withPartner Toe02 b = []
 withPartner Toe03 b = b
 
-unfoldable pub seriesBytes : Kind → Series → List ℕ
+unfoldable pub seriesBytes : Kind → TimeSeries → List ℕ
 seriesBytes k s = element "ToETimeSeries" (inSeries k (supplyBytes (s .supply)) ++ volumeBytes s)
 
 -- a partner's supply direction, where it has one: that of its first series
-unfoldable pub supplyOf : List Series → ℕ
+unfoldable pub supplyOf : List TimeSeries → ℕ
 supplyOf [] = 0
 supplyOf (s ∷ l) = s .supply
 

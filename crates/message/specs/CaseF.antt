@@ -21,7 +21,7 @@ use Rattle.calendar.specs.DatesLaws.{last-sunday-is, month-length}
 use Rattle.moments.specs.Moments.{momentBytes, dateBytes, timeBytes, tailBytes, periodStart, periodEnd, realDate, realTime, real, valueAt, parts, momentOf}
 use Rattle.moments.specs.Ids.{isTransactionId}
 use Rattle.kinds.specs.declared.Kind.the-variants.{Toe01}
-use Rattle.message.specs.Contents.{Observation, Series, File}
+use Rattle.message.specs.Contents.{Observation, TimeSeries, File}
 use Rattle.message.specs.Bytes.{element, opening, ending, closing, root, counter, group, partner, digits, quantityBytes, observationBytes, periodBytes, supplies, deliveries, supplyBytes, volumeBytes, seriesBytes, supplyOf, partnerBytes, fileBytes}
 use Rattle.message.specs.Valid.{isMoment, lastPosition, periods, firstOf, IsVolume, IsFile}
 use Rattle.message.specs.FileForm.{file}
@@ -66,7 +66,7 @@ period = ap₂ (λ (a b : List ℕ). element "PeriodStart" a ++ element "PeriodE
 unfoldable pub observations : List Observation
 observations = record { position = 1; watts = 2500 } ∷ record { position = 2; watts = 2500 } ∷ []
 
-unfoldable pub series : Series
+unfoldable pub series : TimeSeries
 series = record { supply = 0; delivery = 0; year = 2021; month = 6; observations = observations }
 
 unfoldable pub caseF : File

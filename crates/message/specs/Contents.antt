@@ -9,7 +9,7 @@ pub record Observation : Type 0 where
   pub watts : ℕ
 
 -- "one partner, supply and delivery direction", and the month of its period: "All series of a file have the same period"
-pub record Series : Type 0 where
+pub record TimeSeries : Type 0 where
   pub supply : ℕ
   pub delivery : ℕ
   pub year : ℕ
@@ -19,7 +19,7 @@ pub record Series : Type 0 where
 -- a supplier (TOE01), an FSP (TOE02) or an access point (TOE03)
 pub record Partner : Type 0 where
   pub number : ℕ
-  pub series : List Series
+  pub series : List TimeSeries
 
 pub record File : Type 0 where
   pub kind : Kind
@@ -29,7 +29,7 @@ pub record File : Type 0 where
   pub partners : List Partner
 
 -- "off-take before injection, up before down": 0 and 1 each
-abbrev pub place : Series → ℕ
+abbrev pub place : TimeSeries → ℕ
 place s = s .supply * 2 + s .delivery
 
 -- by which observations and partners rise

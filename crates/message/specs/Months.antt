@@ -10,7 +10,7 @@ use Rattle.integers.specs.Tests.{and-left, and-right, and-both}
 use Rattle.integers.specs.All.{All, all-append}
 use Rattle.formats.specs.Items.{ItemsOk}
 use Rattle.kinds.specs.declared.Kind.{Kind}
-use Rattle.message.specs.Contents.{Series, Partner}
+use Rattle.message.specs.Contents.{TimeSeries, Partner}
 use Rattle.message.specs.Valid.{monthOf, periods, firstOf, IsSeries, IsPartner}
 use Rattle.message.specs.SeriesListForm.{follows, agree, after}
 use Rattle.message.specs.PartnerForm.{partnerForm, partner-to, partner-from}
@@ -60,7 +60,7 @@ month-one (q ∷ l) a = same-agree q l (a .1)
 
 -- ---- the months of partners
 
-series-years : (l : List Series) → All IsSeries l → All (λ q. 2018 ≤ q .0) (map monthOf l)
+series-years : (l : List TimeSeries) → All IsSeries l → All (λ q. 2018 ≤ q .0) (map monthOf l)
 unfolding All
 series-years [] a = tt
 series-years (s ∷ l) a = (a .0 .volume .period .from, series-years l (a .1))

@@ -13,7 +13,7 @@ use Rattle.formats.specs.Combine.{pre, post, seq, seqBy, Recast, recast}
 use Rattle.formats.specs.Exactly.{fixedDigits}
 use Rattle.kinds.specs.declared.Kind.{Kind}
 use Rattle.kinds.specs.declared.Kind.the-variants.{Toe01, Toe02, Toe03}
-use Rattle.message.specs.Contents.{Series, Partner}
+use Rattle.message.specs.Contents.{TimeSeries, Partner}
 use Rattle.message.specs.Bytes.{opening, ending, closing, group, partner, digits, supplies, supplyBytes, supplyOf, inSeries, withPartner, seriesBytes, partnerBytes}
 use Rattle.message.specs.Valid.{monthOf, IsSeries, OneSupply, IsPartner}
 use Rattle.message.specs.SeriesForm.{counted, counted-to, counted-from, apart-supplies, ownSeries, Supplied, sharedSeries}
@@ -29,16 +29,16 @@ pub record Partnered (k : Kind) (seen : ℕ × ℕ) (p : Partner) : Type 0 where
 pub record Own (k : Kind) : Type 0 where
   pub in-series : (b : List ℕ) → inSeries k b ≡ b
   pub bare : (b : List ℕ) → withPartner k b ≡ []
-  pub any : (l : List Series) → OneSupply k l
+  pub any : (l : List TimeSeries) → OneSupply k l
 
 own-join : (g p n c d m e l f : List ℕ) → g ++ p ++ (n ++ (c ++ d) ++ (m ++ (60 ∷ []) ++ e ++ (l ++ f))) ≡ g ++ ((p ++ n ++ c) ++ [] ++ (d ++ m ++ (60 ∷ e)) ++ l) ++ f
 own-join g p n c d m e l f = simp (append-assoc, append-nil)
 
 module _ (k : Kind) (own : Own k) (seen : ℕ × ℕ) where
-  abbrev pub ownList : ℕ → Format (List Series)
+  abbrev pub ownList : ℕ → Format (List TimeSeries)
   ownList n = seriesList (ownSeries k (own .in-series)) (seriesBytes k) (λ s. refl) n seen
 
-  unfoldable pub ownPartnerBody : Format (ℕ × (ℕ × List Series))
+  unfoldable pub ownPartnerBody : Format (ℕ × (ℕ × List TimeSeries))
   ownPartnerBody =
       pre (opening (group k) ++ opening (partner k))
       (seq (post (fixedDigits (digits k)) (closing (partner k) ++ opening "DirectionCounter"))
@@ -69,25 +69,25 @@ module _ (k : Kind) (own : Own k) (seen : ℕ × ℕ) where
 
 -- ---- the supply direction with the access point (TOE03)
 
-supply-is : (x : ℕ) (l : List Series) → All (Supplied x) l → 1 ≤ length l → supplyOf l ≡ x
+supply-is : (x : ℕ) (l : List TimeSeries) → All (Supplied x) l → 1 ≤ length l → supplyOf l ≡ x
 unfolding All supplyOf
 supply-is x [] a h = absurd (omega arith)
 supply-is x (s ∷ l) a h = a .0 .supply
 
-one-supply : (x : ℕ) (l : List Series) → All (Supplied x) l → All (λ (s : Series). s .supply ≡ x) l
+one-supply : (x : ℕ) (l : List TimeSeries) → All (Supplied x) l → All (λ (s : TimeSeries). s .supply ≡ x) l
 one-supply x l a = all-map (λ s h. h .supply) l a
 
-supply-fits : (l : List Series) → All IsSeries l → 1 ≤ length l → supplyOf l < 2
+supply-fits : (l : List TimeSeries) → All IsSeries l → 1 ≤ length l → supplyOf l < 2
 unfolding All supplyOf
 supply-fits [] a h = absurd (omega arith)
 supply-fits (s ∷ l) a h = a .0 .supply
 
-to-supplied : (x : ℕ) (l : List Series) → All IsSeries l → All (λ (s : Series). s .supply ≡ x) l → All (Supplied x) l
+to-supplied : (x : ℕ) (l : List TimeSeries) → All IsSeries l → All (λ (s : TimeSeries). s .supply ≡ x) l → All (Supplied x) l
 unfolding All
 to-supplied x [] a b = tt
 to-supplied x (s ∷ l) a b = (record { supply = b .0; volume = a .0 .volume }, to-supplied x l (a .1) (b .1))
 
-from-supplied : (x : ℕ) → x < 2 → (l : List Series) → All (Supplied x) l → All IsSeries l
+from-supplied : (x : ℕ) → x < 2 → (l : List TimeSeries) → All (Supplied x) l → All IsSeries l
 from-supplied x h l a = all-map (λ s i. let e = i .supply in record { supply = omega arith; volume = i .volume }) l a
 
 shared-join : (g p n c o w b d m e l f : List ℕ)
@@ -95,23 +95,23 @@ shared-join : (g p n c o w b d m e l f : List ℕ)
 shared-join g p n c o w b d m e l f = simp append-assoc
 
 module _ (seen : ℕ × ℕ) where
-  abbrev pub sharedList : ℕ → ℕ → Format (List Series)
+  abbrev pub sharedList : ℕ → ℕ → Format (List TimeSeries)
   sharedList x n = seriesList (sharedSeries x) (seriesBytes Toe03) (λ s. refl) n seen
 
-  unfoldable pub sharedPartnerBody : Format (ℕ × (ℕ × (ℕ × List Series)))
+  unfoldable pub sharedPartnerBody : Format (ℕ × (ℕ × (ℕ × List TimeSeries)))
   sharedPartnerBody =
       pre (opening (group Toe03) ++ opening (partner Toe03))
       (seq (post (fixedDigits (digits Toe03)) (closing (partner Toe03) ++ opening "SupplyDirection"))
       (seqBy (post (words supplies apart-supplies) (closing "SupplyDirection" ++ opening "DirectionCounter"))
       (λ x. seqBy (post counted (ending "DirectionCounter")) (λ n. post (sharedList x n) (closing (group Toe03))))))
 
-  shared-one : (p : ℕ × (ℕ × (ℕ × List Series))) → sharedPartnerBody .Ok p → supplyOf (p .1 .1 .1) ≡ p .1 .0
+  shared-one : (p : ℕ × (ℕ × (ℕ × List TimeSeries))) → sharedPartnerBody .Ok p → supplyOf (p .1 .1 .1) ≡ p .1 .0
   unfolding sharedPartnerBody seriesList
   shared-one p ok =
       let l = ok .1 .1 .1 in
       supply-is (p .1 .0) (p .1 .1 .1) (l .each) (counted-to (p .1 .1 .0) (length (p .1 .1 .1)) (ok .1 .1 .0) (l .count) .some)
 
-  shared-to : (p : ℕ × (ℕ × (ℕ × List Series))) → sharedPartnerBody .Ok p → Partnered Toe03 seen (record { number = p .0; series = p .1 .1 .1 })
+  shared-to : (p : ℕ × (ℕ × (ℕ × List TimeSeries))) → sharedPartnerBody .Ok p → Partnered Toe03 seen (record { number = p .0; series = p .1 .1 .1 })
   unfolding sharedPartnerBody seriesList supplies
   shared-to p ok =
       let l = ok .1 .1 .1 in
@@ -121,7 +121,7 @@ module _ (seen : ℕ × ℕ) where
           counted = counted-to (p .1 .1 .0) (length (p .1 .1 .1)) (ok .1 .1 .0) (l .count);
           rising = l .rising;
           each = from-supplied (p .1 .0) (ok .1 .0) (p .1 .1 .1) (l .each);
-          one = subst (λ (x : ℕ). All (λ (s : Series). s .supply ≡ x) (p .1 .1 .1)) (sym (shared-one p ok)) (one-supply (p .1 .0) (p .1 .1 .1) (l .each));
+          one = subst (λ (x : ℕ). All (λ (s : TimeSeries). s .supply ≡ x) (p .1 .1 .1)) (sym (shared-one p ok)) (one-supply (p .1 .0) (p .1 .1 .1) (l .each));
         };
         agrees = l .agrees;
       }
@@ -135,8 +135,8 @@ module _ (seen : ℕ × ℕ) where
       let counter = counted-from (length (p .series)) (i .counted) in
       (i .number, (supply-fits (p .series) (i .each) (i .counted .some), (counter, record { count = refl; rising = i .rising; each = each; agrees = ok .agrees })))
 
-  shared-back : (p : ℕ × (ℕ × (ℕ × List Series))) → sharedPartnerBody .Ok p
-      → _≡_ {A = ℕ × (ℕ × (ℕ × List Series))} (p .0, (supplyOf (p .1 .1 .1), (length (p .1 .1 .1), p .1 .1 .1))) p
+  shared-back : (p : ℕ × (ℕ × (ℕ × List TimeSeries))) → sharedPartnerBody .Ok p
+      → _≡_ {A = ℕ × (ℕ × (ℕ × List TimeSeries))} (p .0, (supplyOf (p .1 .1 .1), (length (p .1 .1 .1), p .1 .1 .1))) p
   unfolding sharedPartnerBody seriesList
   shared-back p ok =
       let a = shared-one p ok in

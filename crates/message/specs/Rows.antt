@@ -6,7 +6,7 @@ use Prim.Native.Nat.{ℕ, zero, suc, _+_, _/_, _%_}
 use lib.Dec.{eqb}
 use lib.ListN.{length, getD}
 use Rattle.kinds.specs.declared.Kind.{Kind}
-use Rattle.message.specs.Contents.{Observation, Series, Partner, File}
+use Rattle.message.specs.Contents.{Observation, TimeSeries, Partner, File}
 use Rattle.message.specs.Valid.{periods, firstOf, IsFile}
 use Rattle.message.specs.Keys.{numberKeys, pairKeys}
 use Rattle.message.specs.Group.{group, spread}
@@ -40,7 +40,7 @@ inSixes l = eqb (length l % 6) 0 && zeros l 0 (length l / 6)
 
 -- ---- the rows of partners
 
-abbrev pub seriesRows : Series → (ℕ × ℕ) × List Observation
+abbrev pub seriesRows : TimeSeries → (ℕ × ℕ) × List Observation
 seriesRows s = ((s .supply, s .delivery), s .observations)
 
 abbrev pub partnerRows : Partner → ℕ × List ((ℕ × ℕ) × Observation)
@@ -51,7 +51,7 @@ rowsOf ps = spread (map partnerRows ps)
 
 -- ---- the partners of rows: neighbouring rows of one partner, and of one pair of directions, all of the month q
 
-abbrev pub seriesOf : ℕ × ℕ → (ℕ × ℕ) × List Observation → Series
+abbrev pub seriesOf : ℕ × ℕ → (ℕ × ℕ) × List Observation → TimeSeries
 seriesOf q g = record { supply = g .0 .0; delivery = g .0 .1; year = q .0; month = q .1; observations = g .1 }
 
 abbrev pub partnerOf : ℕ × ℕ → ℕ × List ((ℕ × ℕ) × Observation) → Partner

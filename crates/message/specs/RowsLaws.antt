@@ -11,7 +11,7 @@ use Rattle.integers.specs.Tests.{and-left, and-right}
 use Rattle.integers.specs.Rises.{rises}
 use Rattle.integers.specs.All.{All, all-map, all-of, all-left, all-right, map-all}
 use Rattle.kinds.specs.declared.Kind.{Kind}
-use Rattle.message.specs.Contents.{Observation, Series, Partner, place, number}
+use Rattle.message.specs.Contents.{Observation, TimeSeries, Partner, place, number}
 use Rattle.message.specs.Valid.{monthOf, periods, firstOf, IsSeries, IsPartner}
 use Rattle.message.specs.Keys.{numberKeys, pairKeys}
 use Rattle.message.specs.Group.{group, spread, spread-group, group-spread, rising-groups, first-group}
@@ -36,20 +36,20 @@ rows-undo q rows =
 
 -- ---- partners of one month, their rows, and the partners again
 
-one-place : (a b : Series) → (eqb (a .supply) (b .supply) && eqb (a .delivery) (b .delivery)) ≡ true → place a ≡ place b
+one-place : (a b : TimeSeries) → (eqb (a .supply) (b .supply) && eqb (a .delivery) (b .delivery)) ≡ true → place a ≡ place b
 one-place a b e =
     let x = eqb-true (a .supply) (b .supply) (and-left (eqb (a .supply) (b .supply)) (eqb (a .delivery) (b .delivery)) e) in
     let y = eqb-true (a .delivery) (b .delivery) (and-right (eqb (a .supply) (b .supply)) (eqb (a .delivery) (b .delivery)) e) in
     omega arith
 
-series-undo : (q : ℕ × ℕ) (l : List Series) → rises 0 (map place l) ≡ true → All IsSeries l → All (λ (s : Series). monthOf s ≡ q) l
+series-undo : (q : ℕ × ℕ) (l : List TimeSeries) → rises 0 (map place l) ≡ true → All IsSeries l → All (λ (s : TimeSeries). monthOf s ≡ q) l
     → map (seriesOf q) (group pairKeys (spread (map seriesRows l))) ≡ l
 series-undo q l r v m =
     ap (map (seriesOf q)) (group-spread pairKeys (map seriesRows l) (rising-groups pairKeys seriesRows place one-place 0 l r (all-map (λ s h. h .volume .counted .some) l v)))
     ∙ map-undo seriesRows (seriesOf q) l (all-map (λ s e. ap (λ (p : ℕ × ℕ). seriesOf p (seriesRows s)) (sym e)) l m)
 
 -- a partner has rows
-pub some-rows : (l : List Series) → 1 ≤ length l → All IsSeries l → 1 ≤ length (spread (map seriesRows l))
+pub some-rows : (l : List TimeSeries) → 1 ≤ length l → All IsSeries l → 1 ≤ length (spread (map seriesRows l))
 unfolding spread flatMap All
 some-rows [] h v = absurd (omega arith)
 some-rows (s ∷ l) h v =
@@ -61,7 +61,7 @@ unfolding All periods flatMap
 partner-again k q [] v m = tt
 partner-again k q (p ∷ ps) v m =
     let months = map-all (λ x. x ≡ q) monthOf (p .series) (all-left (λ x. x ≡ q) (map monthOf (p .series)) (periods ps) m) in (
-      ap (λ (l : List Series). record { number = p .number; series = l }) (series-undo q (p .series) (v .0 .rising) (v .0 .each) months),
+      ap (λ (l : List TimeSeries). record { number = p .number; series = l }) (series-undo q (p .series) (v .0 .rising) (v .0 .each) months),
       partner-again k q ps (v .1) (all-right (λ x. x ≡ q) (map monthOf (p .series)) (periods ps) m),
     )
 

@@ -17,7 +17,7 @@ use Rattle.calendar.specs.Dates.{monthLength}
 use Rattle.calendar.specs.DatesLaws.{month-length, no-month}
 use Rattle.kinds.specs.declared.Kind.{Kind}
 use Rattle.kinds.specs.declared.Kind.the-variants.{Toe03}
-use Rattle.message.specs.Contents.{Observation, Series}
+use Rattle.message.specs.Contents.{Observation, TimeSeries}
 use Rattle.message.specs.Bytes.{opening, ending, closing, element, observationBytes, periodBytes, supplies, deliveries, supplyBytes, volumeBytes, seriesBytes, inSeries}
 use Rattle.message.specs.Valid.{most, IsVolume, IsSeries, Counted, lastPosition}
 use Rattle.message.specs.ObservationForm.{plainNumber, observations, observations-ok, ok-observations, period}
@@ -65,10 +65,10 @@ volumeBody =
     (λ n. seqBy period (λ q. post (observations (lastPosition (q .0) (q .1)) (position-fits (q .0) (q .1)) n) (closing "TimeSeriesPeriod")))))
 
 -- a series of any supply direction
-unfoldable pub ofVolume : ℕ → Volume → Series
+unfoldable pub ofVolume : ℕ → Volume → TimeSeries
 ofVolume supply v = record { supply = supply; delivery = v .0; year = v .1 .1 .0 .0; month = v .1 .1 .0 .1; observations = v .1 .1 .1 }
 
-unfoldable pub volumeOf : Series → Volume
+unfoldable pub volumeOf : TimeSeries → Volume
 volumeOf s = (s .delivery, (length (s .observations), ((s .year, s .month), s .observations)))
 
 pub counted-to : (n m : ℕ) → counted .Ok n → m ≡ n → Counted m
@@ -96,7 +96,7 @@ volume-back supply v ok =
     let o = observations-ok (lastPosition (v .1 .1 .0 .0) (v .1 .1 .0 .1)) (position-fits (v .1 .1 .0 .0) (v .1 .1 .0 .1)) (v .1 .0) (v .1 .1 .1) (ok .1 .1 .1) in
     ap (λ (n : ℕ). (v .0, (n, v .1 .1))) (o .0)
 
-pub volume-from : (s : Series) → IsVolume s → volumeBody .Ok (volumeOf s)
+pub volume-from : (s : TimeSeries) → IsVolume s → volumeBody .Ok (volumeOf s)
 unfolding volumeBody volumeOf period deliveries
 volume-from s ok =
     let n = length (s .observations) in
@@ -106,7 +106,7 @@ volume-from s ok =
 volume-join : (a w b u c n e t q o f : List ℕ) → a ++ (w ++ (b ++ u ++ c) ++ (n ++ (60 ∷ []) ++ (e ++ t) ++ (q ++ (o ++ f)))) ≡ (a ++ w ++ b) ++ u ++ (c ++ n ++ (60 ∷ e)) ++ (t ++ (q ++ o) ++ f)
 volume-join a w b u c n e t q o f = simp append-assoc
 
-pub volume-bytes : (s : Series) → volumeBody .render (volumeOf s) ≡ volumeBytes s
+pub volume-bytes : (s : TimeSeries) → volumeBody .render (volumeOf s) ≡ volumeBytes s
 unfolding volumeBody volumeOf volumeBytes period observations closing
 volume-bytes s =
     volume-join (opening "DeliveryDirection") (wordAt deliveries (s .delivery)) (closing "DeliveryDirection") (element "UnitType" (bytes "KWT"))
@@ -131,11 +131,11 @@ module _ (k : Kind) (own : (b : List ℕ) → inSeries k b ≡ b) where
         same = λ s ok. rw (own, volume-bytes) (simp append-assoc);
       }
 
-  abbrev pub ownSeries : Format Series
+  abbrev pub ownSeries : Format TimeSeries
   ownSeries = recast ownBody IsSeries (seriesBytes k) (λ p. ofVolume (p .0) (p .1)) (λ s. (s .supply, volumeOf s)) own-recast
 
 -- a series whose supply direction is x
-pub record Supplied (x : ℕ) (s : Series) : Type 0 where
+pub record Supplied (x : ℕ) (s : TimeSeries) : Type 0 where
   pub supply : s .supply ≡ x
   pub volume : IsVolume s
 
@@ -154,5 +154,5 @@ module _ (x : ℕ) where
         same = λ s ok. rw volume-bytes (simp append-assoc);
       }
 
-  abbrev pub sharedSeries : Format Series
+  abbrev pub sharedSeries : Format TimeSeries
   sharedSeries = recast sharedBody (Supplied x) (seriesBytes Toe03) (ofVolume x) volumeOf shared-recast

@@ -13,7 +13,7 @@ use Rattle.formats.specs.Format.{Format}
 use Rattle.formats.specs.Combine.{only, Recast, recast}
 use Rattle.formats.specs.Items.{ItemsOk}
 use Rattle.formats.specs.Rising.{risingItems}
-use Rattle.message.specs.Contents.{Series, place}
+use Rattle.message.specs.Contents.{TimeSeries, place}
 use Rattle.message.specs.Valid.{monthOf}
 
 -- ---- series of one month
@@ -31,18 +31,18 @@ after seen [] = seen
 after seen (q ∷ l) = after q l
 
 -- n series of a format F under the month that was seen
-module _ (F : Format Series) (bytes : Series → List ℕ) (same : (s : Series) → F .render s ≡ bytes s) where
-  abbrev pub following : ℕ × ℕ → Format Series
+module _ (F : Format TimeSeries) (bytes : TimeSeries → List ℕ) (same : (s : TimeSeries) → F .render s ≡ bytes s) where
+  abbrev pub following : ℕ × ℕ → Format TimeSeries
   following seen = only (λ s. follows seen (monthOf s)) F
 
-  to-agree : (seen : ℕ × ℕ) (l : List Series) → ItemsOk following (λ seen s. monthOf s) seen l → All (F .Ok) l × (agree seen (map monthOf l) ≡ true)
+  to-agree : (seen : ℕ × ℕ) (l : List TimeSeries) → ItemsOk following (λ seen s. monthOf s) seen l → All (F .Ok) l × (agree seen (map monthOf l) ≡ true)
   unfolding ItemsOk All agree
   to-agree seen [] ok = (tt, refl)
   to-agree seen (s ∷ l) ok =
       let r = to-agree (monthOf s) l (ok .1) in
       ((ok .0 .0, r .0), and-both (ok .0 .1) (r .1))
 
-  from-agree : (seen : ℕ × ℕ) (l : List Series) → All (F .Ok) l → agree seen (map monthOf l) ≡ true → ItemsOk following (λ seen s. monthOf s) seen l
+  from-agree : (seen : ℕ × ℕ) (l : List TimeSeries) → All (F .Ok) l → agree seen (map monthOf l) ≡ true → ItemsOk following (λ seen s. monthOf s) seen l
   unfolding ItemsOk All agree
   from-agree seen [] a e = tt
   from-agree seen (s ∷ l) a e = (
@@ -50,13 +50,13 @@ module _ (F : Format Series) (bytes : Series → List ℕ) (same : (s : Series) 
     from-agree (monthOf s) l (a .1) (and-right (follows seen (monthOf s)) (agree (monthOf s) (map monthOf l)) e),
   )
 
-  pub record SeriesList (n : ℕ) (seen : ℕ × ℕ) (l : List Series) : Type 0 where
+  pub record SeriesList (n : ℕ) (seen : ℕ × ℕ) (l : List TimeSeries) : Type 0 where
     pub count : length l ≡ n
     pub rising : rises 0 (map place l) ≡ true
     pub each : All (F .Ok) l
     pub agrees : agree seen (map monthOf l) ≡ true
 
-  abbrev items-of : ℕ → ℕ × ℕ → Format (List Series)
+  abbrev items-of : ℕ → ℕ × ℕ → Format (List TimeSeries)
   items-of n seen = risingItems following place (λ seen s. monthOf s) bytes (λ st s. same s) n 0 seen
 
   pub list-recast : (n : ℕ) (seen : ℕ × ℕ) → Recast (items-of n seen) (SeriesList n seen) (flatMap bytes) (λ l. l) (λ l. l)
@@ -69,5 +69,5 @@ module _ (F : Format Series) (bytes : Series → List ℕ) (same : (s : Series) 
         same = λ l ok. refl;
       }
 
-  unfoldable pub seriesList : ℕ → ℕ × ℕ → Format (List Series)
+  unfoldable pub seriesList : ℕ → ℕ × ℕ → Format (List TimeSeries)
   seriesList n seen = recast (items-of n seen) (SeriesList n seen) (flatMap bytes) (λ l. l) (λ l. l) (list-recast n seen)

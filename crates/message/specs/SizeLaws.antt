@@ -20,7 +20,7 @@ use Rattle.moments.specs.Ids.{isTransactionId}
 use Rattle.formats.specs.Name.{nameByte, each}
 use Rattle.kinds.specs.declared.Kind.{Kind}
 use Rattle.kinds.specs.declared.Kind.the-variants.{Toe01, Toe02, Toe03}
-use Rattle.message.specs.Contents.{Observation, Series, Partner, File, place}
+use Rattle.message.specs.Contents.{Observation, TimeSeries, Partner, File, place}
 use Rattle.message.specs.Bytes.{opening, ending, closing, element, root, counter, group, partner, digits, quantityBytes, observationBytes, periodBytes, supplies, deliveries, supplyBytes, volumeBytes, inSeries, withPartner, seriesBytes, supplyOf, partnerBytes, fileBytes}
 use Rattle.message.specs.Valid.{most, lastPosition, IsObservation, IsSeries, IsPartner, IsFile}
 use Rattle.message.specs.SeriesForm.{position-small}
@@ -95,7 +95,7 @@ length-period : (year month : ℕ) → length (periodBytes year month) ≡ 150
 unfolding periodBytes opening ending closing bytes
 length-period year month = simp length-append (omega (arith, length-moment (periodStart year month), length-moment (periodEnd year month)))
 
-length-volume : (s : Series) → length (volumeBytes s) ≡ 291 + length (wordAt deliveries (s .delivery)) + length (plain (length (s .observations))) + length (flatMap observationBytes (s .observations))
+length-volume : (s : TimeSeries) → length (volumeBytes s) ≡ 291 + length (wordAt deliveries (s .delivery)) + length (plain (length (s .observations))) + length (flatMap observationBytes (s .observations))
 unfolding volumeBytes opening ending closing bytes
 length-volume s = simp length-append (omega (arith, length-period (s .year) (s .month)))
 
@@ -104,11 +104,11 @@ in-series Toe01 b = omega arith
 in-series Toe02 b = omega arith
 in-series Toe03 b = omega arith
 
-length-series : (k : Kind) (s : Series) → length (seriesBytes k s) ≡ 31 + length (inSeries k (supplyBytes (s .supply))) + length (volumeBytes s)
+length-series : (k : Kind) (s : TimeSeries) → length (seriesBytes k s) ≡ 31 + length (inSeries k (supplyBytes (s .supply))) + length (volumeBytes s)
 unfolding seriesBytes opening ending closing bytes
 length-series k s = simp length-append (omega arith)
 
-series-most : (k : Kind) (s : Series) → IsSeries s → length (seriesBytes k s) ≤ 398 + 86 * length (s .observations)
+series-most : (k : Kind) (s : TimeSeries) → IsSeries s → length (seriesBytes k s) ≤ 398 + 86 * length (s .observations)
 series-most k s v =
     let w = v .volume in
     omega (
@@ -123,13 +123,13 @@ series-most k s v =
     )
 
 module _ (k : Kind) where
-  all-series-least : (l : List Series) → 69 * length (spread (map seriesRows l)) ≤ length (flatMap (seriesBytes k) l)
+  all-series-least : (l : List TimeSeries) → 69 * length (spread (map seriesRows l)) ≤ length (flatMap (seriesBytes k) l)
   unfolding flatMap spread
   all-series-least [] = omega arith
   all-series-least (s ∷ l) =
       omega (arith, spread-length (seriesRows s) (map seriesRows l), length-append (seriesBytes k s) (flatMap (seriesBytes k) l), length-series k s, length-volume s, observations-least (s .observations), all-series-least l)
 
-  all-series-most : (l : List Series) → All IsSeries l → length (flatMap (seriesBytes k) l) ≤ 398 * length l + 86 * length (spread (map seriesRows l))
+  all-series-most : (l : List TimeSeries) → All IsSeries l → length (flatMap (seriesBytes k) l) ≤ 398 * length l + 86 * length (spread (map seriesRows l))
   unfolding flatMap All
   all-series-most [] v = omega arith
   all-series-most (s ∷ l) v =

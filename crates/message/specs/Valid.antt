@@ -13,7 +13,7 @@ use Rattle.moments.specs.Moments.{momentOf}
 use Rattle.moments.specs.Ids.{isTransactionId}
 use Rattle.kinds.specs.declared.Kind.{Kind}
 use Rattle.kinds.specs.declared.Kind.the-variants.{Toe01, Toe02, Toe03}
-use Rattle.message.specs.Contents.{Observation, Series, Partner, File, place, position, number}
+use Rattle.message.specs.Contents.{Observation, TimeSeries, Partner, File, place, position, number}
 use Rattle.message.specs.Bytes.{digits, supplyOf}
 
 -- counters are numbers of 64 bits
@@ -43,22 +43,22 @@ pub record IsPeriod (year month : ℕ) : Type 0 where
   pub december : month ≤ 12
 
 -- a time series from its delivery direction on: "positions rise ... strictly", from 1 on
-pub record IsVolume (s : Series) : Type 0 where
+pub record IsVolume (s : TimeSeries) : Type 0 where
   pub delivery : s .delivery < 2
   pub period : IsPeriod (s .year) (s .month)
   pub counted : Counted (length (s .observations))
   pub rising : rises 1 (map position (s .observations)) ≡ true
   pub each : All (IsObservation (lastPosition (s .year) (s .month))) (s .observations)
 
-pub record IsSeries (s : Series) : Type 0 where
+pub record IsSeries (s : TimeSeries) : Type 0 where
   pub supply : s .supply < 2
   pub volume : IsVolume s
 
 -- "in TOE03 an EAN stands once, with one supply direction"
-abbrev pub OneSupply : Kind → List Series → Type 0
+abbrev pub OneSupply : Kind → List TimeSeries → Type 0
 OneSupply Toe01 l = Unit {0}
 OneSupply Toe02 l = Unit {0}
-OneSupply Toe03 l = All (λ (s : Series). s .supply ≡ supplyOf l) l
+OneSupply Toe03 l = All (λ (s : TimeSeries). s .supply ≡ supplyOf l) l
 
 -- "off-take before injection, up before down ... all strictly"
 pub record IsPartner (k : Kind) (p : Partner) : Type 0 where
@@ -77,7 +77,7 @@ abbrev pub isMoment : List ℕ → Bool
 isMoment s = isReal (momentOf s)
 
 -- the months of a file's series, and the file's: 0 and 0 where there is none
-abbrev pub monthOf : Series → ℕ × ℕ
+abbrev pub monthOf : TimeSeries → ℕ × ℕ
 monthOf s = (s .year, s .month)
 
 unfoldable pub periods : List Partner → List (ℕ × ℕ)

@@ -7,14 +7,14 @@ use Rattle.text.specs.Written.{written}
 use Rattle.formats.specs.Format.{Res, got}
 use Rattle.formats.specs.declared.Mark.{Mark}
 use Rattle.formats.specs.declared.Mark.the-variants.{At}
-use Rattle.message.specs.Contents.{Observation, Series, Partner}
+use Rattle.message.specs.Contents.{Observation, TimeSeries, Partner}
 use Rattle.message.specs.Rows.{Row, rowNumbers, numbers}
 
 -- the rows of an observation, a series and a partner
 abbrev pub rowsOfObservation : ℕ → ℕ × ℕ → Observation → List Row
 rowsOfObservation partner directions o = (partner, (directions, o)) ∷ []
 
-abbrev pub rowsOfSeries : ℕ → Series → List Row
+abbrev pub rowsOfSeries : ℕ → TimeSeries → List Row
 rowsOfSeries partner s = flatMap (rowsOfObservation partner (s .supply, s .delivery)) (s .observations)
 
 abbrev pub rowsOfPartner : Partner → List Row

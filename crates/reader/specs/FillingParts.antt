@@ -17,7 +17,7 @@ use Rattle.formats.specs.Place.{Parsed}
 use Rattle.formats.specs.declared.Mark.{Mark}
 use Rattle.formats.specs.declared.Mark.the-variants.{At}
 use Rattle.kinds.specs.declared.Kind.{Kind}
-use Rattle.message.specs.Contents.{Observation, Series, Partner, place}
+use Rattle.message.specs.Contents.{Observation, TimeSeries, Partner, place}
 use Rattle.message.specs.Bytes.{opening, ending, closing, element, group, supplies, deliveries}
 use Rattle.message.specs.Valid.{lastPosition, monthOf}
 use Rattle.message.specs.Rows.{Row, rowNumbers, numbers, rowsOf, seriesRows}
@@ -130,7 +130,7 @@ module _ (s : List ℕ) {m a b c : Mark} (x : ℕ) {delivery year month rows : �
       )
 
 -- the next one of a partner
-pub next-fills : (kind : Kind) (x low : ℕ) (seen : ℕ × ℕ) {R : Series → List Row} {s : List ℕ} {m : Mark} {k : ℕ} {d o : List ℕ} → Fills (seriesForm kind x .parse) R s m k d o
+pub next-fills : (kind : Kind) (x low : ℕ) (seen : ℕ × ℕ) {R : TimeSeries → List Row} {s : List ℕ} {m : Mark} {k : ℕ} {d o : List ℕ} → Fills (seriesForm kind x .parse) R s m k d o
     → Fills (item kind x (low, seen) .parse) R s m k d o
 next-fills kind x low seen i = fills-only (λ a. leb low (place a)) (fills-only (λ a. follows seen (monthOf a)) i)
 
@@ -143,10 +143,10 @@ rows-each partner directions (o ∷ l) = ap suc (rows-each partner directions l)
 
 -- n series from place low on
 module _ (kind : Kind) (x : ℕ) where
-  unfoldable pub seriesFrom : ℕ → ℕ → ℕ × ℕ → List ℕ → Res (List Series)
+  unfoldable pub seriesFrom : ℕ → ℕ → ℕ × ℕ → List ℕ → Res (List TimeSeries)
   seriesFrom n low seen = itemsParse (item kind x) (onto kind x) n (low, seen)
 
-  pub series-filled : (n : ℕ) (seen : ℕ × ℕ) {R : List Series → List Row} {s : List ℕ} {m : Mark} {k : ℕ} {d o : List ℕ} → Fills (seriesFrom n 0 seen) R s m k d o → Fills (listForm kind x n seen .parse) R s m k d o
+  pub series-filled : (n : ℕ) (seen : ℕ × ℕ) {R : List TimeSeries → List Row} {s : List ℕ} {m : Mark} {k : ℕ} {d o : List ℕ} → Fills (seriesFrom n 0 seen) R s m k d o → Fills (listForm kind x n seen .parse) R s m k d o
   unfolding seriesFrom listForm seriesList
   series-filled n seen i = fills-all (fills-all i)
 
@@ -195,7 +195,7 @@ next-partner-fills kind low seen i = fills-only (λ p. leb low (p .number)) i
 -- ---- partners, behind each other
 
 -- the count of their rows
-tally-rows : (partner : ℕ) (t : (ℕ × ℕ) × ℕ) (l : List Series) → folded counting t l .1 ≡ t .1 + length (flatMap (rowsOfSeries partner) l)
+tally-rows : (partner : ℕ) (t : (ℕ × ℕ) × ℕ) (l : List TimeSeries) → folded counting t l .1 ≡ t .1 + length (flatMap (rowsOfSeries partner) l)
 unfolding folded flatMap
 tally-rows partner t [] = omega arith
 tally-rows partner t (x ∷ l) =
@@ -243,7 +243,7 @@ unfolding flatMap
 each-row partner directions [] = refl
 each-row partner directions (o ∷ l) = ap (λ (r : List Row). (partner, (directions, o)) ∷ r) (each-row partner directions l)
 
-series-of : (partner : ℕ) (l : List Series) → flatMap (rowsOfSeries partner) l ≡ map (λ r. (partner, r)) (spread (map seriesRows l))
+series-of : (partner : ℕ) (l : List TimeSeries) → flatMap (rowsOfSeries partner) l ≡ map (λ r. (partner, r)) (spread (map seriesRows l))
 unfolding flatMap spread
 series-of partner [] = refl
 series-of partner (x ∷ l) =

@@ -16,7 +16,7 @@ use Rattle.formats.specs.declared.Mark.{Mark}
 use Rattle.formats.specs.declared.Mark.the-variants.{At, No}
 use Rattle.kinds.specs.declared.Kind.{Kind}
 use Rattle.kinds.specs.declared.Kind.the-variants.{Toe01, Toe02, Toe03}
-use Rattle.message.specs.Contents.{Observation, Series, Partner, File}
+use Rattle.message.specs.Contents.{Observation, TimeSeries, Partner, File}
 use Rattle.message.specs.Bytes.{opening, closing, root}
 use Rattle.message.specs.Valid.{monthOf, periods, firstOf, IsFile}
 use Rattle.message.specs.Group.{spread}
@@ -115,7 +115,7 @@ module _ {s : List ℕ} {a b c d e f g h i j l o : Mark} {k : Kind} {receiver n 
 
 -- ---- month and rows of the partners
 
-series-rows : (t : (ℕ × ℕ) × ℕ) (l : List Series) → folded counting t l .1 ≡ t .1 + length (spread (map seriesRows l))
+series-rows : (t : (ℕ × ℕ) × ℕ) (l : List TimeSeries) → folded counting t l .1 ≡ t .1 + length (spread (map seriesRows l))
 unfolding folded spread flatMap
 series-rows t [] = omega arith
 series-rows t (s ∷ l) =
@@ -129,7 +129,7 @@ partners-rows t (p ∷ l) =
     let f : (ℕ × ℕ) × Observation → Row = λ r. (p .number, r) in
     omega (arith, partners-rows (adding t p) l, series-rows t (p .series), length-append (map f (partnerRows p .1)) (rowsOf l), length-map (partnerRows p .1) f)
 
-series-month : (t : (ℕ × ℕ) × ℕ) (l : List Series) (r : List (ℕ × ℕ)) → after (folded counting t l .0) r ≡ after (t .0) (map monthOf l ++ r)
+series-month : (t : (ℕ × ℕ) × ℕ) (l : List TimeSeries) (r : List (ℕ × ℕ)) → after (folded counting t l .0) r ≡ after (t .0) (map monthOf l ++ r)
 unfolding folded after
 series-month t [] r = refl
 series-month t (s ∷ l) r = series-month (counting t s) l r

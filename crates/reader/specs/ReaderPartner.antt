@@ -16,7 +16,7 @@ use Rattle.formats.specs.declared.Mark.{Mark}
 use Rattle.formats.specs.declared.Mark.the-variants.{At, No}
 use Rattle.kinds.specs.declared.Kind.{Kind}
 use Rattle.kinds.specs.declared.Kind.the-variants.{Toe01, Toe02, Toe03}
-use Rattle.message.specs.Contents.{Series, Partner}
+use Rattle.message.specs.Contents.{TimeSeries, Partner}
 use Rattle.message.specs.Bytes.{opening, ending, closing, group, partner, digits, supplies}
 use Rattle.message.specs.SeriesForm.{counted, apart-supplies}
 use Rattle.message.specs.SeriesListForm.{seriesList}
@@ -92,7 +92,7 @@ module _ (s : List ℕ) {m a b c d e f : Mark} {number supply n : ℕ} where
 -- ---- a partner
 
 -- its number and a view of its series
-abbrev pub numbered : {T : Type 0} → (List Series → T) → Partner → ℕ × T
+abbrev pub numbered : {T : Type 0} → (List TimeSeries → T) → Partner → ℕ × T
 numbered view p = (p .number, view (p .series))
 
 -- what is kept of a partner behind the month and rows t: its number, and the month and rows with its own
@@ -108,13 +108,13 @@ said bad = 0
 said (got n r) = n
 
 -- the head, then the series and the tag that ends the partner
-abbrev pub splitParse : {T : Type 0} → (List ℕ → Res Head) → (ℕ → ℕ → List ℕ → Res (List Series)) → List ℕ → (List Series → T) → List ℕ → Res (ℕ × T)
+abbrev pub splitParse : {T : Type 0} → (List ℕ → Res Head) → (ℕ → ℕ → List ℕ → Res (List TimeSeries)) → List ℕ → (List TimeSeries → T) → List ℕ → Res (ℕ × T)
 splitParse {T} head list end view = mapParse (λ (p : Head × T). (p .0 .0, p .1)) (seqParse head (λ (h : Head). postParse (mapParse view (list (h .1 .0) (h .1 .1))) (λ v. end)))
 
-module _ {T : Type 0} (A C : List ℕ) (f g : List ℕ → Res ℕ) (list : ℕ → ℕ → List ℕ → Res (List Series)) (view : List Series → T) (s : List ℕ) where
-  own-split : (x : Res (Unit {0})) → strip A s ≡ x → (y : Res ℕ) → f (rest x) ≡ y → (z : Res ℕ) → g (rest y) ≡ z → (w : Res (List Series)) → list 0 (said z) (rest z) ≡ w
+module _ {T : Type 0} (A C : List ℕ) (f g : List ℕ → Res ℕ) (list : ℕ → ℕ → List ℕ → Res (List TimeSeries)) (view : List TimeSeries → T) (s : List ℕ) where
+  own-split : (x : Res (Unit {0})) → strip A s ≡ x → (y : Res ℕ) → f (rest x) ≡ y → (z : Res ℕ) → g (rest y) ≡ z → (w : Res (List TimeSeries)) → list 0 (said z) (rest z) ≡ w
       → (v : Res (Unit {0})) → strip C (rest w) ≡ v
-      → mapParse (numbered view) (mapParse (λ (p : ℕ × (ℕ × List Series)). record { number = p .0; series = p .1 .1 })
+      → mapParse (numbered view) (mapParse (λ (p : ℕ × (ℕ × List TimeSeries)). record { number = p .0; series = p .1 .1 })
       (preParse A (seqParse f (λ a. seqParse g (λ n. postParse (list 0 n) (λ l. C)))))) s
       ≡ splitParse (mapParse ofCompany (preParse A (seqParse f (λ a. g)))) list C view s
   unfolding preParse postParse seqParse mapParse
@@ -125,10 +125,10 @@ module _ {T : Type 0} (A C : List ℕ) (f g : List ℕ → Res ℕ) (list : ℕ 
   own-split (got u r₁) e₁ (got a r₂) e₂ (got n r₃) e₃ (got l r₄) e₄ bad e₅ = rw (e₁, e₂, e₃, e₄, e₅)
   own-split (got u r₁) e₁ (got a r₂) e₂ (got n r₃) e₃ (got l r₄) e₄ (got o r₅) e₅ = rw (e₁, e₂, e₃, e₄, e₅)
 
-module _ {T : Type 0} (A C : List ℕ) (f g h : List ℕ → Res ℕ) (list : ℕ → ℕ → List ℕ → Res (List Series)) (view : List Series → T) (s : List ℕ) where
+module _ {T : Type 0} (A C : List ℕ) (f g h : List ℕ → Res ℕ) (list : ℕ → ℕ → List ℕ → Res (List TimeSeries)) (view : List TimeSeries → T) (s : List ℕ) where
   shared-split : (x : Res (Unit {0})) → strip A s ≡ x → (y : Res ℕ) → f (rest x) ≡ y → (k : Res ℕ) → g (rest y) ≡ k → (z : Res ℕ) → h (rest k) ≡ z
-      → (w : Res (List Series)) → list (said k) (said z) (rest z) ≡ w → (v : Res (Unit {0})) → strip C (rest w) ≡ v
-      → mapParse (numbered view) (mapParse (λ (p : ℕ × (ℕ × (ℕ × List Series))). record { number = p .0; series = p .1 .1 .1 })
+      → (w : Res (List TimeSeries)) → list (said k) (said z) (rest z) ≡ w → (v : Res (Unit {0})) → strip C (rest w) ≡ v
+      → mapParse (numbered view) (mapParse (λ (p : ℕ × (ℕ × (ℕ × List TimeSeries))). record { number = p .0; series = p .1 .1 .1 })
       (preParse A (seqParse f (λ a. seqParse g (λ x. seqParse h (λ n. postParse (list x n) (λ l. C))))))) s
       ≡ splitParse (preParse A (seqParse f (λ a. seqParse g (λ x. h)))) list C view s
   unfolding preParse postParse seqParse mapParse
@@ -140,7 +140,7 @@ module _ {T : Type 0} (A C : List ℕ) (f g h : List ℕ → Res ℕ) (list : �
   shared-split (got u r₁) e₁ (got a r₂) e₂ (got b r₆) e₆ (got n r₃) e₃ (got l r₄) e₄ bad e₅ = rw (e₁, e₂, e₆, e₃, e₄, e₅)
   shared-split (got u r₁) e₁ (got a r₂) e₂ (got b r₆) e₆ (got n r₃) e₃ (got l r₄) e₄ (got o r₅) e₅ = rw (e₁, e₂, e₆, e₃, e₄, e₅)
 
-pub partner-split : {T : Type 0} (k : Kind) (seen : ℕ × ℕ) (view : List Series → T) (s : List ℕ)
+pub partner-split : {T : Type 0} (k : Kind) (seen : ℕ × ℕ) (view : List TimeSeries → T) (s : List ℕ)
     → mapParse (numbered view) (partnerForm k seen .parse) s ≡ splitParse (headParse k) (λ x n. listForm k x n seen .parse) (closing (group k)) view s
 unfolding partnerForm ownPartner ownPartnerBody sharedPartner sharedPartnerBody headParse companyForm accessForm directionCounter listForm seriesList seriesForm digits
 partner-split Toe01 seen view s =
@@ -154,7 +154,7 @@ partner-split Toe03 seen view s =
     (post (words supplies apart-supplies) (closing "SupplyDirection" ++ opening "DirectionCounter") .parse)
     (directionCounter .parse) (λ x n. listForm Toe03 x n seen .parse) view s _ refl _ refl _ refl _ refl _ refl _ refl
 
-pub partner-seen : {T : Type 0} (k : Kind) (seen : ℕ × ℕ) (view : List Series → T) (s : List ℕ) (m a b c : Mark) (h : Head) (v : T) → Parsed (headParse k) s m a h
+pub partner-seen : {T : Type 0} (k : Kind) (seen : ℕ × ℕ) (view : List TimeSeries → T) (s : List ℕ) (m a b c : Mark) (h : Head) (v : T) → Parsed (headParse k) s m a h
     → Parsed (mapParse view (listForm k (h .1 .0) (h .1 .1) seen .parse)) s a b v → Parsed (strip (closing (group k))) s b c tt
     → Parsed (mapParse (numbered view) (partnerForm k seen .parse)) s m c (h .0, v)
 partner-seen {T} k seen view s m a b c h v i j l =

@@ -13,7 +13,7 @@ use Rattle.formats.specs.Run.{run-only, run-fail}
 use Rattle.formats.specs.Place.{Parsed}
 use Rattle.formats.specs.declared.Mark.{Mark}
 use Rattle.kinds.specs.declared.Kind.{Kind}
-use Rattle.message.specs.Contents.{Series, Partner, number}
+use Rattle.message.specs.Contents.{TimeSeries, Partner, number}
 use Rattle.message.specs.Valid.{monthOf}
 use Rattle.message.specs.SeriesListForm.{after}
 use Rattle.message.specs.PartnerForm.{partnerForm}
@@ -47,7 +47,7 @@ next-partner k low t s m r v h = go (leb low (v .0)) refl
 abbrev pub adding : (ℕ × ℕ) × ℕ → Partner → (ℕ × ℕ) × ℕ
 adding t p = folded counting t (p .series)
 
-pub months-folded : (t : (ℕ × ℕ) × ℕ) (l : List Series) → after (t .0) (map monthOf l) ≡ folded counting t l .0
+pub months-folded : (t : (ℕ × ℕ) × ℕ) (l : List TimeSeries) → after (t .0) (map monthOf l) ≡ folded counting t l .0
 unfolding after folded
 months-folded t [] = refl
 months-folded t (s ∷ l) = months-folded (counting t s) l

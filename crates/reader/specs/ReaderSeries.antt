@@ -21,7 +21,7 @@ use Rattle.formats.specs.declared.Mark.{Mark}
 use Rattle.formats.specs.declared.Mark.the-variants.{At, No}
 use Rattle.kinds.specs.declared.Kind.{Kind}
 use Rattle.kinds.specs.declared.Kind.the-variants.{Toe01, Toe02, Toe03}
-use Rattle.message.specs.Contents.{Observation, Series, place}
+use Rattle.message.specs.Contents.{Observation, TimeSeries, place}
 use Rattle.message.specs.Bytes.{opening, closing, element, deliveries, inSeries, supplyBytes, observationBytes, periodBytes, volumeBytes, seriesBytes}
 use Rattle.message.specs.Valid.{monthOf}
 use Rattle.message.specs.SeriesForm.{ownSeries, sharedSeries}
@@ -34,18 +34,18 @@ use Rattle.reader.specs.ReaderItems.{run-same, only-same, viewed, view-b
 -- ---- a series of any kind
 
 -- a series with its own supply direction, or with x, that of its access point
-unfoldable pub seriesForm : Kind → ℕ → Format Series
+unfoldable pub seriesForm : Kind → ℕ → Format TimeSeries
 seriesForm Toe01 x = ownSeries Toe01 (own-01 .in-series)
 seriesForm Toe02 x = ownSeries Toe02 (own-02 .in-series)
 seriesForm Toe03 x = sharedSeries x
 
-pub series-bytes : (k : Kind) (x : ℕ) (s : Series) → seriesForm k x .render s ≡ seriesBytes k s
+pub series-bytes : (k : Kind) (x : ℕ) (s : TimeSeries) → seriesForm k x .render s ≡ seriesBytes k s
 unfolding seriesForm
 series-bytes Toe01 x s = refl
 series-bytes Toe02 x s = refl
 series-bytes Toe03 x s = refl
 
-pub series-ok : (k : Kind) (x : ℕ) (s : Series) → x ≤ 1 → seriesForm k x .Ok s → (s .supply ≤ 1) × (s .delivery ≤ 1)
+pub series-ok : (k : Kind) (x : ℕ) (s : TimeSeries) → x ≤ 1 → seriesForm k x .Ok s → (s .supply ≤ 1) × (s .delivery ≤ 1)
 unfolding seriesForm
 series-ok Toe01 x s h ok = (omega (arith, ok .supply), omega (arith, ok .volume .delivery))
 series-ok Toe02 x s h ok = (omega (arith, ok .supply), omega (arith, ok .volume .delivery))
@@ -57,7 +57,7 @@ observation-long : (o : Observation) → 1 ≤ length (observationBytes o)
 unfolding observationBytes opening bytes
 observation-long o = omega arith
 
-volume-long : (s : Series) → length (s .observations) ≤ length (volumeBytes s)
+volume-long : (s : TimeSeries) → length (s .observations) ≤ length (volumeBytes s)
 unfolding volumeBytes
 volume-long s =
     let n = length (s .observations) in
@@ -67,7 +67,7 @@ volume-long s =
     (element "TimeSeriesPeriod" (q ++ l))
     (longer-both n (opening "TimeSeriesPeriod") (q ++ l) (closing "TimeSeriesPeriod") (longer n q l (flat-long observationBytes observation-long (s .observations))))
 
-pub series-long : (k : Kind) (s : Series) → length (s .observations) ≤ length (seriesBytes k s)
+pub series-long : (k : Kind) (s : TimeSeries) → length (s .observations) ≤ length (seriesBytes k s)
 unfolding seriesBytes
 series-long k s =
     let n = length (s .observations) in
@@ -77,10 +77,10 @@ series-long k s =
 -- ---- one more series
 
 -- the next series of a partner: from place low on, of the month that was seen
-abbrev pub item : Kind → ℕ → ℕ × (ℕ × ℕ) → Format Series
+abbrev pub item : Kind → ℕ → ℕ × (ℕ × ℕ) → Format TimeSeries
 item k x = fromLow (following (seriesForm k x) (seriesBytes k) (series-bytes k x)) place (λ seen s. monthOf s)
 
-abbrev pub onto : Kind → ℕ → ℕ × (ℕ × ℕ) → Series → ℕ × (ℕ × ℕ)
+abbrev pub onto : Kind → ℕ → ℕ × (ℕ × ℕ) → TimeSeries → ℕ × (ℕ × ℕ)
 onto k x = rise (following (seriesForm k x) (seriesBytes k) (series-bytes k x)) place (λ seen s. monthOf s)
 
 -- the same of what is kept of it
@@ -136,10 +136,10 @@ Room (At p) rows = rows ≤ p
 Room No rows = Unit {0}
 
 -- month and number of rows, one series on
-abbrev pub counting : (ℕ × ℕ) × ℕ → Series → (ℕ × ℕ) × ℕ
+abbrev pub counting : (ℕ × ℕ) × ℕ → TimeSeries → (ℕ × ℕ) × ℕ
 counting t s = (monthOf s, t .1 + length (s .observations))
 
-unfoldable pub listForm : Kind → ℕ → ℕ → ℕ × ℕ → Format (List Series)
+unfoldable pub listForm : Kind → ℕ → ℕ → ℕ × ℕ → Format (List TimeSeries)
 listForm k x n seen = seriesList (seriesForm k x) (seriesBytes k) (series-bytes k x) n seen
 
 -- what is kept of n series, from place low on
@@ -151,7 +151,7 @@ module _ (k : Kind) (x : ℕ) where
   unfolding listKept listForm seriesList foldParse mapParse
   list-start n t s = go (itemsParse (item k x) (onto k x) n (0, t .0) s)
     where
-      go : (y : Res (List Series)) → bind (bind (bind y (λ l q. got l q)) (λ l q. got l q)) (λ l q. got (folded counting t l) q) ≡ bind y (λ l q. got (folded counting t l) q)
+      go : (y : Res (List TimeSeries)) → bind (bind (bind y (λ l q. got l q)) (λ l q. got l q)) (λ l q. got (folded counting t l) q) ≡ bind y (λ l q. got (folded counting t l) q)
       go bad = refl
       go (got l q) = refl
 

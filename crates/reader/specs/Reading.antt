@@ -25,7 +25,7 @@ use Rattle.cursor.specs.Moves.{keep}
 use Rattle.moments.specs.declared.Moment.{Moment}
 use Rattle.moments.specs.Moments.{momentBytes, periodStart, periodEnd}
 use Rattle.moments.specs.MomentsLaws.{length-moment}
-use Rattle.message.specs.Contents.{Observation, Series, position}
+use Rattle.message.specs.Contents.{Observation, TimeSeries, position}
 use Rattle.message.specs.Bytes.{opening, ending, closing, element, supplies, deliveries}
 use Rattle.message.specs.Valid.{lastPosition}
 use Rattle.message.specs.ObservationForm.{isPeriod, monthBody, behindMonth, period, observation, observations, plainNumber, quantity, observationBody, observable, observed}
@@ -213,7 +213,7 @@ module _ (s : List ℕ) {m a b c d e f g h : Mark} {x n year month : ℕ} where
 abbrev pub Outline : Type 0
 Outline = (ℕ × ℕ) × ((ℕ × ℕ) × ℕ)
 
-abbrev pub outline : Series → Outline
+abbrev pub outline : TimeSeries → Outline
 outline s = ((s .supply, s .delivery), ((s .year, s .month), length (s .observations)))
 
 -- the counter is the number of observations
@@ -225,7 +225,7 @@ outline-volume x delivery rows year month l ok =
     λ i. ((x, delivery), ((year, month), e i))
 
 -- how it is read with its supply direction
-abbrev pub ownParse : List ℕ → Res Series
+abbrev pub ownParse : List ℕ → Res TimeSeries
 ownParse = mapParse (λ p. ofVolume (p .0) (p .1)) (ownBody .parse)
 
 own-ok : (x : ℕ) (v : Volume) → ownBody .Ok (x, v) → volumeBody .Ok v
@@ -250,7 +250,7 @@ module _ (s : List ℕ) {m a b c d e : Mark} {x delivery year month rows : ℕ} 
       (λ ok. outline-volume x delivery rows year month (v .observations) (own-ok x (delivery, (rows, ((year, month), v .observations))) ok)) (own-body i j k v r)
 
 -- how it is read with that of its access point
-abbrev pub sharedParse : ℕ → List ℕ → Res Series
+abbrev pub sharedParse : ℕ → List ℕ → Res TimeSeries
 sharedParse x = mapParse (ofVolume x) (sharedBody .parse)
 
 shared-ok : (v : Volume) → sharedBody .Ok v → volumeBody .Ok v

@@ -22,7 +22,7 @@ use Rattle.kinds.specs.declared.Kind.the-variants.{Toe01, Toe02, Toe03}
 use Rattle.message.specs.Bytes.{opening, closing}
 use Rattle.message.specs.SeriesForm.{volumeBody, ofVolume}
 use Rattle.reader.specs.declared.series.SeriesTodo.{SeriesTodo}
-use Rattle.reader.specs.declared.elements.TimeSeries.{TimeSeries}
+use Rattle.reader.specs.declared.elements.SeriesFound.{SeriesFound}
 use Rattle.rows.specs.Rows.{ownStart}
 use Rattle.reader.specs.RowsLaws.{SupplySteps, own-steps, own-fits, shared-steps, series-end}
 use Rattle.reader.specs.Reading.{Outline, outline, parsed-no, VolumeRead, sharedParse}
@@ -41,7 +41,7 @@ from-none (At q) p = absurd (got-bad (sym (p .run .run)))
 
 -- ---- one series
 
-module _ (s : List ℕ) (h h₁ : Cursor) (x : ℕ) (partner rows : ℕ) (ys zs : List ℕ) (m e : Mark) (v : TimeSeries) where
+module _ (s : List ℕ) (h h₁ : Cursor) (x : ℕ) (partner rows : ℕ) (ys zs : List ℕ) (m e : Mark) (v : SeriesFound) where
   unfoldable Seen : Kind → ℕ → Type 0
   Seen k y =
       (x ≤ 1) × Parsed (mapParse outline (seriesForm k y .parse)) s (standing s h) e ((x, v .delivery), ((v .year, v .month), v .rows))
@@ -72,7 +72,7 @@ item-room : (k : Kind) (x low : ℕ) (seen : ℕ × ℕ) (s : List ℕ) (m : Mar
 item-room k x low seen s No q rows o w r p = absurd (got-bad (sym (p .run .run)))
 item-room k x low seen s (At n) q rows o w r p = omega (arith, r, item-long k x low seen s n q o w p)
 
-module _ (s : List ℕ) (t : SeriesTodo) (h : Cursor) (ys : List ℕ) (h₁ : Cursor) (x : ℕ) (h₂ : Cursor) (v : TimeSeries) (zs : List ℕ) (h₃ : Cursor) (t′ : SeriesTodo) where
+module _ (s : List ℕ) (t : SeriesTodo) (h : Cursor) (ys : List ℕ) (h₁ : Cursor) (x : ℕ) (h₂ : Cursor) (v : SeriesFound) (zs : List ℕ) (h₃ : Cursor) (t′ : SeriesTodo) where
   unfoldable behind : Mark
   behind = standing s (pastTag s (bytes "</ToETimeSeries>") h₂)
 
@@ -107,7 +107,7 @@ module _ (s : List ℕ) (t : SeriesTodo) (h : Cursor) (ys : List ℕ) (h₁ : Cu
       }
 
 pub series-done : (s : List ℕ) (t : SeriesTodo) (h : Cursor) (ys : List ℕ) (h₁ : Cursor) (x : ℕ) → (h₁ ≡ seriesStart s (t .kind) (t .supply) h .to) × (x ≡ seriesStart s (t .kind) (t .supply) h .value)
-    → (h₂ : Cursor) (v : TimeSeries) (zs : List ℕ) → VolumeDone s (record { partner = t .partner; supply = x; rows = t .rows }) h₁ ys h₂ v zs
+    → (h₂ : Cursor) (v : SeriesFound) (zs : List ℕ) → VolumeDone s (record { partner = t .partner; supply = x; rows = t .rows }) h₁ ys h₂ v zs
     → (h₃ : Cursor) (t′ : SeriesTodo) → SeriesEnd s (record { todo = t; supply = x; series = v }) h₂ h₃ t′ → length s < 2 ^ 64 → SeriesStep s t h ys h₃ t′ zs
 unfolding behind
 series-done s t h ys h₁ x e₁ h₂ v zs e₂ h₃ t′ e₃ long = (

@@ -12,7 +12,7 @@ use Rattle.message.specs.ObservationForm.{isPeriod, behindMonth}
 use Rattle.message.specs.SeriesForm.{volumeBody, ofVolume}
 use Rattle.rows.specs.declared.MonthRow.{MonthRow}
 use Rattle.reader.specs.declared.elements.VolumeTodo.{VolumeTodo}
-use Rattle.reader.specs.declared.elements.TimeSeries.{TimeSeries}
+use Rattle.reader.specs.declared.elements.SeriesFound.{SeriesFound}
 use Rattle.reader.specs.Reading.{VolumeRead}
 use Rattle.reader.specs.Filling.{Fills, rowsOfSeries}
 
@@ -21,7 +21,7 @@ abbrev pub MonthPassed : List ℕ → MonthRow → Cursor → Cursor → Type 0
 MonthPassed s p c d =
     (isPeriod (p .year, p .month) ≡ true → Parsed (strip (behindMonth (p .year, p .month))) s (standing s c) (standing s d) tt) × (isPeriod (p .year, p .month) ≡ false → standing s d ≡ No)
 
-abbrev pub VolumeDone : List ℕ → VolumeTodo → Cursor → List ℕ → Cursor → TimeSeries → List ℕ → Type 0
+abbrev pub VolumeDone : List ℕ → VolumeTodo → Cursor → List ℕ → Cursor → SeriesFound → List ℕ → Type 0
 VolumeDone s x c before d r after =
     (r .delivery ≤ 1) × VolumeRead s (standing s c) (standing s d) (r .delivery) (r .year) (r .month) (r .rows)
     × Fills (volumeBody .parse) (λ v. rowsOfSeries (x .partner) (ofVolume (x .supply) v)) s (standing s c) (x .rows) before after

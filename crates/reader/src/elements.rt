@@ -183,7 +183,7 @@ pub struct VolumeTodo {
 }
 
 // A time series that was read.
-pub struct TimeSeries {
+pub struct SeriesFound {
     pub delivery: u64,
     pub year: u64,
     pub month: u64,
@@ -191,7 +191,7 @@ pub struct TimeSeries {
 }
 
 // Past a time series from its delivery direction on; its rows are stored.
-pub fn volume(c: &mut Cursor, s: &[u8], x: VolumeTodo, out: &mut [u64]) -> TimeSeries
+pub fn volume(c: &mut Cursor, s: &[u8], x: VolumeTodo, out: &mut [u64]) -> SeriesFound
     ensures { λ r. ⌜ VolumeDone (now (s .entry)) x (now (c .entry)) (now (out .entry)) (now (c .exit)) r (now (out .exit)) ⌝ }
 {
     let v = rows::volume(c, s);
@@ -211,7 +211,7 @@ pub fn volume(c: &mut Cursor, s: &[u8], x: VolumeTodo, out: &mut [u64]) -> TimeS
     };
     observations(c, s, w, out);
     cursor::past_tag(c, s, b"</TimeSeriesPeriod>");
-    TimeSeries {
+    SeriesFound {
         delivery: v.delivery,
         year: p.year,
         month: p.month,

@@ -1,5 +1,5 @@
 // The series of a partner: the loop over them moves the cursor that was lent to it.
-use crate::elements::TimeSeries;
+use crate::elements::SeriesFound;
 use crate::elements::VolumeTodo;
 use cursor::Cursor;
 use cursor::Read;
@@ -108,7 +108,7 @@ fn sum(a: u64, b: u64) -> u64
 pub struct SeriesSeen {
     pub todo: SeriesTodo,
     pub supply: u64,
-    pub series: TimeSeries,
+    pub series: SeriesFound,
 }
 
 // The cursor behind a series, and what is then left.

@@ -22,7 +22,7 @@ use Rattle.book.specs.Book.{Book}
 use Rattle.volumes.specs.Quarters.{monthQuarters}
 use Rattle.volumes.specs.Series.{Kind, Toe01, Toe02, grainsAt, seriesWatts, seriesOf}
 use Rattle.volumes.specs.SeriesLaws.{series-prefix, pair-watts}
-use Rattle.message.specs.Contents.{Observation, Series as TimeSeries, Partner}
+use Rattle.message.specs.Contents.{Observation, TimeSeries, Partner}
 use Rattle.message.specs.Group.{spread}
 use Rattle.message.specs.Rows.{Row, seriesRows, partnerRows, rowsOf}
 use Rattle.reports.specs.FileRows.{supplyNumber, deliveryNumber, partnerNumbers, directions, positions, observationAt, isWritten, observationsOf, timeSeries, timeSeriesOf, partnerAt, partnersOf, fileRows, observationBy, observationsBy, timeSeriesBy, partnerBy, partnersBy}

@@ -17,7 +17,7 @@ use Rattle.book.specs.Book.{Book}
 use Rattle.volumes.specs.Quarters.{monthQuarters}
 use Rattle.volumes.specs.declared.Series.{Series}
 use Rattle.volumes.specs.Series.{Kind, takes, receiverOf, partnerOf, grainsAt, seriesOf}
-use Rattle.message.specs.Contents.{Observation, Series as TimeSeries, Partner, File}
+use Rattle.message.specs.Contents.{Observation, TimeSeries, Partner, File}
 use Rattle.message.specs.Bytes.{fileBytes}
 use Rattle.message.specs.Rows.{Row, rowsOf, Message}
 

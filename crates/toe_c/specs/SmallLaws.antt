@@ -41,7 +41,7 @@ use Rattle.message.specs.RowsLaws.{rows-undo}
 use Rattle.message.specs.Calls.{Verdict, accepted, refused as sent, unless as judge, kindNumbered, readVerdict, readSays, ReadCalled, writeSays}
 use Rattle.message.specs.Rows.{Row, Message, contents}
 use Rattle.formats.specs.Format.{Res, got, bad}
-use Rattle.writer.specs.WriterRows.{isRows, rowsMessage}
+use Rattle.writer.specs.Rows.{isRows, rowsMessage}
 use Rattle.writer.specs.WriteCalls.{fitting, writeVerdict, WriteCalled}
 use Rattle.toe_c.specs.Codes.{refusalCode, Decoded, withFacts}
 use Rattle.volumes.specs.Quarters.{monthQuarters}

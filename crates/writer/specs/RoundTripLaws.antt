@@ -24,8 +24,8 @@ use Rattle.message.specs.Messages.{messageBytes, readMessage}
 use Rattle.message.specs.FileLaws.{written-is-read, read-is-written}
 use Rattle.message.specs.Calls.{over, kindNumbered, kindNumber, idPlace, momentPlace, factsOf, ReadCalled}
 use Rattle.message.specs.CallsLaws.{kind-numbered, over-first, called-file, Accepted, accepted-is, refused-is, one-reading, id-stands, moment-stands}
-use Rattle.writer.specs.WriterRows.{isRows, ofMonth, rowsMessage}
-use Rattle.writer.specs.WriterRowsLaws.{rows-message, message-rows}
+use Rattle.writer.specs.Rows.{isRows, ofMonth, rowsMessage}
+use Rattle.writer.specs.RowsLaws.{rows-message, message-rows}
 use Rattle.writer.specs.WriteCalls.{WriteCalled}
 use Rattle.writer.specs.WriteCallsLaws.{WriteAccepted, write-accepted, wrote-file, refused-rows, one-write}
 use Rattle.writer.specs.RoundTrip.{idIn, momentIn, GivesBack, NoRows, RoundTrip}

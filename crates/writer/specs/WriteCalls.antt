@@ -12,7 +12,7 @@ use Rattle.message.specs.declared.WriteAnswer.{WriteAnswer}
 use Rattle.message.specs.Valid.{isMoment}
 use Rattle.message.specs.Messages.{messageBytes}
 use Rattle.message.specs.Calls.{Verdict, accepted, refused, unless, afterwards, kindNumbered, writeSays}
-use Rattle.writer.specs.WriterRows.{isRows, rowsMessage}
+use Rattle.writer.specs.Rows.{isRows, rowsMessage}
 
 -- the bytes, where as many are lent: "file (1) buffer shorter than the answer"
 unfoldable pub fitting : List ℕ → ℕ → Verdict (List ℕ)

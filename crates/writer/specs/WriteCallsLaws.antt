@@ -16,7 +16,7 @@ use Rattle.message.specs.declared.WriteAnswer.the-variants.{Bytes, Refused}
 use Rattle.message.specs.Valid.{isMoment}
 use Rattle.message.specs.Messages.{messageBytes}
 use Rattle.message.specs.Calls.{accepted, unless, over, afterwards, kindNumbered, writeSays}
-use Rattle.writer.specs.WriterRows.{isRows, rowsMessage}
+use Rattle.writer.specs.Rows.{isRows, rowsMessage}
 use Rattle.writer.specs.WriteCalls.{fitting, writeVerdict, WriteCalled}
 
 module _ (number receiver year month : ℕ) (rows id moment before : List ℕ) where

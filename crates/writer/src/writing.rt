@@ -25,9 +25,9 @@ ghost use Rattle.message.specs.Valid.{isMoment};
 ghost use Rattle.message.specs.Bytes.{observationBytes, seriesBytes, partnerBytes};
 ghost use Rattle.message.specs.Messages.{messageBytes};
 ghost use Rattle.message.specs.Calls.{kindNumber};
-ghost use Rattle.writer.specs.WriterRows.{isRows, rowsMessage};
+ghost use Rattle.writer.specs.Rows.{isRows, rowsMessage};
 ghost use Rattle.writer.specs.WriteCalls.{WriteCalled};
-ghost use Rattle.writer.specs.WriterContents.{observationsIn, seriesAt, seriesIn, partnerAt, partnersIn, Writable};
+ghost use Rattle.writer.specs.Contents.{observationsIn, seriesAt, seriesIn, partnerAt, partnersIn, Writable};
 ghost use Rattle.emitter.specs.Laid.{Laid, Stands};
 
 // The observations of n rows.

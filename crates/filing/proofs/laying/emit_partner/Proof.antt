@@ -10,7 +10,7 @@ use Rattle.volumes.specs.SettlementLaws.{passing}
 use Rattle.message.specs.Bytes.{partnerBytes}
 use Rattle.message.specs.Rows.{rowsFrom}
 use Rattle.emitter.specs.Laid.{laid-is}
-use Rattle.writer.specs.WriterContents.{partnersIn}
+use Rattle.writer.specs.Contents.{partnersIn}
 use Rattle.series.specs.SumsLaws.{parts-of}
 use Rattle.filing.specs.ObservationsLaws.{period-of, Dated, dated}
 use Rattle.reports.specs.RegisteredLaws.{registered}

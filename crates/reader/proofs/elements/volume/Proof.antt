@@ -35,7 +35,7 @@ use Rattle.rows.specs.declared.VolumeRow.{VolumeRow}
 use Rattle.rows.specs.declared.MonthRow.{MonthRow}
 use Rattle.reader.specs.declared.elements.Key.{Key}
 use Rattle.reader.specs.declared.elements.Wanted.{Wanted}
-use Rattle.reader.specs.declared.elements.TimeSeries.{TimeSeries}
+use Rattle.reader.specs.declared.elements.SeriesFound.{SeriesFound}
 use Rattle.reader.proofs.elements.VolumeTodo as T-VolumeTodo
 use Rattle.reader.proofs.elements.VolumeTodo.Laws as L-VolumeTodo
 use Rattle.rows.proofs.VolumeRow as T-VolumeRow
@@ -46,8 +46,8 @@ use Rattle.reader.proofs.elements.Key as T-Key
 use Rattle.reader.proofs.elements.Key.Laws as L-Key
 use Rattle.reader.proofs.elements.Wanted as T-Wanted
 use Rattle.reader.proofs.elements.Wanted.Laws as L-Wanted
-use Rattle.reader.proofs.elements.TimeSeries as T-TimeSeries
-use Rattle.reader.proofs.elements.TimeSeries.Laws as L-TimeSeries
+use Rattle.reader.proofs.elements.SeriesFound as T-SeriesFound
+use Rattle.reader.proofs.elements.SeriesFound.Laws as L-SeriesFound
 use Rattle.rows.specs.Rows.{volumeRow, volumeTo, monthRow, monthTo}
 use Rattle.reader.specs.Turns.{Whole}
 use Rattle.reader.specs.Volumes.{MonthPassed}
@@ -108,17 +108,17 @@ module _ {M : Type 1} (𝓤 : URA M) (H : Heap 𝓤) (A : Atoms 𝓤) (W : Given
     abbrev h₅ : Cursor → Cursor
     h₅ h₄ = pastTag (now s) (bytes "</TimeSeriesPeriod>") h₄
 
-    abbrev made₀ : VolumeRow → MonthRow → TimeSeries
+    abbrev made₀ : VolumeRow → MonthRow → SeriesFound
     made₀ r₁ r₂ = record { delivery = r₁ .delivery; year = r₂ .year; month = r₂ .month; rows = r₁ .count }
 
-    made₀-is : (r₁ : VolumeRow) → (r₂ : MonthRow) → (is₁ : Fits P-VolumeRow r₁) → (is₂ : Fits P-MonthRow r₂) → Is T-TimeSeries.the-row (made₀ r₁ r₂) (L-TimeSeries.lowered (made₀ r₁ r₂) ∷ [])
-    made₀-is r₁ r₂ is₁ is₂ = LL.owes T-TimeSeries.the-type L-TimeSeries.the-laws (made₀ r₁ r₂) ((LL.owed T-VolumeRow.the-type L-VolumeRow.the-laws r₁ _ is₁ .0), ((LL.owed T-MonthRow.the-type L-MonthRow.the-laws r₂ _ is₂ .0), ((LL.owed T-MonthRow.the-type L-MonthRow.the-laws r₂ _ is₂ .1 .0), ((LL.owed T-VolumeRow.the-type L-VolumeRow.the-laws r₁ _ is₁ .1 .0), tt))))
+    made₀-is : (r₁ : VolumeRow) → (r₂ : MonthRow) → (is₁ : Fits P-VolumeRow r₁) → (is₂ : Fits P-MonthRow r₂) → Is T-SeriesFound.the-row (made₀ r₁ r₂) (L-SeriesFound.lowered (made₀ r₁ r₂) ∷ [])
+    made₀-is r₁ r₂ is₁ is₂ = LL.owes T-SeriesFound.the-type L-SeriesFound.the-laws (made₀ r₁ r₂) ((LL.owed T-VolumeRow.the-type L-VolumeRow.the-laws r₁ _ is₁ .0), ((LL.owed T-MonthRow.the-type L-MonthRow.the-laws r₂ _ is₂ .0), ((LL.owed T-MonthRow.the-type L-MonthRow.the-laws r₂ _ is₂ .1 .0), ((LL.owed T-VolumeRow.the-type L-VolumeRow.the-laws r₁ _ is₁ .1 .0), tt))))
 
-    exits : (h₁ : Cursor) → (r₁ : VolumeRow) → (is₁ : Fits P-VolumeRow r₁) → (e₁ : (h₁ ≡ volumeTo (now s) h) × (r₁ ≡ volumeRow (now s) h)) → (h₂ : Cursor) → (r₂ : MonthRow) → (is₂ : Fits P-MonthRow r₂) → (e₂ : (h₂ ≡ monthTo (now s) h₁) × (r₂ ≡ monthRow (now s) h₁)) → (h₃ : Cursor) → (r₃ : Unit {0}) → (is₃ : Fits no-answer r₃) → (e₃ : MonthPassed (now s) r₂ h₂ h₃) → (h₄ : Cursor) → (r₄ : Unit {0}) → (zs : List ℕ) → (len : length zs ≡ length ys) → (is₄ : Fits no-answer r₄) → (e₄ : Whole (now s) (made₈ r₁ r₂) h₃ ys (standing (now s) h₄) zs) → length (now s) < 2 ^ 64 → ent 𝓤 (⋆ 𝓤 H A (By W κ q (b, o) γ (h₅ h₄) ∷ ‵ (flft κ₁ q₁) ∷ ‵ (flft κᵣ qᵣ) ∷ ‵ (Rows κᵣ bᵣ oᵣ γᵣ zs (length ys)) ∷ [])) (Post (L-TimeSeries.lowered (made₀ r₁ r₂)))
+    exits : (h₁ : Cursor) → (r₁ : VolumeRow) → (is₁ : Fits P-VolumeRow r₁) → (e₁ : (h₁ ≡ volumeTo (now s) h) × (r₁ ≡ volumeRow (now s) h)) → (h₂ : Cursor) → (r₂ : MonthRow) → (is₂ : Fits P-MonthRow r₂) → (e₂ : (h₂ ≡ monthTo (now s) h₁) × (r₂ ≡ monthRow (now s) h₁)) → (h₃ : Cursor) → (r₃ : Unit {0}) → (is₃ : Fits no-answer r₃) → (e₃ : MonthPassed (now s) r₂ h₂ h₃) → (h₄ : Cursor) → (r₄ : Unit {0}) → (zs : List ℕ) → (len : length zs ≡ length ys) → (is₄ : Fits no-answer r₄) → (e₄ : Whole (now s) (made₈ r₁ r₂) h₃ ys (standing (now s) h₄) zs) → length (now s) < 2 ^ 64 → ent 𝓤 (⋆ 𝓤 H A (By W κ q (b, o) γ (h₅ h₄) ∷ ‵ (flft κ₁ q₁) ∷ ‵ (flft κᵣ qᵣ) ∷ ‵ (Rows κᵣ bᵣ oᵣ γᵣ zs (length ys)) ∷ [])) (Post (L-SeriesFound.lowered (made₀ r₁ r₂)))
     exits h₁ r₁ is₁ e₁ h₂ r₂ is₂ e₂ h₃ r₃ is₃ e₃ h₄ r₄ zs len is₄ e₄ long =
         qed W (By W κ q (b, o) γ (h₅ h₄) ∷ ‵ (flft κ₁ q₁) ∷ ‵ (flft κᵣ qᵣ) ∷ ‵ (Rows κᵣ bᵣ oᵣ γᵣ zs (length ys)) ∷ []) ∵
-        suffices ! _ (ends-at 𝓤 H A me.ended stayed (me.clauses 𝓤 H A at-mem run) W (((κ, (κ₁, (κᵣ, tt))), (q, (q₁, (qᵣ, tt))), tt, a, vals), tt) (L-TimeSeries.lowered (made₀ r₁ r₂)) (made₀ r₁ r₂) ((h₅ h₄), (tt, (tt, (zs, tt)))) (tt, (tt, (tt, (len, tt))))) $ says ! (volume-done (now s) x h ys h₁ r₁ e₁ h₂ r₂ e₂ h₃ e₃ h₄ zs e₄ long) $
-        split ! $ nothing ! $ move ! (4 ∷ 0 ∷ []) $ join ! $ move ! (3 ∷ 0 ∷ []) $ join ! $ move ! (2 ∷ 0 ∷ []) $ join ! $ frame ! $ nothing ! $ move ! (2 ∷ 0 ∷ []) $ fjoin ! $ nothing ! $ fjoin ! $ nothing ! $ fjoin ! $ move ! (1 ∷ 0 ∷ []) $ fjoin ! $ frame ! $ owned ! T-TimeSeries.the-row (Is T-TimeSeries.the-row) (LL.makes T-TimeSeries.the-type L-TimeSeries.the-plain 𝓤 H A) (made₀ r₁ r₂) _ (made₀-is r₁ r₂ is₁ is₂) $ done !
+        suffices ! _ (ends-at 𝓤 H A me.ended stayed (me.clauses 𝓤 H A at-mem run) W (((κ, (κ₁, (κᵣ, tt))), (q, (q₁, (qᵣ, tt))), tt, a, vals), tt) (L-SeriesFound.lowered (made₀ r₁ r₂)) (made₀ r₁ r₂) ((h₅ h₄), (tt, (tt, (zs, tt)))) (tt, (tt, (tt, (len, tt))))) $ says ! (volume-done (now s) x h ys h₁ r₁ e₁ h₂ r₂ e₂ h₃ e₃ h₄ zs e₄ long) $
+        split ! $ nothing ! $ move ! (4 ∷ 0 ∷ []) $ join ! $ move ! (3 ∷ 0 ∷ []) $ join ! $ move ! (2 ∷ 0 ∷ []) $ join ! $ frame ! $ nothing ! $ move ! (2 ∷ 0 ∷ []) $ fjoin ! $ nothing ! $ fjoin ! $ nothing ! $ fjoin ! $ move ! (1 ∷ 0 ∷ []) $ fjoin ! $ frame ! $ owned ! T-SeriesFound.the-row (Is T-SeriesFound.the-row) (LL.makes T-SeriesFound.the-type L-SeriesFound.the-plain 𝓤 H A) (made₀ r₁ r₂) _ (made₀-is r₁ r₂ is₁ is₂) $ done !
 
     module _ (C : Calls 𝓤 H) (Λ : Loops 𝓤 H) (fm : FmC 𝓤 H (W .laws) C) (known-volume-row : Triple 𝓤 (C #volume-row) (Of-volume-row 𝓤 H A at-mem run)) (known-month-row : Triple 𝓤 (C #month-row) (Of-month-row 𝓤 H A at-mem run)) (known-behind-month : Triple 𝓤 (C #behind-month) (Of-behind-month 𝓤 H A at-mem run)) (known-all : Triple 𝓤 (C #all) (Of-all 𝓤 H A at-mem run)) (known-tag : Triple 𝓤 (C #tag) (call-tag.Contract-of 𝓤 H A at-mem run)) (room : Room u64 (length ys)) where
       walk : Is (ShrSlice (named 1) κ₁ u8) s (sv s ∷ []) → ent 𝓤 (onEntry 𝓤 H A me.signature (κ, (κ₁, (κᵣ, tt))) (q, (q₁, (qᵣ, tt))) a vals) (WpFn 𝓤 H C Λ code.function (vptr b o ∷ sv s ∷ L-VolumeTodo.lowered x ∷ sliceVal (bᵣ, oᵣ) (length ys) ∷ []) Post)
@@ -149,7 +149,7 @@ module _ {M : Type 1} (𝓤 : URA M) (H : Heap 𝓤) (A : Atoms 𝓤) (W : Given
           assigns ! (agg ! (and-then ! (load ! (from ! (stop !)) (look ! 13 refl)) (and-then ! (lit ! tt) (no-more !)))) (from ! (stop !)) (init ! 11 refl (tt, (tt, (record { fits = lit< tt }, tt)))) $
           move ! (0 ∷ 1 ∷ 7 ∷ 2 ∷ 5 ∷ []) $
           call-tag.calls W fm at-mem run known-tag (by-ref W κ q (b, o) γ) h₄ κ₁ (ν ∷ []) q₁ fullShare s (lit-at l₉ (bytes "</TimeSeriesPeriod>") δ₉) tt (λ _ _ _ _ _. and-then ! (load ! (from ! (stop !)) (look ! 15 refl)) (and-then ! (load ! (from ! (stop !)) (look ! 44 refl)) (and-then ! (load ! (from ! (stop !)) (look ! 11 refl)) (no-more !)))) (land ! (from ! (stop !)) (store ! 25 refl (tt, tt)) $
-          assigns ! (agg ! (and-then ! (load ! (from ! (fld ! refl (stop !))) (look-in ! 38 (sub ! 0 refl (whole !)))) (and-then ! (load ! (from ! (fld ! refl (stop !))) (look-in ! 36 (sub ! 0 refl (whole !)))) (and-then ! (load ! (from ! (fld ! refl (stop !))) (look-in ! 36 (sub ! 1 refl (whole !)))) (and-then ! (load ! (from ! (fld ! refl (stop !))) (look-in ! 38 (sub ! 1 refl (whole !)))) (no-more !)))))) (from ! (stop !)) (init ! 48 refl (LL.lawful T-TimeSeries.the-type L-TimeSeries.the-laws 𝓤 H A W .typed (made₀ r₁ r₂) _ (made₀-is r₁ r₂ is₁ is₂) .0)) $
+          assigns ! (agg ! (and-then ! (load ! (from ! (fld ! refl (stop !))) (look-in ! 38 (sub ! 0 refl (whole !)))) (and-then ! (load ! (from ! (fld ! refl (stop !))) (look-in ! 36 (sub ! 0 refl (whole !)))) (and-then ! (load ! (from ! (fld ! refl (stop !))) (look-in ! 36 (sub ! 1 refl (whole !)))) (and-then ! (load ! (from ! (fld ! refl (stop !))) (look-in ! 38 (sub ! 1 refl (whole !)))) (no-more !)))))) (from ! (stop !)) (init ! 48 refl (LL.lawful T-SeriesFound.the-type L-SeriesFound.the-laws 𝓤 H A W .typed (made₀ r₁ r₂) _ (made₀-is r₁ r₂ is₁ is₂) .0)) $
           move ! (2 ∷ []) $ lft-end ! tt $ move ! (0 ∷ 7 ∷ []) $ lit-back W tt ν l₉ (bytes "</TimeSeriesPeriod>") (
           returns ! (look ! 48 refl) $
           forget ! 48 refl $ forget ! 46 refl $ forget ! 44 refl $ forget ! 42 refl $ forget ! 40 refl $ forget ! 38 refl $ forget ! 36 refl $ forget ! 34 refl $ forget ! 32 refl $ forget ! 0 refl $ forget ! 29 refl $ forget ! 27 refl $ forget ! 25 refl $ forget ! 23 refl $ forget ! 21 refl $ forget ! 19 refl $ forget ! 17 refl $ forget ! 15 refl $ forget ! 13 refl $ forget ! 11 refl $

@@ -21,14 +21,14 @@ use Rattle.reader.proofs.series.past_end.Symbol.{name as #end-of}
 use Rattle.reader.proofs.series.past_end.Met as end-of-thm
 use Rattle.reader.specs.declared.series.SeriesTodo.{SeriesTodo}
 use Rattle.reader.specs.declared.elements.VolumeTodo.{VolumeTodo}
-use Rattle.reader.specs.declared.elements.TimeSeries.{TimeSeries}
+use Rattle.reader.specs.declared.elements.SeriesFound.{SeriesFound}
 use Rattle.reader.specs.declared.series.SeriesSeen.{SeriesSeen}
 use Rattle.reader.proofs.series.SeriesTodo as T-SeriesTodo
 use Rattle.reader.proofs.series.SeriesTodo.Laws as L-SeriesTodo
 use Rattle.reader.proofs.elements.VolumeTodo as T-VolumeTodo
 use Rattle.reader.proofs.elements.VolumeTodo.Laws as L-VolumeTodo
-use Rattle.reader.proofs.elements.TimeSeries as T-TimeSeries
-use Rattle.reader.proofs.elements.TimeSeries.Laws as L-TimeSeries
+use Rattle.reader.proofs.elements.SeriesFound as T-SeriesFound
+use Rattle.reader.proofs.elements.SeriesFound.Laws as L-SeriesFound
 use Rattle.reader.proofs.series.SeriesSeen as T-SeriesSeen
 use Rattle.reader.proofs.series.SeriesSeen.Laws as L-SeriesSeen
 use Rattle.reader.specs.Volumes.{VolumeDone}
@@ -58,8 +58,8 @@ P-SeriesTodo = record { row = T-SeriesTodo.the-row; low = LL.val T-SeriesTodo.th
 abbrev P-VolumeTodo : Plain
 P-VolumeTodo = record { row = T-VolumeTodo.the-row; low = L-VolumeTodo.lowered; tells = LL.tells T-VolumeTodo.the-type L-VolumeTodo.the-laws; makes = λ 𝓤 H A W. LL.makes T-VolumeTodo.the-type L-VolumeTodo.the-plain 𝓤 H A }
 
-abbrev P-TimeSeries : Plain
-P-TimeSeries = record { row = T-TimeSeries.the-row; low = L-TimeSeries.lowered; tells = LL.tells T-TimeSeries.the-type L-TimeSeries.the-laws; makes = λ 𝓤 H A W. LL.makes T-TimeSeries.the-type L-TimeSeries.the-plain 𝓤 H A }
+abbrev P-SeriesFound : Plain
+P-SeriesFound = record { row = T-SeriesFound.the-row; low = L-SeriesFound.lowered; tells = LL.tells T-SeriesFound.the-type L-SeriesFound.the-laws; makes = λ 𝓤 H A W. LL.makes T-SeriesFound.the-type L-SeriesFound.the-plain 𝓤 H A }
 
 abbrev P-SeriesSeen : Plain
 P-SeriesSeen = record { row = T-SeriesSeen.the-row; low = LL.val T-SeriesSeen.the-type L-SeriesSeen.the-laws; tells = LL.tells T-SeriesSeen.the-type L-SeriesSeen.the-laws; makes = λ 𝓤 H A W. LL.makes T-SeriesSeen.the-type L-SeriesSeen.the-plain 𝓤 H A }
@@ -81,13 +81,13 @@ module _ {M : Type 1} (𝓤 : URA M) (H : Heap 𝓤) (A : Atoms 𝓤) (W : Given
     made₆-is : (r₁ : ℕ) → (is₁ : Fits a-number r₁) → Is T-VolumeTodo.the-row (made₆ r₁) (L-VolumeTodo.lowered (made₆ r₁) ∷ [])
     made₆-is r₁ is₁ = LL.owes T-VolumeTodo.the-type L-VolumeTodo.the-laws (made₆ r₁) ((LL.owed T-SeriesTodo.the-type L-SeriesTodo.the-laws x _ fits-x .1 .0), (is₁, ((LL.owed T-SeriesTodo.the-type L-SeriesTodo.the-laws x _ fits-x .1 .1 .1 .1 .1 .1 .1 .0), tt)))
 
-    abbrev made₈ : ℕ → TimeSeries → SeriesSeen
+    abbrev made₈ : ℕ → SeriesFound → SeriesSeen
     made₈ r₁ r₂ = record { todo = x; supply = r₁; series = r₂ }
 
-    made₈-is : (r₁ : ℕ) → (r₂ : TimeSeries) → (is₁ : Fits a-number r₁) → (is₂ : Fits P-TimeSeries r₂) → Is T-SeriesSeen.the-row (made₈ r₁ r₂) (LL.val T-SeriesSeen.the-type L-SeriesSeen.the-laws (made₈ r₁ r₂) ∷ [])
+    made₈-is : (r₁ : ℕ) → (r₂ : SeriesFound) → (is₁ : Fits a-number r₁) → (is₂ : Fits P-SeriesFound r₂) → Is T-SeriesSeen.the-row (made₈ r₁ r₂) (LL.val T-SeriesSeen.the-type L-SeriesSeen.the-laws (made₈ r₁ r₂) ∷ [])
     made₈-is r₁ r₂ is₁ is₂ = LL.owes T-SeriesSeen.the-type L-SeriesSeen.the-laws (made₈ r₁ r₂) (fits-x, (is₁, (is₂, tt)))
 
-    exits : (h₁ : Cursor) → (r₁ : ℕ) → (is₁ : Fits a-number r₁) → (e₁ : (h₁ ≡ seriesStart (now s) (x .kind) (x .supply) h .to) × (r₁ ≡ seriesStart (now s) (x .kind) (x .supply) h .value)) → (h₂ : Cursor) → (r₂ : TimeSeries) → (zs : List ℕ) → (len : length zs ≡ length ys) → (is₂ : Fits P-TimeSeries r₂) → (e₂ : VolumeDone (now s) (made₆ r₁) h₁ ys h₂ r₂ zs) → (h₃ : Cursor) → (r₃ : SeriesTodo) → (is₃ : Fits P-SeriesTodo r₃) → (e₃ : SeriesEnd (now s) (made₈ r₁ r₂) h₂ h₃ r₃) → length (now s) < 2 ^ 64 → ent 𝓤 (⋆ 𝓤 H A (By W κ q (b, o) γ h₃ ∷ ‵ (flft κ₁ q₁) ∷ ‵ (flft κᵣ qᵣ) ∷ ‵ (Rows κᵣ bᵣ oᵣ γᵣ zs (length ys)) ∷ [])) (Post (LL.val T-SeriesTodo.the-type L-SeriesTodo.the-laws r₃))
+    exits : (h₁ : Cursor) → (r₁ : ℕ) → (is₁ : Fits a-number r₁) → (e₁ : (h₁ ≡ seriesStart (now s) (x .kind) (x .supply) h .to) × (r₁ ≡ seriesStart (now s) (x .kind) (x .supply) h .value)) → (h₂ : Cursor) → (r₂ : SeriesFound) → (zs : List ℕ) → (len : length zs ≡ length ys) → (is₂ : Fits P-SeriesFound r₂) → (e₂ : VolumeDone (now s) (made₆ r₁) h₁ ys h₂ r₂ zs) → (h₃ : Cursor) → (r₃ : SeriesTodo) → (is₃ : Fits P-SeriesTodo r₃) → (e₃ : SeriesEnd (now s) (made₈ r₁ r₂) h₂ h₃ r₃) → length (now s) < 2 ^ 64 → ent 𝓤 (⋆ 𝓤 H A (By W κ q (b, o) γ h₃ ∷ ‵ (flft κ₁ q₁) ∷ ‵ (flft κᵣ qᵣ) ∷ ‵ (Rows κᵣ bᵣ oᵣ γᵣ zs (length ys)) ∷ [])) (Post (LL.val T-SeriesTodo.the-type L-SeriesTodo.the-laws r₃))
     exits h₁ r₁ is₁ e₁ h₂ r₂ zs len is₂ e₂ h₃ r₃ is₃ e₃ long =
         qed W (By W κ q (b, o) γ h₃ ∷ ‵ (flft κ₁ q₁) ∷ ‵ (flft κᵣ qᵣ) ∷ ‵ (Rows κᵣ bᵣ oᵣ γᵣ zs (length ys)) ∷ []) ∵
         suffices ! _ (ends-at 𝓤 H A me.ended stayed (me.clauses 𝓤 H A at-mem run) W (((κ, (κ₁, (κᵣ, tt))), (q, (q₁, (qᵣ, tt))), tt, a, vals), tt) (LL.val T-SeriesTodo.the-type L-SeriesTodo.the-laws r₃) r₃ (h₃, (tt, (tt, (zs, tt)))) (tt, (tt, (tt, (len, tt))))) $ says ! (series-done (now s) x h ys h₁ r₁ e₁ h₂ r₂ zs e₂ h₃ r₃ e₃ long) $
@@ -108,7 +108,7 @@ module _ {M : Type 1} (𝓤 : URA M) (H : Heap 𝓤) (A : Atoms 𝓤) (W : Given
           assigns ! (addr ! (from ! (fld ! refl (hop ! (look-in ! 26 (sub ! 0 refl (whole !))) (stop !))))) (from ! (stop !)) (init ! 12 refl (tt, tt)) $
           assigns ! (agg ! (and-then ! (load ! (from ! (stop !)) (look ! 12 refl)) (and-then ! (load ! (from ! (fld ! refl (stop !))) (look-in ! 26 (sub ! 1 refl (whole !)))) (no-more !)))) (from ! (stop !)) (init ! 10 refl (tt, (tt, (record { fits = room .0 }, tt)))) $
           move ! (0 ∷ 1 ∷ 2 ∷ 5 ∷ 3 ∷ []) $
-          calls-rows W P-TimeSeries (λ (h′ : Cursor) (r : TimeSeries) (zs : List ℕ). VolumeDone (now s) (made₆ r₁) h₁ ys h′ r zs) (by-ref W κ q (b, o) γ) h₁ κ₁ κᵣ q₁ qᵣ s P-VolumeTodo (made₆ r₁) (made₆-is r₁ is₁) bᵣ oᵣ γᵣ ys room fm (λ ν′ δ μ′ ε. known-volume-of (((ν′ ∷ [], (κ₁, (μ′ ∷ [], tt))), (fullShare, (q₁, (fullShare, tt))), tt, (ref-at (b, o) δ h₁, (s, ((made₆ r₁), (record { ptr = (bᵣ, oᵣ); name = ε; now = ys }, tt)))), (vptr b o ∷ [], (sv s ∷ [], (L-VolumeTodo.lowered (made₆ r₁) ∷ [], (sliceVal (bᵣ, oᵣ) (length ys) ∷ [], tt))))), tt)) (λ _ _ _ _ _. and-then ! (load ! (from ! (stop !)) (look ! 14 refl)) (and-then ! (load ! (from ! (stop !)) (look ! 30 refl)) (and-then ! (load ! (from ! (stop !)) (look ! 22 refl)) (and-then ! (load ! (from ! (stop !)) (look ! 10 refl)) (no-more !))))) (λ h₂ r₂ zs len is₂ e₂. land ! (from ! (stop !)) (init ! 20 refl (LL.lawful T-TimeSeries.the-type L-TimeSeries.the-laws 𝓤 H A W .typed r₂ _ is₂ .0)) $
+          calls-rows W P-SeriesFound (λ (h′ : Cursor) (r : SeriesFound) (zs : List ℕ). VolumeDone (now s) (made₆ r₁) h₁ ys h′ r zs) (by-ref W κ q (b, o) γ) h₁ κ₁ κᵣ q₁ qᵣ s P-VolumeTodo (made₆ r₁) (made₆-is r₁ is₁) bᵣ oᵣ γᵣ ys room fm (λ ν′ δ μ′ ε. known-volume-of (((ν′ ∷ [], (κ₁, (μ′ ∷ [], tt))), (fullShare, (q₁, (fullShare, tt))), tt, (ref-at (b, o) δ h₁, (s, ((made₆ r₁), (record { ptr = (bᵣ, oᵣ); name = ε; now = ys }, tt)))), (vptr b o ∷ [], (sv s ∷ [], (L-VolumeTodo.lowered (made₆ r₁) ∷ [], (sliceVal (bᵣ, oᵣ) (length ys) ∷ [], tt))))), tt)) (λ _ _ _ _ _. and-then ! (load ! (from ! (stop !)) (look ! 14 refl)) (and-then ! (load ! (from ! (stop !)) (look ! 30 refl)) (and-then ! (load ! (from ! (stop !)) (look ! 22 refl)) (and-then ! (load ! (from ! (stop !)) (look ! 10 refl)) (no-more !))))) (λ h₂ r₂ zs len is₂ e₂. land ! (from ! (stop !)) (init ! 20 refl (LL.lawful T-SeriesFound.the-type L-SeriesFound.the-laws 𝓤 H A W .typed r₂ _ is₂ .0)) $
           assigns ! (agg ! (and-then ! (load ! (from ! (stop !)) (look ! 28 refl)) (and-then ! (load ! (from ! (stop !)) (look ! 24 refl)) (and-then ! (load ! (from ! (stop !)) (look ! 20 refl)) (no-more !))))) (from ! (stop !)) (init ! 18 refl (LL.lawful T-SeriesSeen.the-type L-SeriesSeen.the-laws 𝓤 H A W .typed (made₈ r₁ r₂) _ (made₈-is r₁ r₂ is₁ is₂) .0)) $
           assigns ! (addr ! (from ! (hop ! (look ! 32 refl) (stop !)))) (from ! (stop !)) (init ! 8 refl (tt, tt)) $
           calls-with W P-SeriesTodo (λ (h′ : Cursor) (r : SeriesTodo). SeriesEnd (now s) (made₈ r₁ r₂) h₂ h′ r) (by-ref W κ q (b, o) γ) h₂ κ₁ q₁ s P-SeriesSeen (made₈ r₁ r₂) (made₈-is r₁ r₂ is₁ is₂) fm (λ ν′ δ. known-end-of (((ν′ ∷ [], (κ₁, tt)), (fullShare, (q₁, tt)), tt, (ref-at (b, o) δ h₂, (s, ((made₈ r₁ r₂), tt))), (vptr b o ∷ [], (sv s ∷ [], (LL.val T-SeriesSeen.the-type L-SeriesSeen.the-laws (made₈ r₁ r₂) ∷ [], tt)))), tt)) (λ _ _ _. and-then ! (load ! (from ! (stop !)) (look ! 8 refl)) (and-then ! (load ! (from ! (stop !)) (look ! 30 refl)) (and-then ! (load ! (from ! (stop !)) (look ! 18 refl)) (no-more !)))) (λ h₃ r₃ is₃ e₃. land ! (from ! (stop !)) (init ! 34 refl (LL.lawful T-SeriesTodo.the-type L-SeriesTodo.the-laws 𝓤 H A W .typed r₃ _ is₃ .0)) $

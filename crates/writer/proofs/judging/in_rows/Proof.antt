@@ -7,8 +7,8 @@ use native.Mathlib.Nat.{sub-zero}
 use native.Mathlib.Omega.{arith}
 use borrow.Author.Tests.{not-true, not-false}
 use borrow.Author.Needs.{needs}
-use Rattle.writer.specs.WriterRows.{sixAt, behind}
-use Rattle.writer.specs.WriterSteps.{six-pair, behind-none, behind-not-six, behind-not-before, behind-next}
+use Rattle.writer.specs.Rows.{sixAt, behind}
+use Rattle.writer.specs.Steps.{six-pair, behind-none, behind-not-six, behind-not-before, behind-next}
 use borrow.Author.Needs.{needs}
 use native.Mathlib.Nat.{sub-zero}
 use native.Mathlib.Omega.{arith}

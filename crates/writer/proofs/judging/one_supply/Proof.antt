@@ -1,5 +1,5 @@
 -- The rule, kind by kind.
-use Rattle.writer.specs.WriterRows.{oneSupply}
+use Rattle.writer.specs.Rows.{oneSupply}
 use borrow.Author.Needs.{needs}
 use Rattle.writer.proofs.judging.one_supply.Statement.{statement}
 use Rattle.writer.proofs.judging.one_supply.Tie as tie

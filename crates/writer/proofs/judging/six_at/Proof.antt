@@ -1,5 +1,5 @@
 -- The tests of a row are those of the definition, one by one.
-use Rattle.writer.specs.WriterRows.{sixAt, isNumber, isPair, isObservation}
+use Rattle.writer.specs.Rows.{sixAt, isNumber, isPair, isObservation}
 use borrow.Author.Needs.{needs}
 use Rattle.writer.proofs.judging.six_at.Statement.{statement}
 use Rattle.writer.proofs.judging.six_at.Tie as tie

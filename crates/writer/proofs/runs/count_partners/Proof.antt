@@ -5,7 +5,7 @@ use lib.ListN.{length}
 use Rattle.message.specs.Keys.{numberKeys}
 use Rattle.message.specs.Group.{group}
 use Rattle.message.specs.Rows.{rowsFrom}
-use Rattle.writer.specs.WriterRunsLaws.{no-partners}
+use Rattle.writer.specs.RunsLaws.{no-partners}
 use borrow.Author.Needs.{needs}
 use native.Mathlib.Omega.{arith}
 use Rattle.writer.proofs.runs.count_partners.Statement.{statement}

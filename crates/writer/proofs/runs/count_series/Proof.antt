@@ -6,7 +6,7 @@ use lib.ListN.{length}
 use Rattle.message.specs.Keys.{pairKeys}
 use Rattle.message.specs.Group.{group}
 use Rattle.message.specs.Rows.{rowsFrom}
-use Rattle.writer.specs.WriterRunsLaws.{no-series}
+use Rattle.writer.specs.RunsLaws.{no-series}
 use borrow.Author.Needs.{needs}
 use native.Mathlib.Omega.{arith}
 use Rattle.writer.proofs.runs.count_series.Statement.{statement}

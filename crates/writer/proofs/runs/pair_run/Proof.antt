@@ -2,7 +2,7 @@
 use mathlib.Core.Path.{sym}
 use Prim.Native.Nat.{ℕ, _+_, _-_, _*_, _≤_}
 use lib.ListN.{getD}
-use Rattle.writer.specs.WriterRunsLaws.{OneKey, one-first, one-more, pair-run}
+use Rattle.writer.specs.RunsLaws.{OneKey, one-first, one-more, pair-run}
 use borrow.Author.Tests.{eq-eqb, ne-eqb}
 use borrow.Author.Needs.{needs}
 use native.Mathlib.Omega.{arith}

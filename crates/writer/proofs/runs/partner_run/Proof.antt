@@ -2,7 +2,7 @@
 use mathlib.Core.Path.{sym}
 use Prim.Native.Nat.{_-_, _≤_}
 use lib.ListN.{getD}
-use Rattle.writer.specs.WriterRunsLaws.{OneKey, one-first, one-more, partner-run}
+use Rattle.writer.specs.RunsLaws.{OneKey, one-first, one-more, partner-run}
 use borrow.Author.Tests.{ne-eqb}
 use borrow.Author.Needs.{needs}
 use native.Mathlib.Omega.{arith}

@@ -4,9 +4,9 @@ use Prim.Native.Nat.{_/_}
 use lib.ListN.{length}
 use borrow.Author.Needs.{needs}
 use Rattle.message.specs.Messages.{messageBytes}
-use Rattle.writer.specs.WriterContentsLaws.{partners-count, message-parts, rows-writable}
-use Rattle.writer.specs.WriterRows.{rowsMessage}
-use Rattle.writer.specs.WriterContents.{partnersIn}
+use Rattle.writer.specs.ContentsLaws.{partners-count, message-parts, rows-writable}
+use Rattle.writer.specs.Rows.{rowsMessage}
+use Rattle.writer.specs.Contents.{partnersIn}
 use Rattle.emitter.specs.Parts.{fileHead}
 use Rattle.emitter.specs.Laid.{laid-then, laid-is, laid-stands}
 use Rattle.writer.proofs.writing.emit_file.Statement.{statement}

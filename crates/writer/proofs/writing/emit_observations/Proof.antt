@@ -5,8 +5,8 @@ use lib.ListN.{length}
 use native.Mathlib.Omega.{arith}
 use borrow.Author.Needs.{needs}
 use Rattle.message.specs.Bytes.{observationBytes}
-use Rattle.writer.specs.WriterContents.{observationsIn}
-use Rattle.writer.specs.WriterContentsLaws.{observations-none, observations-step}
+use Rattle.writer.specs.Contents.{observationsIn}
+use Rattle.writer.specs.ContentsLaws.{observations-none, observations-step}
 use Rattle.emitter.specs.Laid.{Laying, laying-none, laying-then, laying-all}
 use Rattle.writer.proofs.writing.emit_observations.Statement.{statement}
 use Rattle.writer.proofs.writing.emit_observations.Tie as tie

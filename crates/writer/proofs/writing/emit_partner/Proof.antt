@@ -4,8 +4,8 @@ use Prim.Native.Nat.{ℕ}
 use lib.ListN.{length}
 use borrow.Author.Needs.{needs}
 use Rattle.message.specs.Bytes.{supplyOf, partnerBytes}
-use Rattle.writer.specs.WriterContentsLaws.{series-count, series-supply, writable-first}
-use Rattle.writer.specs.WriterContents.{partnerAt}
+use Rattle.writer.specs.ContentsLaws.{series-count, series-supply, writable-first}
+use Rattle.writer.specs.Contents.{partnerAt}
 use Rattle.emitter.specs.Parts.{partnerHead}
 use Rattle.emitter.specs.PartsLaws.{partner-parts}
 use Rattle.emitter.specs.Laid.{laid-then, laid-is, laid-stands}

@@ -4,8 +4,8 @@ use Prim.Native.Nat.{ℕ}
 use lib.ListN.{length}
 use borrow.Author.Needs.{needs}
 use Rattle.message.specs.Bytes.{seriesBytes}
-use Rattle.writer.specs.WriterContentsLaws.{writable-first, observations-length}
-use Rattle.writer.specs.WriterContents.{seriesAt}
+use Rattle.writer.specs.ContentsLaws.{writable-first, observations-length}
+use Rattle.writer.specs.Contents.{seriesAt}
 use Rattle.emitter.specs.Parts.{seriesHead}
 use Rattle.emitter.specs.PartsLaws.{series-parts}
 use Rattle.emitter.specs.Laid.{laid-then, laid-is, laid-stands}

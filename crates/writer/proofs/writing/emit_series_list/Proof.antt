@@ -5,8 +5,8 @@ use Prim.Native.Nat.{_+_, _-_, _*_}
 use native.Mathlib.Omega.{arith}
 use borrow.Author.Needs.{needs}
 use Rattle.message.specs.Bytes.{seriesBytes}
-use Rattle.writer.specs.WriterContents.{seriesIn, Writable}
-use Rattle.writer.specs.WriterContentsLaws.{series-none, series-step, writable-part}
+use Rattle.writer.specs.Contents.{seriesIn, Writable}
+use Rattle.writer.specs.ContentsLaws.{series-none, series-step, writable-part}
 use Rattle.emitter.specs.Laid.{Laying, laying-none, laying-then, laying-all}
 use Rattle.writer.proofs.writing.emit_series_list.Statement.{statement}
 use Rattle.writer.proofs.writing.emit_series_list.Tie as tie

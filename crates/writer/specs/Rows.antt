@@ -13,7 +13,7 @@ use Rattle.message.specs.Valid.{lastPosition}
 use Rattle.message.specs.ObservationForm.{isPeriod}
 use Rattle.message.specs.Keys.{numberKeys, pairKeys}
 use Rattle.message.specs.Rows.{Row, rowsIn, inSixes, Message}
-use Rattle.writer.specs.WriterOrder.{every, ordered, by, both}
+use Rattle.writer.specs.Order.{every, ordered, by, both}
 
 -- "Positions go up to 96 times the days of the month"; "above 0 and below 10^9" kilowatts
 unfoldable pub isObservation : ℕ → Observation → Bool

@@ -2,22 +2,22 @@
 use mathlib.Core.List.{List, map}
 use Prim.Native.Nat.{ℕ, _+_, _*_, _≤_, _<_}
 use lib.ListN.{length, getD}
-use Rattle.message.specs.Contents.{Observation, Series, Partner}
+use Rattle.message.specs.Contents.{Observation, TimeSeries, Partner}
 use Rattle.message.specs.Valid.{IsPeriod}
 use Rattle.message.specs.Keys.{pairKeys}
 use Rattle.message.specs.Group.{group}
 use Rattle.message.specs.Rows.{rowsFrom, seriesOf, partnersOf}
-use Rattle.writer.specs.WriterRows.{Paired}
+use Rattle.writer.specs.Rows.{Paired}
 
 unfoldable pub observationsIn : List ℕ → ℕ → ℕ → List Observation
 observationsIn l at n = map (λ r. r .1 .1) (rowsFrom l at n)
 
 -- rows of one pair of directions as a series of the month q
-abbrev pub seriesAt : ℕ × ℕ → List ℕ → ℕ → ℕ → Series
+abbrev pub seriesAt : ℕ × ℕ → List ℕ → ℕ → ℕ → TimeSeries
 seriesAt q l at n = record { supply = getD l (at + 1) 0; delivery = getD l (at + 2) 0; year = q .0; month = q .1; observations = observationsIn l at n }
 
 -- the series of rows of one partner
-unfoldable pub seriesIn : ℕ × ℕ → List ℕ → ℕ → ℕ → List Series
+unfoldable pub seriesIn : ℕ × ℕ → List ℕ → ℕ → ℕ → List TimeSeries
 seriesIn q l at n = map (seriesOf q) (group pairKeys (map (λ r. r .1) (rowsFrom l at n)))
 
 abbrev pub partnerAt : ℕ × ℕ → List ℕ → ℕ → ℕ → Partner

@@ -17,12 +17,12 @@ use Rattle.message.specs.Keys.{numberKeys, pairKeys}
 use Rattle.message.specs.Group.{group, first-group}
 use Rattle.message.specs.Rows.{rowsFrom, rowsIn, inSixes, seriesOf, partnerOf, partnersOf, contents}
 use Rattle.message.specs.Messages.{messageBytes}
-use Rattle.writer.specs.WriterOrder.{every, ordered}
-use Rattle.writer.specs.WriterRows.{isObservation, isPair, isNumber, isRow, rowBefore, ofMonth, isRows, rowsMessage, rowAt, Paired}
-use Rattle.writer.specs.WriterRuns.{PartnerRun, PairRun}
+use Rattle.writer.specs.Order.{every, ordered}
+use Rattle.writer.specs.Rows.{isObservation, isPair, isNumber, isRow, rowBefore, ofMonth, isRows, rowsMessage, rowAt, Paired}
+use Rattle.writer.specs.Runs.{PartnerRun, PairRun}
 use Rattle.emitter.specs.Parts.{fileHead, fileEnd}
 use Rattle.emitter.specs.PartsLaws.{file-parts}
-use Rattle.writer.specs.WriterContents.{observationsIn, seriesAt, seriesIn, partnerAt, partnersIn, Writable}
+use Rattle.writer.specs.Contents.{observationsIn, seriesAt, seriesIn, partnerAt, partnersIn, Writable}
 
 -- ---- observations
 

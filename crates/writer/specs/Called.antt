@@ -12,7 +12,7 @@ use Rattle.message.specs.Valid.{isMoment}
 use Rattle.message.specs.Messages.{messageBytes}
 use Rattle.message.specs.Calls.{over, kindNumber}
 use Rattle.message.specs.CallsLaws.{kind-numbered}
-use Rattle.writer.specs.WriterRows.{isRows, rowsMessage}
+use Rattle.writer.specs.Rows.{isRows, rowsMessage}
 use Rattle.emitter.specs.Laid.{Laid, laid-over, laid-no-room}
 use Rattle.writer.specs.WriteCalls.{WriteCalled}
 use Rattle.writer.specs.WriteCallsLaws.{wrote-short, wrote-file}

@@ -13,9 +13,9 @@ use Rattle.message.specs.Contents.{Observation}
 use Rattle.message.specs.Valid.{lastPosition}
 use Rattle.message.specs.ObservationForm.{isPeriod}
 use Rattle.message.specs.Rows.{rowsFrom, rowsIn, zeros, inSixes}
-use Rattle.writer.specs.WriterOrder.{every, follow, ordered}
-use Rattle.writer.specs.WriterRows.{isObservation, isPair, isNumber, isRow, later, laterPair, pairBefore, rowBefore, ofMonth, isRows, rowAt, sixAt, behind, Paired}
-use Rattle.writer.specs.WriterRowsLaws.{rows-behind}
+use Rattle.writer.specs.Order.{every, follow, ordered}
+use Rattle.writer.specs.Rows.{isObservation, isPair, isNumber, isRow, later, laterPair, pairBefore, rowBefore, ofMonth, isRows, rowAt, sixAt, behind, Paired}
+use Rattle.writer.specs.RowsLaws.{rows-behind}
 
 -- ---- two rows
 

@@ -12,7 +12,7 @@ use Rattle.integers.specs.Rises.{rises}
 use Rattle.integers.specs.All.{All, all-map, all-of, all-append, all-both, all-of-map, map-all}
 use Rattle.kinds.specs.declared.Kind.{Kind}
 use Rattle.kinds.specs.declared.Kind.the-variants.{Toe01, Toe02, Toe03}
-use Rattle.message.specs.Contents.{Observation, Series, Partner, position, place, number}
+use Rattle.message.specs.Contents.{Observation, TimeSeries, Partner, position, place, number}
 use Rattle.message.specs.Bytes.{digits, supplyOf}
 use Rattle.message.specs.Valid.{most, lastPosition, IsObservation, IsPeriod, IsSeries, OneSupply, IsPartner, isMoment, monthOf, periods, firstOf}
 use Rattle.message.specs.SeriesForm.{position-small}
@@ -22,8 +22,8 @@ use Rattle.message.specs.Group.{Keys, group, first-group}
 use Rattle.message.specs.Rows.{Row, rowsFrom, rowsIn, zeros, inSixes, seriesOf, partnerOf, partnersOf, Message, contents, IsMessage}
 use Rattle.message.specs.RowsLaws.{first-month}
 use Rattle.moments.specs.Ids.{isTransactionId}
-use Rattle.writer.specs.WriterOrder.{every, follow, ordered, by, both, keysOf, inOrder, order-groups, every-group, full-groups, every-all, all-every, ordered-map, ordered-both, rises-follow, rises-few}
-use Rattle.writer.specs.WriterRows.{isObservation, isPair, isNumber, oneSupply, laterPair, later, isRow, rowBefore, ofMonth, isRows, rowsMessage, rowAt, sixAt, behind}
+use Rattle.writer.specs.Order.{every, follow, ordered, by, both, keysOf, inOrder, order-groups, every-group, full-groups, every-all, all-every, ordered-map, ordered-both, rises-follow, rises-few}
+use Rattle.writer.specs.Rows.{isObservation, isPair, isNumber, oneSupply, laterPair, later, isRow, rowBefore, ofMonth, isRows, rowsMessage, rowAt, sixAt, behind}
 
 -- ---- observations
 
@@ -129,7 +129,7 @@ module _ (q : ℕ × ℕ) where
 -- ---- partners
 
 module _ (q : ℕ × ℕ) where
-  same-to : (a : ℕ × ℕ) (l : List ((ℕ × ℕ) × List Observation)) → follow (λ (b c : ℕ × ℕ). eqb (b .0) (c .0)) a (keysOf l) ≡ true → All (λ (s : Series). s .supply ≡ a .0) (map (seriesOf q) l)
+  same-to : (a : ℕ × ℕ) (l : List ((ℕ × ℕ) × List Observation)) → follow (λ (b c : ℕ × ℕ). eqb (b .0) (c .0)) a (keysOf l) ≡ true → All (λ (s : TimeSeries). s .supply ≡ a .0) (map (seriesOf q) l)
   unfolding follow All
   same-to a [] e = tt
   same-to a (g ∷ l) e =
@@ -137,7 +137,7 @@ module _ (q : ℕ × ℕ) where
       let r = same-to (g .0) l (and-right (eqb (a .0) (g .0 .0)) (follow (λ (b c : ℕ × ℕ). eqb (b .0) (c .0)) (g .0) (keysOf l)) e) in
       (sym f, all-map (λ s h. h ∙ sym f) (map (seriesOf q) l) r)
 
-  same-from : (a : ℕ × ℕ) (l : List ((ℕ × ℕ) × List Observation)) → All (λ (s : Series). s .supply ≡ a .0) (map (seriesOf q) l) → follow (λ (b c : ℕ × ℕ). eqb (b .0) (c .0)) a (keysOf l) ≡ true
+  same-from : (a : ℕ × ℕ) (l : List ((ℕ × ℕ) × List Observation)) → All (λ (s : TimeSeries). s .supply ≡ a .0) (map (seriesOf q) l) → follow (λ (b c : ℕ × ℕ). eqb (b .0) (c .0)) a (keysOf l) ≡ true
   unfolding follow All
   same-from a [] v = refl
   same-from a (g ∷ l) v =
@@ -230,7 +230,7 @@ module _ (k : Kind) (q : ℕ × ℕ) where
         and-both (ordered-both pairRising (pairOne k) (keysOf gs) ∙ and-both up (one-from q k gs s)) (all-every (λ (g : (ℕ × ℕ) × List Observation). ordered later (g .1)) (λ g h. h .1) gs each),
       )
 
-  few-series : (l : List Series) → All IsSeries l → rises 0 (map place l) ≡ true → length l ≤ 4
+  few-series : (l : List TimeSeries) → All IsSeries l → rises 0 (map place l) ≡ true → length l ≤ 4
   few-series l v r =
       omega (arith, length-map l place, rises-few 0 4 (map place l) (omega arith) r (all-of-map (λ n. n < 4) place l (all-map (λ s h. omega (arith, h .supply, h .volume .delivery)) l v)))
 
