@@ -1,4 +1,5 @@
 // The parts of a file, laid behind each other.
+use crate::Title;
 use crate::laying::lay;
 use crate::laying::lay_fixed;
 use crate::laying::lay_plain;
@@ -94,17 +95,9 @@ fn emit_delivery(out: &mut [u8], m: Mark, delivery: u64, live: bool) -> Mark
 }
 
 // A time series from its delivery direction up to its observations, of which there are n.
-fn emit_head(
-    out: &mut [u8],
-    m: Mark,
-    delivery: u64,
-    n: u64,
-    year: u64,
-    month: u64,
-    live: bool,
-) -> Mark
-    requires { ⌜ (delivery < 2) × IsPeriod year month ⌝ }
-    ensures { λ r. ⌜ Laid live (now (out .entry)) m (headBytes delivery n year month) (now (out .exit)) r ⌝ }
+fn emit_head(out: &mut [u8], m: Mark, title: Title, delivery: u64, n: u64, live: bool) -> Mark
+    requires { ⌜ (delivery < 2) × IsPeriod (title .year) (title .month) ⌝ }
+    ensures { λ r. ⌜ Laid live (now (out .entry)) m (headBytes delivery n (title .year) (title .month)) (now (out .exit)) r ⌝ }
 {
     let a = emit_delivery(out, m, delivery, live);
     let b = lay(
@@ -115,7 +108,7 @@ fn emit_head(
     );
     let c = lay_plain(out, b, n, live);
     let d = lay(out, c, b"</ObservationCounter><TimeSeriesPeriod>", live);
-    emit_period(out, d, year, month, live)
+    emit_period(out, d, title.year, title.month, live)
 }
 
 // The start of a time series, with its supply direction where it stands there.
@@ -135,19 +128,18 @@ fn emit_series_start(out: &mut [u8], m: Mark, kind: Kind, supply: u64, live: boo
 pub fn emit_series_head(
     out: &mut [u8],
     m: Mark,
-    kind: Kind,
+    title: Title,
     supply: u64,
     delivery: u64,
     n: u64,
-    year: u64,
-    month: u64,
     live: bool,
 ) -> Mark
-    requires { ⌜ (supply < 2) × (delivery < 2) × IsPeriod year month ⌝ }
-    ensures { λ r. ⌜ Laid live (now (out .entry)) m (seriesHead kind supply delivery n year month) (now (out .exit)) r ⌝ }
+    requires { ⌜ (supply < 2) × (delivery < 2) × IsPeriod (title .year) (title .month) ⌝ }
+    ensures { λ r. ⌜ Laid live (now (out .entry)) m (seriesHead (title .kind) supply delivery n (title .year) (title .month)) (now (out .exit)) r ⌝ }
 {
+    let kind = title.kind;
     let a = emit_series_start(out, m, kind, supply, live);
-    emit_head(out, a, delivery, n, year, month, live)
+    emit_head(out, a, title, delivery, n, live)
 }
 
 // What stands behind a time series' observations.

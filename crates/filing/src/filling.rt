@@ -7,7 +7,7 @@ use sheets::cells::month_quarters;
 use volumes::Series;
 ghost use mathlib.Core.Path.{_≡_};
 ghost use mathlib.Core.List.{_∷_, []};
-ghost use Prim.Native.Nat.{_+_, _*_, _≤_, _<_};
+ghost use Prim.Native.Nat.{_+_, _*_, _≤_};
 ghost use lib.ListN.{length};
 ghost use Rattle.book.specs.Book.{bookOf};
 ghost use Rattle.message.specs.ObservationForm.{observed};

@@ -2,6 +2,7 @@
 use crate::filling::fill_partner;
 use crate::partners::NO_PARTNER;
 use crate::partners::next_partner;
+use emitter::Title;
 use emitter::parts::emit_file_end;
 use emitter::parts::emit_file_head;
 use formats::Mark;
@@ -53,7 +54,13 @@ pub fn emit_partner(
     let c = book::header::calendar_of(book);
     let end = fill_partner(book, volumes, role, partner, rows);
     let kind = role.kind;
-    let mark = writer::writing::emit_partners(out, m, kind, rows, end / 6, c.year, c.month, live);
+    let title = Title {
+        kind,
+        receiver: role.receiver,
+        year: c.year,
+        month: c.month,
+    };
+    let mark = writer::writing::emit_partners(out, m, title, rows, end / 6, live);
     let count = one(end);
     Counted { mark, count }
 }

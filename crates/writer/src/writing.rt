@@ -4,6 +4,7 @@ use crate::runs::count_partners;
 use crate::runs::count_series;
 use crate::runs::pair_run;
 use crate::runs::partner_run;
+use emitter::Title;
 use emitter::parts::emit_file_end;
 use emitter::parts::emit_file_head;
 use emitter::parts::emit_observation;
@@ -50,21 +51,19 @@ fn emit_observations(out: &mut [u8], m: Mark, rows: &[u64], at: usize, n: usize,
 fn emit_series(
     out: &mut [u8],
     m: Mark,
-    kind: Kind,
+    title: Title,
     rows: &[u64],
     at: usize,
     n: usize,
-    year: u64,
-    month: u64,
     live: bool,
 ) -> Mark
-    requires { ⌜ (1 ≤ n) × Writable (now rows) at n year month ⌝ }
-    ensures { λ r. ⌜ Laid live (now (out .entry)) m (seriesBytes kind (seriesAt (year, month) (now (rows .entry)) at n)) (now (out .exit)) r ⌝ }
+    requires { ⌜ (1 ≤ n) × Writable (now rows) at n (title .year) (title .month) ⌝ }
+    ensures { λ r. ⌜ Laid live (now (out .entry)) m (seriesBytes (title .kind) (seriesAt (title .year, title .month) (now (rows .entry)) at n)) (now (out .exit)) r ⌝ }
 {
     let supply = rows[at + 1];
     let delivery = rows[at + 2];
     let count = n as u64;
-    let a = emit_series_head(out, m, kind, supply, delivery, count, year, month, live);
+    let a = emit_series_head(out, m, title, supply, delivery, count, live);
     let b = emit_observations(out, a, rows, at, n, live);
     emit_series_end(out, b, live)
 }
@@ -73,23 +72,21 @@ fn emit_series(
 fn emit_series_list(
     out: &mut [u8],
     m: Mark,
-    kind: Kind,
+    title: Title,
     rows: &[u64],
     at: usize,
     n: usize,
-    year: u64,
-    month: u64,
     live: bool,
 ) -> Mark
-    requires { ⌜ Writable (now rows) at n year month × Stands (length (now out)) m ⌝ }
-    ensures { λ r. ⌜ Laid live (now (out .entry)) m (flatMap (seriesBytes kind) (seriesIn (year, month) (now (rows .entry)) at n)) (now (out .exit)) r ⌝ }
+    requires { ⌜ Writable (now rows) at n (title .year) (title .month) × Stands (length (now out)) m ⌝ }
+    ensures { λ r. ⌜ Laid live (now (out .entry)) m (flatMap (seriesBytes (title .kind)) (seriesIn (title .year, title .month) (now (rows .entry)) at n)) (now (out .exit)) r ⌝ }
 {
     let mut a = m;
     let mut next = at;
     let mut left = n;
     while 0 < left {
         let run = pair_run(rows, next, left);
-        a = emit_series(out, a, kind, rows, next, run, year, month, live);
+        a = emit_series(out, a, title, rows, next, run, live);
         next += 6 * run;
         left -= run;
     }
@@ -100,22 +97,21 @@ fn emit_series_list(
 fn emit_partner(
     out: &mut [u8],
     m: Mark,
-    kind: Kind,
+    title: Title,
     rows: &[u64],
     at: usize,
     n: usize,
-    year: u64,
-    month: u64,
     live: bool,
 ) -> Mark
-    requires { ⌜ (1 ≤ n) × Writable (now rows) at n year month ⌝ }
-    ensures { λ r. ⌜ Laid live (now (out .entry)) m (partnerBytes kind (partnerAt (year, month) (now (rows .entry)) at n)) (now (out .exit)) r ⌝ }
+    requires { ⌜ (1 ≤ n) × Writable (now rows) at n (title .year) (title .month) ⌝ }
+    ensures { λ r. ⌜ Laid live (now (out .entry)) m (partnerBytes (title .kind) (partnerAt (title .year, title .month) (now (rows .entry)) at n)) (now (out .exit)) r ⌝ }
 {
+    let kind = title.kind;
     let number = rows[at];
     let supply = rows[at + 1];
     let count = count_series(rows, at, n) as u64;
     let a = emit_partner_head(out, m, kind, number, supply, count, live);
-    let b = emit_series_list(out, a, kind, rows, at, n, year, month, live);
+    let b = emit_series_list(out, a, title, rows, at, n, live);
     emit_partner_end(out, b, kind, live)
 }
 
@@ -123,22 +119,20 @@ fn emit_partner(
 pub fn emit_partners(
     out: &mut [u8],
     m: Mark,
-    kind: Kind,
+    title: Title,
     rows: &[u64],
     n: usize,
-    year: u64,
-    month: u64,
     live: bool,
 ) -> Mark
-    requires { ⌜ Writable (now rows) 0 n year month × Stands (length (now out)) m ⌝ }
-    ensures { λ r. ⌜ Laid live (now (out .entry)) m (flatMap (partnerBytes kind) (partnersIn (year, month) (now (rows .entry)) 0 n)) (now (out .exit)) r ⌝ }
+    requires { ⌜ Writable (now rows) 0 n (title .year) (title .month) × Stands (length (now out)) m ⌝ }
+    ensures { λ r. ⌜ Laid live (now (out .entry)) m (flatMap (partnerBytes (title .kind)) (partnersIn (title .year, title .month) (now (rows .entry)) 0 n)) (now (out .exit)) r ⌝ }
 {
     let mut a = m;
     let mut next = 0;
     let mut left = n;
     while 0 < left {
         let run = partner_run(rows, next, left);
-        a = emit_partner(out, a, kind, rows, next, run, year, month, live);
+        a = emit_partner(out, a, title, rows, next, run, live);
         next += 6 * run;
         left -= run;
     }
@@ -149,22 +143,20 @@ pub fn emit_partners(
 fn emit_file(
     out: &mut [u8],
     m: Mark,
-    kind: Kind,
-    receiver: u64,
-    year: u64,
-    month: u64,
+    title: Title,
     rows: &[u64],
     id: &[u8],
     moment: &[u8],
     live: bool,
 ) -> Mark
-    requires { ⌜ isRows kind receiver year month (now rows) ≡ true ⌝ }
-    ensures { λ r. ⌜ Laid live (now (out .entry)) m (messageBytes (rowsMessage kind receiver year month (now (rows .entry)) (now (id .entry)) (now (moment .entry)))) (now (out .exit)) r ⌝ }
+    requires { ⌜ isRows (title .kind) (title .receiver) (title .year) (title .month) (now rows) ≡ true ⌝ }
+    ensures { λ r. ⌜ Laid live (now (out .entry)) m (messageBytes (rowsMessage (title .kind) (title .receiver) (title .year) (title .month) (now (rows .entry)) (now (id .entry)) (now (moment .entry)))) (now (out .exit)) r ⌝ }
 {
+    let kind = title.kind;
     let n = rows.len() / 6;
     let count = count_partners(rows, n) as u64;
-    let a = emit_file_head(out, m, kind, id, moment, receiver, count, live);
-    let b = emit_partners(out, a, kind, rows, n, year, month, live);
+    let a = emit_file_head(out, m, kind, id, moment, title.receiver, count, live);
+    let b = emit_partners(out, a, title, rows, n, live);
     emit_file_end(out, b, kind, live)
 }
 
@@ -183,47 +175,16 @@ pub fn in_form(id: &[u8], moment: &[u8]) -> bool
 }
 
 // Writes the file of rows, where it has room: measured first, then written.
-fn write_file(
-    kind: Kind,
-    receiver: u64,
-    year: u64,
-    month: u64,
-    rows: &[u64],
-    id: &[u8],
-    moment: &[u8],
-    file: &mut [u8],
-) -> WriteAnswer
-    requires { ⌜ (isRows kind receiver year month (now rows) ≡ true) × ((isTransactionId (now id) && isMoment (now moment)) ≡ true) ⌝ }
-    ensures { λ r. ⌜ WriteCalled (kindNumber kind) receiver year month (now (rows .entry)) (now (id .entry)) (now (moment .entry)) (now (file .entry)) (now (file .exit)) r ⌝ }
+fn write_file(title: Title, rows: &[u64], id: &[u8], moment: &[u8], file: &mut [u8]) -> WriteAnswer
+    requires { ⌜ (isRows (title .kind) (title .receiver) (title .year) (title .month) (now rows) ≡ true) × ((isTransactionId (now id) && isMoment (now moment)) ≡ true) ⌝ }
+    ensures { λ r. ⌜ WriteCalled (kindNumber (title .kind)) (title .receiver) (title .year) (title .month) (now (rows .entry)) (now (id .entry)) (now (moment .entry)) (now (file .entry)) (now (file .exit)) r ⌝ }
 {
     let start = Mark::At(0);
-    let end = emit_file(
-        file,
-        start,
-        kind,
-        receiver,
-        year,
-        month,
-        rows,
-        id,
-        moment,
-        false,
-    );
+    let end = emit_file(file, start, title, rows, id, moment, false);
     let Mark::At(count) = end else {
         return WriteAnswer::Refused(10, 1);
     };
-    emit_file(
-        file,
-        start,
-        kind,
-        receiver,
-        year,
-        month,
-        rows,
-        id,
-        moment,
-        true,
-    );
+    emit_file(file, start, title, rows, id, moment, true);
     WriteAnswer::Bytes(count)
 }
 
@@ -246,7 +207,13 @@ fn write_kind(
     if !in_form(id, moment) {
         return WriteAnswer::Refused(12, 0);
     }
-    write_file(kind, receiver, year, month, rows, id, moment, file)
+    let title = Title {
+        kind,
+        receiver,
+        year,
+        month,
+    };
+    write_file(title, rows, id, moment, file)
 }
 
 // Writes a file from rows: kind 1 to 3, receiver, year, month, six numbers a row, ID and moment.

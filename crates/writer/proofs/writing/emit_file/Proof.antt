@@ -22,7 +22,7 @@ emit-partners-requires : tie.Need-emit-partners-requires
 emit-partners-requires c κs =
     let s = c .before .before .before .before .before .before .before .before .before .before in
     let a = s .args in
-    (rows-writable (a .kind) (a .receiver) (a .year) (a .month) (a .rows .now) (s .pre), laid-stands (c .before .before .before .emit-file-head .ensures))
+    (rows-writable (a .title .kind) (a .title .receiver) (a .title .year) (a .title .month) (a .rows .now) (s .pre), laid-stands (c .before .before .before .emit-file-head .ensures))
 
 emit-file-end-requires : tie.Need-emit-file-end-requires
 emit-file-end-requires c κs = search needs
@@ -37,12 +37,12 @@ returns c =
     let p1 = p2 .before .before .before .before in
     let a = p1 .before .before .before .before .before .before .before .args in
     let n = length (a .rows .now) / 6 in
-    let count = p1 .before .before .count-partners .ensures ∙ sym (partners-count (a .year, a .month) (a .rows .now) 0 n) in
+    let count = p1 .before .before .count-partners .ensures ∙ sym (partners-count (a .title .year, a .title .month) (a .rows .now) 0 n) in
     let head =
-    laid-is (fileHead (a .kind) (a .id .now) (a .moment .now) (a .receiver) (length (partnersIn (a .year, a .month) (a .rows .now) 0 n)))
-    (ap (fileHead (a .kind) (a .id .now) (a .moment .now) (a .receiver)) count) (p1 .emit-file-head .ensures) in
-    laid-is (messageBytes (rowsMessage (a .kind) (a .receiver) (a .year) (a .month) (a .rows .now) (a .id .now) (a .moment .now)))
-    (message-parts (a .kind) (a .receiver) (a .year) (a .month) (a .rows .now) (a .id .now) (a .moment .now))
+    laid-is (fileHead (a .title .kind) (a .id .now) (a .moment .now) (a .title .receiver) (length (partnersIn (a .title .year, a .title .month) (a .rows .now) 0 n)))
+    (ap (fileHead (a .title .kind) (a .id .now) (a .moment .now) (a .title .receiver)) count) (p1 .emit-file-head .ensures) in
+    laid-is (messageBytes (rowsMessage (a .title .kind) (a .title .receiver) (a .title .year) (a .title .month) (a .rows .now) (a .id .now) (a .moment .now)))
+    (message-parts (a .title .kind) (a .title .receiver) (a .title .year) (a .title .month) (a .rows .now) (a .id .now) (a .moment .now))
     (laid-then (laid-then head (p2 .emit-partners .ensures)) (p3 .emit-file-end .ensures))
 
 pub emit-file-spec : {M : Type 1} → statement M

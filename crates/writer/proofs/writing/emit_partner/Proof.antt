@@ -49,13 +49,13 @@ returns c =
     let p1 = p2 .before .before .before .before in
     let s = p1 .before .before .before .before .before .before .before in
     let a = s .args in
-    let p = partnerAt (a .year, a .month) (a .rows .now) (a .at) (a .n) in
-    let supply = series-supply (a .year, a .month) (a .rows .now) (a .at) (a .n) (s .pre .0) in
-    let count = p1 .before .before .count-series .ensures ∙ sym (series-count (a .year, a .month) (a .rows .now) (a .at) (a .n)) in
+    let p = partnerAt (a .title .year, a .title .month) (a .rows .now) (a .at) (a .n) in
+    let supply = series-supply (a .title .year, a .title .month) (a .rows .now) (a .at) (a .n) (s .pre .0) in
+    let count = p1 .before .before .count-series .ensures ∙ sym (series-count (a .title .year, a .title .month) (a .rows .now) (a .at) (a .n)) in
     let head =
-    laid-is (partnerHead (a .kind) (p .number) (supplyOf (p .series)) (length (p .series))) (ap₂ (λ (d : ℕ) (n : ℕ). partnerHead (a .kind) (p .number) d n) (sym supply) count)
+    laid-is (partnerHead (a .title .kind) (p .number) (supplyOf (p .series)) (length (p .series))) (ap₂ (λ (d : ℕ) (n : ℕ). partnerHead (a .title .kind) (p .number) d n) (sym supply) count)
     (p1 .emit-partner-head .ensures) in
-    laid-is (partnerBytes (a .kind) p) (partner-parts (a .kind) p) (laid-then (laid-then head (p2 .emit-series-list .ensures)) (p3 .emit-partner-end .ensures))
+    laid-is (partnerBytes (a .title .kind) p) (partner-parts (a .title .kind) p) (laid-then (laid-then head (p2 .emit-series-list .ensures)) (p3 .emit-partner-end .ensures))
 
 pub emit-partner-spec : {M : Type 1} → statement M
 emit-partner-spec =

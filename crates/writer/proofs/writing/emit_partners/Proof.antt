@@ -12,11 +12,11 @@ use Rattle.writer.proofs.writing.emit_partners.Statement.{statement}
 use Rattle.writer.proofs.writing.emit_partners.Tie as tie
 
 abbrev Inv-loop : tie.InvT-loop
-Inv-loop out₀ kind rows n year month live a₀ next₀ left₀ out a next left =
-    Writable rows next left year month × Laying live out₀ a₀ (flatMap (partnerBytes kind) (partnersIn (year, month) rows 0 n)) (flatMap (partnerBytes kind) (partnersIn (year, month) rows next left)) out a
+Inv-loop out₀ title rows n live a₀ next₀ left₀ out a next left =
+    Writable rows next left (title .year) (title .month) × Laying live out₀ a₀ (flatMap (partnerBytes (title .kind)) (partnersIn (title .year, title .month) rows 0 n)) (flatMap (partnerBytes (title .kind)) (partnersIn (title .year, title .month) rows next left)) out a
 
 abbrev μ-loop : tie.MeasureT-loop
-μ-loop out₀ kind rows n year month live a₀ next₀ left₀ out a next left = left
+μ-loop out₀ title rows n live a₀ next₀ left₀ out a next left = left
 
 loop-holds : tie.Need-loop-holds Inv-loop μ-loop
 loop-holds c = let s = c .before .before in (s .pre .0, laying-none _ _ _ _ (s .pre .1))
@@ -48,8 +48,8 @@ loop-again c =
     let r = c .before .before .before .before .partner-run in
     let a = c .before .before .before .before .before .before .before .before .before .args in (
       writable-part (l .inv .0) (l .next + 6 * r .result) (r .result) (l .left - r .result) refl (omega (arith, r .ensures .within)),
-      laying-then (flatMap (partnerBytes (a .kind)) (partnersIn (a .year, a .month) (a .rows .now) (l .next + 6 * r .result) (l .left - r .result))) (l .inv .1) (c .before .before .emit-partner .ensures)
-          (partners-step (a .kind) (a .year, a .month) (a .rows .now) (l .next) (l .left) (r .result) (r .ensures)),
+      laying-then (flatMap (partnerBytes (a .title .kind)) (partnersIn (a .title .year, a .title .month) (a .rows .now) (l .next + 6 * r .result) (l .left - r .result))) (l .inv .1) (c .before .before .emit-partner .ensures)
+          (partners-step (a .title .kind) (a .title .year, a .title .month) (a .rows .now) (l .next) (l .left) (r .result) (r .ensures)),
     )
 
 same-length : tie.Need-same-length Inv-loop μ-loop
@@ -59,7 +59,7 @@ returns : tie.Need-returns Inv-loop μ-loop
 returns c =
     let l = c .before .loop in
     let a = c .before .before .before .before .args in
-    laying-all (l .inv .1) (partners-none (a .kind) (a .year, a .month) (a .rows .now) (l .next) (l .left) (omega arith))
+    laying-all (l .inv .1) (partners-none (a .title .kind) (a .title .year, a .title .month) (a .rows .now) (l .next) (l .left) (omega arith))
 
 pub emit-partners-spec : {M : Type 1} → statement M
 emit-partners-spec =

@@ -51,10 +51,10 @@ returns c =
     let p2 = p3 .before .before .before .before in
     let p1 = p2 .before .before .before .before in
     let a = p1 .before .before .before .before .before .before .args in
-    let s = seriesAt (a .year, a .month) (a .rows .now) (a .at) (a .n) in
-    let count = ap (λ (n : ℕ). seriesHead (a .kind) (s .supply) (s .delivery) n (a .year) (a .month)) (sym (observations-length (a .rows .now) (a .at) (a .n))) in
-    let head = laid-is (seriesHead (a .kind) (s .supply) (s .delivery) (length (s .observations)) (a .year) (a .month)) count (p1 .emit-series-head .ensures) in
-    laid-is (seriesBytes (a .kind) s) (series-parts (a .kind) s) (laid-then (laid-then head (p2 .emit-observations .ensures)) (p3 .emit-series-end .ensures))
+    let s = seriesAt (a .title .year, a .title .month) (a .rows .now) (a .at) (a .n) in
+    let count = ap (λ (n : ℕ). seriesHead (a .title .kind) (s .supply) (s .delivery) n (a .title .year) (a .title .month)) (sym (observations-length (a .rows .now) (a .at) (a .n))) in
+    let head = laid-is (seriesHead (a .title .kind) (s .supply) (s .delivery) (length (s .observations)) (a .title .year) (a .title .month)) count (p1 .emit-series-head .ensures) in
+    laid-is (seriesBytes (a .title .kind) s) (series-parts (a .title .kind) s) (laid-then (laid-then head (p2 .emit-observations .ensures)) (p3 .emit-series-end .ensures))
 
 pub emit-series-spec : {M : Type 1} → statement M
 emit-series-spec =

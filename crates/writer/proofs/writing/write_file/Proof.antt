@@ -20,7 +20,7 @@ returns : tie.Need-returns
 returns c =
     let s = c .before .before .before .before .before .before .before .before .before .before in
     let a = s .args in
-    called-short (a .kind) (a .receiver) (a .year) (a .month) (a .rows .now) (a .id .now) (a .moment .now) (a .file .now) (s .pre .0) (s .pre .1) (c .enum-told .given .1) (c .before .before .before .before .emit-file .ensures)
+    called-short (a .title .kind) (a .title .receiver) (a .title .year) (a .title .month) (a .rows .now) (a .id .now) (a .moment .now) (a .file .now) (s .pre .0) (s .pre .1) (c .enum-told .given .1) (c .before .before .before .before .emit-file .ensures)
 
 emit-file-requires-2 : tie.Need-emit-file-requires-2
 emit-file-requires-2 c κs = search needs
@@ -32,7 +32,7 @@ returns-2 : tie.Need-returns-2
 returns-2 c =
     let s = c .before .before .before .before .before .before .before .before .before .before .before .before .before .before .before in
     let a = s .args in
-    called-file (a .kind) (a .receiver) (a .year) (a .month) (a .rows .now) (a .id .now) (a .moment .now) (a .file .now) (s .pre .0) (s .pre .1) _ (c .before .before .before .before .before .end .given .1) (c .before .before .before .before .before .before .before .before .before .emit-file .ensures) (c .before .before .emit-file2 .ensures)
+    called-file (a .title .kind) (a .title .receiver) (a .title .year) (a .title .month) (a .rows .now) (a .id .now) (a .moment .now) (a .file .now) (s .pre .0) (s .pre .1) _ (c .before .before .before .before .before .end .given .1) (c .before .before .before .before .before .before .before .before .before .emit-file .ensures) (c .before .before .emit-file2 .ensures)
 
 pub write-file-spec : {M : Type 1} → statement M
 write-file-spec =
