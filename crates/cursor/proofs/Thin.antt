@@ -1,8 +1,8 @@
--- The rules for a thin function, which passes the cursor that it was lent by value to a covered function `f` and stores what comes back:
+-- The rule for a thin function, which passes the cursor that it was lent by value to a covered function `f` and stores what comes back:
 --     gives            g(c: &mut Cursor, s: &[u8], x: X) -> D   { let r = f(*c, s, x); *c = r.to; r.found }
 -- The borrow is opened, the cursor is copied out, what `f` returns is stored in the cell, and the borrow is closed there. The contracts of `f` and g are any relations,
 -- of which the first gives the second. Assumes `Given`.
-use Rattle.cursor.proofs.Walk.{ℕ, GName, Lft, Share, ftrue, fat, flft, fobs, fbor, SProp, ent, emp, via, fst∗, snd∗, exE, id⊢, Fun, fact, u8, yes, Is, shows, mem, owns, RattleType, RefT, MutRef, ptr-vals, mut-tells, now, plain, ShrSlice, slice-vals, shr-slice-tells, only, opens, closes, owned, peeks, heard, nothing, spelt, calls-at, ensured, lasts, onEntry, Meets, tripleOf, Contract, Triple, says, Stays, stay-ref, walkOf, goes-ref, ends-at, walked, walk-meets, stay-dropped, goes-dropped, Atoms, sem, fullShare, URA, [], _∷_, List, _≡_, refl, ap, named, w8, w64, Val, vptr, Heap, Calls, Loops, WpFn, Tables, FmC, fmOf, WpFn-mono, Given, ‵, raw, _⊛_, some, later, ⋆, _$_, _∵_, !, qed, by, move, keep, drop, use1, split, join, pick, rewrite, fsplit, fsplit3, fjoin, fjoin3, feqI, suffices, frame, await, done, group, whole, sub, look-in, look, look-raw, store-raw, init, forget, stop, hop, fld, from, load, of-opd, and-then, no-more, assigns, land, returns, enter, alloc1, alloc0, params1, pass1, pass0, free1, free0, Body}
+use Rattle.cursor.proofs.Walk.{ℕ, GName, Lft, Share, ftrue, fat, flft, fobs, fbor, SProp, ent, emp, via, fst∗, snd∗, exE, id⊢, fact, u8, yes, Is, shows, mem, owns, RattleType, RefT, MutRef, ptr-vals, mut-tells, now, plain, ShrSlice, slice-vals, shr-slice-tells, only, opens, closes, owned, peeks, heard, nothing, spelt, calls-at, ensured, lasts, onEntry, Meets, tripleOf, Contract, Triple, says, Stays, stay-ref, walkOf, goes-ref, ends-at, walked, walk-meets, stay-dropped, goes-dropped, Atoms, sem, fullShare, URA, [], _∷_, List, _≡_, refl, ap, named, w8, w64, Val, vptr, Heap, Calls, Loops, WpFn, Tables, FmC, fmOf, WpFn-mono, Given, ‵, raw, _⊛_, some, later, ⋆, _$_, _∵_, !, qed, by, move, keep, drop, use1, split, join, pick, rewrite, fsplit, fsplit3, fjoin, fjoin3, feqI, suffices, frame, await, done, group, whole, sub, look-in, look, look-raw, store-raw, init, forget, stop, hop, fld, from, load, of-opd, and-then, no-more, assigns, land, returns, enter, alloc1, alloc0, params1, pass1, pass0, free1, free0, Body}
 use lib.Dec.{T as True}
 use mir.Syntax.{Name, Sym, Ty, tyNamed, tyRef, tyInt, tyStruct, tcons, tnil, imm, mut, local, valueLocal, Fn, place, deref, field, copy, rvOpd, seq, assign, call, return}
 use mir.Val.{hasTy, WT, vstruct, vcons, vnil}
@@ -22,39 +22,40 @@ use Rattle.cursor.proofs.Lends.{Plain, Fits, a-number}
 
 -- a type of one machine value that owns only facts, of which nothing is said at exit
 pub record Carried : Type 2 where
-  pub kind : Plain
+  pub base : Plain
   pub ty : Ty
-  pub typed : {M : Type 1} (𝓤 : URA M) (H : Heap 𝓤) (A : Atoms 𝓤) → Given 𝓤 H A → (x : kind .row .Denot) → Fits kind x → True (hasTy ty (kind .low x)) × WT (kind .low x)
-  pub last : (x : kind .row .Denot) → Last (kind .row .exit yes) x
-  pub silent : (x : kind .row .Denot) (f : Last (kind .row .exit yes) x) → left (kind .row .exit yes) x f ≡ ftrue
+  pub typed : {M : Type 1} (𝓤 : URA M) (H : Heap 𝓤) (A : Atoms 𝓤) → Given 𝓤 H A → (x : base .row .Denot) → Fits base x → True (hasTy ty (base .low x)) × WT (base .low x)
+  pub last : (x : base .row .Denot) → Last (base .row .exit yes) x
+  pub silent : (x : base .row .Denot) (f : Last (base .row .exit yes) x) → left (base .row .exit yes) x f ≡ ftrue
 
 -- a struct whose fields own only facts and are seen at exit as they were passed
 abbrev pub struct : (T : Declared) (L : LL.Laws T) → Plains (fields T) → LL.Copyables (T .parts) → (τ : Ty) → row T .mir ≡ τ ∷ [] → Carried
 struct T L plains copies τ is =
     record {
-      kind = record { row = row T; low = LL.val T L; tells = LL.tells T L; makes = λ 𝓤 H A W. LL.makes T plains 𝓤 H A };
+      base = record { row = row T; low = LL.val T L; tells = LL.tells T L; makes = λ 𝓤 H A W. LL.makes T plains 𝓤 H A };
       ty = τ;
       typed = λ 𝓤 H A W x fits. subst (λ (τs : List Ty). Typed τs (LL.vals T L x)) is (LL.lawful T L 𝓤 H A W .typed x _ fits) .0;
       last = λ x. subst (λ (e : Exit (T .D)). Last e x) (sym (LL.still T copies yes)) tt;
       silent = λ x. subst (λ (e : Exit (T .D)). (f : Last e x) → left e x f ≡ ftrue) (sym (LL.still T copies yes)) (λ f. refl);
     }
 
--- a u64
+-- a u64 or a usize
 abbrev pub number : Carried
-number = record { kind = a-number; ty = tyInt w64; typed = λ 𝓤 H A W x fits. (tt, record { fits = fits .1 }); last = λ x. tt; silent = λ x f. refl }
+number = record { base = a-number; ty = tyInt w64; typed = λ 𝓤 H A W x fits. (tt, record { fits = fits .1 }); last = λ x. tt; silent = λ x f. refl }
 
 -- what a covered function returns: the cursor behind what it read, and what it found
 pub record Answer (D : Carried) : Type 2 where
   pub row : RattleType
   pub name : Sym
   pub to : row .Denot → Cursor
-  pub found : row .Denot → D .kind .row .Denot
-  pub tells : Tells row (Is row) (λ r. vstruct (vcons (T′.lowered (to r)) (vcons (D .kind .low (found r)) vnil)) ∷ [])
+  pub found : row .Denot → D .base .row .Denot
+  pub tells : Tells row (Is row) (λ r. vstruct (vcons (T′.lowered (to r)) (vcons (D .base .low (found r)) vnil)) ∷ [])
   pub typed : {M : Type 1} (𝓤 : URA M) (H : Heap 𝓤) (A : Atoms 𝓤) → Given 𝓤 H A → (r : row .Denot) (w : Val) → Is row r (w ∷ []) → True (hasTy (tyStruct name (tcons T′.mir (tcons (D .ty) tnil))) w) × WT w
   pub to-is : (r : row .Denot) (w : Val) → Is row r (w ∷ []) → Good (to r)
-  pub found-is : (r : row .Denot) (w : Val) → Is row r (w ∷ []) → Fits (D .kind) (found r)
+  pub found-is : (r : row .Denot) (w : Val) → Is row r (w ∷ []) → Fits (D .base) (found r)
 
 module _ (X D : Carried) (S : Answer D) where
+  -- its code, its signature and that of the function that takes the cursor by value
   abbrev pub gives : Name → Fn
   gives f =
       record {
@@ -74,30 +75,30 @@ module _ (X D : Carried) (S : Answer D) where
         signature = record {
           lifetimes = 2;
           outlives = [];
-          params = RefMutOf (0 ∷ []) tt (plain (λ _. R)) (λ _. tt) ∷ SliceRefOf (1 ∷ []) tt (plain (λ _. u8)) (λ _. tt) ∷ plain (λ _. X .kind .row) ∷ [];
-          result = plain (λ _. D .kind .row);
+          params = RefMutOf (0 ∷ []) tt (plain (λ _. R)) (λ _. tt) ∷ SliceRefOf (1 ∷ []) tt (plain (λ _. u8)) (λ _. tt) ∷ plain (λ _. X .base .row) ∷ [];
+          result = plain (λ _. D .base .row);
         };
         kept = (yes, (yes, (yes, tt)));
       }
 
-  -- the function that takes the cursor by value
   abbrev pub Found : Ended
   Found =
       record {
         signature = record {
           lifetimes = 1;
           outlives = [];
-          params = plain (λ _. R) ∷ SliceRefOf (0 ∷ []) tt (plain (λ _. u8)) (λ _. tt) ∷ plain (λ _. X .kind .row) ∷ [];
+          params = plain (λ _. R) ∷ SliceRefOf (0 ∷ []) tt (plain (λ _. u8)) (λ _. tt) ∷ plain (λ _. X .base .row) ∷ [];
           result = plain (λ _. S .row);
         };
         kept = (yes, (yes, (yes, tt)));
       }
 
   abbrev stayed : Stays (Gives .signature .params) (Gives .kept)
-  stayed = (stay-ref (0 ∷ []) tt (plain (λ _. R)), (stay-dropped (SliceRefOf (1 ∷ []) tt (plain (λ _. u8)) (λ _. tt)) yes, (stay-dropped (plain (λ _. X .kind .row)) yes, tt)))
+  stayed = (stay-ref (0 ∷ []) tt (plain (λ _. R)), (stay-dropped (SliceRefOf (1 ∷ []) tt (plain (λ _. u8)) (λ _. tt)) yes, (stay-dropped (plain (λ _. X .base .row)) yes, tt)))
 
-  module _ (Finds : List ℕ → X .kind .row .Denot → Cursor → S .row .Denot → Type 0) (Says : List ℕ → X .kind .row .Denot → Cursor → Cursor → D .kind .row .Denot → Type 0)
-      (so : (s : List ℕ) (x : X .kind .row .Denot) (h : Cursor) (r : S .row .Denot) → Finds s x h r → Says s x h (S .to r) (S .found r)) (f : Name) where
+  module _ (Finds : List ℕ → X .base .row .Denot → Cursor → S .row .Denot → Type 0) (Says : List ℕ → X .base .row .Denot → Cursor → Cursor → D .base .row .Denot → Type 0)
+      (so : (s : List ℕ) (x : X .base .row .Denot) (h : Cursor) (r : S .row .Denot) → Finds s x h r → Says s x h (S .to r) (S .found r)) (f : Name) where
+    -- what the two ensure; neither asks for anything
     abbrev pub found-by : {M : Type 1} (𝓤 : URA M) → Clauses 𝓤 Found
     found-by 𝓤 κs a = record { ghost = Unit {0}; requires = λ _. emp 𝓤; ensures = λ _ r e. fact 𝓤 (Finds (now (a .1 .0)) (a .1 .1 .0) (a .0) r) }
 
@@ -107,22 +108,22 @@ module _ (X D : Carried) (S : Answer D) where
     abbrev Callee : {M : Type 1} (𝓤 : URA M) (H : Heap 𝓤) (A : Atoms 𝓤) → Contract 𝓤
     Callee 𝓤 H A = tripleOf 𝓤 H A (Found .signature) (closing 𝓤 H A Found (found-by 𝓤))
 
-    module _ {M : Type 1} (𝓤 : URA M) (H : Heap 𝓤) (A : Atoms 𝓤) (W : Given 𝓤 H A) (κ κ₁ : Lft) (q q₁ : Share) (b o : ℕ) (γ : GName) (h : Cursor) (s : RefT (List ℕ)) (x : X .kind .row .Denot) (fits-x : Fits (X .kind) x) where
-      abbrev a : RefT Cursor × (RefT (List ℕ) × (X .kind .row .Denot × (Unit {0})))
+    module _ {M : Type 1} (𝓤 : URA M) (H : Heap 𝓤) (A : Atoms 𝓤) (W : Given 𝓤 H A) (κ κ₁ : Lft) (q q₁ : Share) (b o : ℕ) (γ : GName) (h : Cursor) (s : RefT (List ℕ)) (x : X .base .row .Denot) (fits-x : Fits (X .base) x) where
+      abbrev a : RefT Cursor × (RefT (List ℕ) × (X .base .row .Denot × (Unit {0})))
       a = (record { ptr = (b, o); name = γ; now = h }, (s, (x, tt)))
 
       abbrev vals : List Val × (List Val × (List Val × (Unit {0})))
-      vals = (vptr b o ∷ [], (sv s ∷ [], (X .kind .low x ∷ [], tt)))
+      vals = (vptr b o ∷ [], (sv s ∷ [], (X .base .low x ∷ [], tt)))
 
       abbrev Post : Val → SProp 𝓤
       Post = walkOf 𝓤 H A Gives stayed (gives-by 𝓤) .post (((κ, (κ₁, tt)), (q, (q₁, tt)), tt, a, vals), tt)
 
       abbrev to : Callee 𝓤 H A .Ghost
-      to = (((κ₁, tt), (q₁, tt), tt, (h, (s, (x, tt))), (T′.lowered h ∷ [], (sv s ∷ [], (X .kind .low x ∷ [], tt)))), tt)
+      to = (((κ₁, tt), (q₁, tt), tt, (h, (s, (x, tt))), (T′.lowered h ∷ [], (sv s ∷ [], (X .base .low x ∷ [], tt)))), tt)
 
       goes : Good h → ent 𝓤 (⋆ 𝓤 H A ((‵ (flft κ₁ q₁) ⊛ ‵ ftrue) ∷ ‵ (Slice κ₁ s) ∷ [])) (Callee 𝓤 H A .pre to)
       goes g =
-          qed W ((‵ (flft κ₁ q₁) ⊛ ‵ ftrue) ∷ ‵ (Slice κ₁ s) ∷ []) ∵ nothing ! $ owned ! (X .kind .row) (Is (X .kind .row)) (X .kind .makes 𝓤 H A W) x _ fits-x $ fjoin ! $ move ! (2 ∷ 0 ∷ []) $ fjoin ! $
+          qed W ((‵ (flft κ₁ q₁) ⊛ ‵ ftrue) ∷ ‵ (Slice κ₁ s) ∷ []) ∵ nothing ! $ owned ! (X .base .row) (Is (X .base .row)) (X .base .makes 𝓤 H A W) x _ fits-x $ fjoin ! $ move ! (2 ∷ 0 ∷ []) $ fjoin ! $
           owned ! R (Is R) (LL.makes T.the-type T′.the-plain 𝓤 H A) h _ g $ fjoin ! $ move ! (1 ∷ 0 ∷ []) $ join ! $ nothing ! $ move ! (1 ∷ 0 ∷ []) $ frame ! $ done !
 
       abbrev Said : S .row .Denot → Type 0
@@ -131,17 +132,17 @@ module _ (X D : Carried) (S : Answer D) where
       said : (r : S .row .Denot) → ent 𝓤 (ensured 𝓤 H A Found (found-by 𝓤) (κ₁, tt) (h, (s, (x, tt))) tt r) (fact 𝓤 (Said r))
       said r = exE 𝓤 _ (λ ws. snd∗ 𝓤 (sem 𝓤 H A (lasts Found (κ₁, tt) (h, (s, (x, tt))) ws)) (fact 𝓤 (Said r)))
 
-      exits : (r : S .row .Denot) → Said r → Fits (D .kind) (S .found r) → ent 𝓤 (⋆ 𝓤 H A (‵ (fobs γ (R .coded .code (S .to r))) ∷ ‵ (fbor κ (Body (mem R) b o γ)) ∷ ‵ (flft κ q) ∷ (‵ (flft κ₁ q₁) ⊛ ‵ ftrue) ∷ [])) (Post (D .kind .low (S .found r)))
+      exits : (r : S .row .Denot) → Said r → Fits (D .base) (S .found r) → ent 𝓤 (⋆ 𝓤 H A (‵ (fobs γ (R .coded .code (S .to r))) ∷ ‵ (fbor κ (Body (mem R) b o γ)) ∷ ‵ (flft κ q) ∷ (‵ (flft κ₁ q₁) ⊛ ‵ ftrue) ∷ [])) (Post (D .base .low (S .found r)))
       exits r e fits =
           qed W (‵ (fobs γ (R .coded .code (S .to r))) ∷ ‵ (fbor κ (Body (mem R) b o γ)) ∷ ‵ (flft κ q) ∷ (‵ (flft κ₁ q₁) ⊛ ‵ ftrue) ∷ []) ∵
-          suffices ! _ (ends-at 𝓤 H A Gives stayed (gives-by 𝓤) W (((κ, (κ₁, tt)), (q, (q₁, tt)), tt, a, vals), tt) (D .kind .low (S .found r)) (S .found r) (S .to r, (tt, (X .last x, tt))) (tt, (tt, (tt, tt)))) $ says ! (so (now s) x h r e) $
+          suffices ! _ (ends-at 𝓤 H A Gives stayed (gives-by 𝓤) W (((κ, (κ₁, tt)), (q, (q₁, tt)), tt, a, vals), tt) (D .base .low (S .found r)) (S .found r) (S .to r, (tt, (X .last x, tt))) (tt, (tt, (tt, tt)))) $ says ! (so (now s) x h r e) $
           move ! (2 ∷ 3 ∷ []) $ join ! $ frame ! $ feqI ! (List Val) (vptr b o ∷ []) (vptr b o ∷ []) refl $ fjoin3 ! $ nothing ! $ nothing ! $ fjoin ! $ nothing ! $ fjoin ! $ move ! (1 ∷ 0 ∷ []) $ fjoin ! $
-          owned ! (D .kind .row) (Is (D .kind .row)) (D .kind .makes 𝓤 H A W) (S .found r) _ fits $ move ! (1 ∷ 0 ∷ []) $ done !
+          owned ! (D .base .row) (Is (D .base .row)) (D .base .makes 𝓤 H A W) (S .found r) _ fits $ move ! (1 ∷ 0 ∷ []) $ done !
 
       module _ (C : Calls 𝓤 H) (Λ : Loops 𝓤 H) (fm : FmC 𝓤 H (W .laws) C) (known : Triple 𝓤 (C f) (Callee 𝓤 H A)) where
-        walk : Is (ShrSlice (named 1) κ₁ u8) s (sv s ∷ []) → ent 𝓤 (onEntry 𝓤 H A (Gives .signature) (κ, (κ₁, tt)) (q, (q₁, tt)) a vals) (WpFn 𝓤 H C Λ (gives f) (vptr b o ∷ sv s ∷ X .kind .low x ∷ []) Post)
+        walk : Is (ShrSlice (named 1) κ₁ u8) s (sv s ∷ []) → ent 𝓤 (onEntry 𝓤 H A (Gives .signature) (κ, (κ₁, tt)) (q, (q₁, tt)) a vals) (WpFn 𝓤 H C Λ (gives f) (vptr b o ∷ sv s ∷ X .base .low x ∷ []) Post)
         walk is-s =
-            qed W ((‵ (flft κ q) ⊛ ‵ (flft κ₁ q₁) ⊛ ‵ ftrue) ∷ ‵ (owns (MutRef (named 0) κ R ∷ ShrSlice (named 1) κ₁ u8 ∷ X .kind .row ∷ []) a vals) ∷ []) ∵ enter ! C Λ (gives f) (vptr b o ∷ sv s ∷ X .kind .low x ∷ []) _ $
+            qed W ((‵ (flft κ q) ⊛ ‵ (flft κ₁ q₁) ⊛ ‵ ftrue) ∷ ‵ (owns (MutRef (named 0) κ R ∷ ShrSlice (named 1) κ₁ u8 ∷ X .base .row ∷ []) a vals) ∷ []) ∵ enter ! C Λ (gives f) (vptr b o ∷ sv s ∷ X .base .low x ∷ []) _ $
             alloc1 ! (λ l₀. alloc1 ! (λ l₁. alloc1 ! (λ l₂. alloc1 ! (λ l₃. alloc1 ! (λ l₄. alloc1 ! (λ l₅. alloc0 ! $ params1 ! $
             pass1 ! (init ! 8 refl (tt, tt)) $ pass1 ! (init ! 6 refl (tt, (tt, (record { fits = is-s .0 .1 .0 }, tt)))) $ pass1 ! (init ! 4 refl (X .typed 𝓤 H A W x fits-x)) $ pass0 ! $
             move ! (13 ∷ []) $ fsplit ! $ move ! (1 ∷ []) $ fsplit ! $ move ! (1 ∷ []) $ fsplit ! $ move ! (3 ∷ []) $ fsplit3 ! $ drop ! $ move ! (17 ∷ []) $ split ! $ move ! (2 ∷ 3 ∷ 0 ∷ []) $
@@ -166,7 +167,7 @@ module _ (X D : Carried) (S : Answer D) where
     pub gives-meets : {M : Type 1} (𝓤 : URA M) (H : Heap 𝓤) (A : Atoms 𝓤) (W : Given 𝓤 H A) (𝓣 : Tables 𝓤 H) → Triple 𝓤 (𝓣 .C f) (Callee 𝓤 H A)
         → Meets 𝓤 H A (Gives .signature) (WpFn 𝓤 H (𝓣 .C) (𝓣 .Λ) (gives f)) (closing 𝓤 H A Gives (gives-by 𝓤))
     gives-meets 𝓤 H A W 𝓣 known =
-        walk-meets 𝓤 H A Gives stayed W (goes-ref 𝓤 H A W 2 0 tt (plain (λ _. R)), (goes-dropped 𝓤 H A W 2 (SliceRefOf (1 ∷ []) tt (plain (λ _. u8)) (λ _. tt)) yes (λ κs x f. refl), (goes-dropped 𝓤 H A W 2 (plain (λ _. X .kind .row)) yes (λ κs x f. X .silent x f), tt))) (gives-by 𝓤)
+        walk-meets 𝓤 H A Gives stayed W (goes-ref 𝓤 H A W 2 0 tt (plain (λ _. R)), (goes-dropped 𝓤 H A W 2 (SliceRefOf (1 ∷ []) tt (plain (λ _. u8)) (λ _. tt)) yes (λ κs x f. refl), (goes-dropped 𝓤 H A W 2 (plain (λ _. X .base .row)) yes (λ κs x f. X .silent x f), tt))) (gives-by 𝓤)
         (WpFn 𝓤 H (𝓣 .C) (𝓣 .Λ) (gives f)) (WpFn-mono 𝓤 H (W .laws) 𝓣 (gives f))
-        (walked 𝓤 H A Gives stayed (gives-by 𝓤) (WpFn 𝓤 H (𝓣 .C) (𝓣 .Λ) (gives f)) (λ κs. (ptr-vals, (slice-vals, ((λ x. X .kind .low x ∷ []), tt)))) (λ κs. (mut-tells (named 0) (κs .0) R, (shr-slice-tells (named 1) (κs .1 .0) u8, (X .kind .tells, tt))))
+        (walked 𝓤 H A Gives stayed (gives-by 𝓤) (WpFn 𝓤 H (𝓣 .C) (𝓣 .Λ) (gives f)) (λ κs. (ptr-vals, (slice-vals, ((λ x. X .base .low x ∷ []), tt)))) (λ κs. (mut-tells (named 0) (κs .0) R, (shr-slice-tells (named 1) (κs .1 .0) u8, (X .base .tells, tt))))
         (λ κs qs bounds a _ are. via 𝓤 _ (fst∗ 𝓤 _ (emp 𝓤)) (walk 𝓤 H A W (κs .0) (κs .1 .0) (qs .0) (qs .1 .0) (a .0 .ptr .0) (a .0 .ptr .1) (a .0 .name) (a .0 .now) (a .1 .0) (a .1 .1 .0) (are .1 .1 .0) (𝓣 .C) (𝓣 .Λ) (fmOf 𝓤 H (W .laws) 𝓣) known (are .1 .0))))
