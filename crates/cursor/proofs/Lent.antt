@@ -20,7 +20,7 @@ use denote.RattleType.{RattleType}
 use denote.Laws.{Is, shows}
 use denote.Memory.{mem, cellAt, partOf}
 use denote.Builtin.{u8}
-use denote.Ref.{RefT, MutRef, now}
+use denote.Ref.{RefT, MutRef}
 use denote.Slice.{ShrSlice, sliceVal}
 use denote.Lend.{lends-ref, ref-back, LentAgain, lends-again, comes-back}
 use denote.Steps.{owned, peeks}

@@ -3,6 +3,7 @@ pub mod Lit
 pub mod Lent
 pub mod Again
 pub mod Lends
+pub mod Thin
 pub mod Call_past_tag
 pub mod Call_past_number
 pub mod Call_past_fixed

@@ -1,4 +1,4 @@
--- A walk by hand: the cursor and the rows that were lent are lent on, to the rows of calls, to the loop over observations and to the tag behind them.
+-- A walk by hand: the cursor and the rows that were lent are lent on, to the passages, to the loop over observations and to the tag behind them.
 use Rattle.cursor.proofs.Walk.{ℕ, _<_, _^_, GName, Lft, Share, ftrue, flft, SProp, ent, emp, via, fst∗, Fun, givenOf, tables, tablesOf, u8, u64, yes, Is, mem, owns, RefT, MutRef, ptr-vals, mut-tells, now, plain, ShrSlice, sliceVal, slice-vals, shr-slice-tells, owned, nothing, onEntry, Meets, tripleOf, Contract, Triple, entered, cited, says, Stays, stay-ref, walkOf, goes-ref, ends-at, walked, walk-meets, stay-dropped, goes-dropped, Atoms, fullShare, URA, lit<, length, [], _∷_, List, _≡_, refl, named, Val, vptr, Memory, Routine, Heap, Calls, Loops, WpFn, Tables, FmC, fmOf, WpFn-mono, Given, ‵, _⊛_, ⋆, _$_, _∵_, !, qed, by, move, keep, split, join, rewrite, fsplit, fjoin, suffices, frame, done, whole, sub, look-in, agg, look, init, forget, stop, hop, fld, from, load, and-then, no-more, assigns, land, returns, enter, alloc1, alloc0, params1, pass1, pass0, free1, free0, store, lit, addr, lft-new, lft-end}
 use denote.Slice.{MutSlice, Room, mut-slice-tells}
 use denote.Triple.Walked.{stay-slice, goes-slice}
