@@ -1,8 +1,8 @@
-use native.Mathlib.Nat.{zero-add}
 -- The rows that are filled stand at the front, can be laid, and are laid as the partner.
 use mathlib.Core.Path.{_≡_, ap, _∙_}
 use mathlib.Core.List.{flatMap}
 use Prim.Native.Nat.{_/_}
+use native.Mathlib.Nat.{zero-add}
 use lib.ListN.{length}
 use Rattle.book.specs.declared.Calendar.{Calendar}
 use Rattle.book.specs.Book.{bookOf}
