@@ -9,7 +9,7 @@ use Rattle.integers.specs.Sums.{sumZ}
 use Rattle.integers.specs.Z.{Over}
 use Rattle.grains.specs.Grains.{grains, share}
 use Rattle.wire.specs.declared.Reading.{Reading}
-use Rattle.book.specs.declared.Calendar.{Calendar}
+use Rattle.quarters.specs.declared.Calendar.{Calendar}
 use Rattle.book.specs.declared.Method.{Method}
 use Rattle.book.specs.declared.Method.the-variants.{HighXOfY, Adjusted}
 use Rattle.volumes.specs.Baseline.{watts, complete}

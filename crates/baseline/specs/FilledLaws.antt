@@ -16,12 +16,12 @@ use Rattle.grains.specs.Grains.{grains, share}
 use Rattle.wire.specs.Readings.{readingAt}
 use Rattle.wire.specs.declared.Reading.{Reading}
 use Rattle.wire.specs.declared.Reading.the-variants.{Missing}
-use Rattle.book.specs.declared.Calendar.{Calendar}
+use Rattle.quarters.specs.declared.Calendar.{Calendar}
 use Rattle.book.specs.declared.Engagement.{Engagement}
 use Rattle.book.specs.declared.Point.{Point}
 use Rattle.book.specs.declared.Method.{Method}
 use Rattle.book.specs.declared.Method.the-variants.{LastQuarter, HighXOfY, Adjusted}
-use Rattle.book.specs.Calendars.{dayStart, quartersOf}
+use Rattle.quarters.specs.Quarters.{dayStart, originOf, longestDay}
 use Rattle.book.specs.Book.{Book}
 use Rattle.volumes.specs.Quarters.{start, reference}
 use Rattle.volumes.specs.QuartersLaws.{length-flatMap}
@@ -74,52 +74,52 @@ module _ {c : Calendar} {calendar readings : List ℕ} {point : Point} {e : Enga
 
   -- a quarter-hour's mean
   pub high-level : (keys : List ℕ) (k add r : ℕ) (z : ℤ) → Took book e keys x → k < e .count → Over (grains 4294967296) z add
-      → Raises (dayRows readings c (quartersOf c * e .point) (e .first + k) 0 1 (daysIn keys x)) x add r → Over (grains 6442450944) (high book e k +ℤ z) r
+      → Raises (dayRows readings c (originOf c (e .point)) (e .first + k) 0 1 (daysIn keys x)) x add r → Over (grains 6442450944) (high book e k +ℤ z) r
   unfolding high mean
   high-level keys k add r z t h o raises =
-      let rows : dayRows readings c (quartersOf c * e .point) (e .first + k) 0 1 (daysIn keys x) ≡ map (dayReading book e k) (taken book e) = ap (dayRows readings c (quartersOf c * e .point) (e .first + k) 0 1) (t .days) ∙ quarter-rows (s .shows) k (taken book e) in
+      let rows : dayRows readings c (originOf c (e .point)) (e .first + k) 0 1 (daysIn keys x) ≡ map (dayReading book e k) (taken book e) = ap (dayRows readings c (originOf c (e .point)) (e .first + k) 0 1) (t .days) ∙ quarter-rows (s .shows) k (taken book e) in
       let count : length (map (dayReading book e k) (taken book e)) ≡ x = length-map (taken book e) (dayReading book e k) ∙ t .count in
       rw count (subst (λ (l : List Reading). Over (grains 6442450944) (sumZ watts l *ℤ pos (share x) +ℤ z) r) rows (raises .level z (ap complete rows ∙ high-complete book e k h) o))
 
   -- method 2's addend
   pub addend-level-is : (keys : List ℕ) (r : ℕ) → Took book e keys x → point .method ≡ Adjusted
-      → Adds (windowIn readings (quartersOf c * e .point) (dayStart c (e .day) + e .first)) (dayRows readings c (quartersOf c * e .point) (e .first) 24 12 (daysIn keys x)) x r → Over (grains 4294967296) (addend book e) r
+      → Adds (windowIn readings (originOf c (e .point)) (dayStart c (e .day) + e .first)) (dayRows readings c (originOf c (e .point)) (e .first) 24 12 (daysIn keys x)) x r → Over (grains 4294967296) (addend book e) r
   unfolding addend mean
   addend-level-is keys r t m adds =
       let own = sym (own-window (s .shows)) in
-      let rows = ap (dayRows readings c (quartersOf c * e .point) (e .first) 24 12) (t .days) ∙ window-rows (s .shows) (taken book e) m (t .each) in
+      let rows = ap (dayRows readings c (originOf c (e .point)) (e .first) 24 12) (t .days) ∙ window-rows (s .shows) (taken book e) m (t .each) in
       let mine : length (ownWindow book e) ≡ 12 = own-length book e in
       let count : length (flatMap (dayWindow book e) (taken book e)) ≡ 12 * x = length-flatMap 12 (dayWindow book e) (λ d. day-length book e d) (taken book e) ∙ ap (λ (n : ℕ). 12 * n) (t .count) in
       let here = method-is ∙ m in
       rw (mine, count)
       (subst (λ (l : List Reading). Over (grains 4294967296) (sumZ watts (ownWindow book e) *ℤ pos (share 12) -ℤ sumZ watts l *ℤ pos (share (12 * x))) r) rows
-      (subst (λ (l : List Reading). Over (grains 4294967296) (sumZ watts l *ℤ pos (share 12) -ℤ sumZ watts (dayRows readings c (quartersOf c * e .point) (e .first) 24 12 (daysIn keys x)) *ℤ pos (share (12 * x))) r) own
+      (subst (λ (l : List Reading). Over (grains 4294967296) (sumZ watts l *ℤ pos (share 12) -ℤ sumZ watts (dayRows readings c (originOf c (e .point)) (e .first) 24 12 (daysIn keys x)) *ℤ pos (share (12 * x))) r) own
       (adds .level (ap complete own ∙ own-window-complete book e (settles book e (s .good)) here) (ap complete rows ∙ windows-complete book e here))))
 
   -- what the methods make of these
   pub by-mean : (keys : List ℕ) (k add r : ℕ) → Took book e keys x → point .method ≡ HighXOfY → k < e .count → add ≡ grains 4294967296
-      → Raises (dayRows readings c (quartersOf c * e .point) (e .first + k) 0 1 (daysIn keys x)) x add r → Over (grains 6442450944) (baseline book e k) r
+      → Raises (dayRows readings c (originOf c (e .point)) (e .first + k) 0 1 (daysIn keys x)) x add r → Over (grains 6442450944) (baseline book e k) r
   unfolding baseline baselineBy
   by-mean keys k add r t m h a raises =
       rw (method-is ∙ m) (rw (+ℤ-idr (high book e k)) at (high-level keys k add r (pos 0) t h (record { law = omega arith }) raises))
 
   pub by-addend : (keys : List ℕ) (k add r : ℕ) → Took book e keys x → point .method ≡ Adjusted → k < e .count
-      → Adds (windowIn readings (quartersOf c * e .point) (dayStart c (e .day) + e .first)) (dayRows readings c (quartersOf c * e .point) (e .first) 24 12 (daysIn keys x)) x add
-      → Raises (dayRows readings c (quartersOf c * e .point) (e .first + k) 0 1 (daysIn keys x)) x add r → Over (grains 6442450944) (baseline book e k) r
+      → Adds (windowIn readings (originOf c (e .point)) (dayStart c (e .day) + e .first)) (dayRows readings c (originOf c (e .point)) (e .first) 24 12 (daysIn keys x)) x add
+      → Raises (dayRows readings c (originOf c (e .point)) (e .first + k) 0 1 (daysIn keys x)) x add r → Over (grains 6442450944) (baseline book e k) r
   unfolding baseline baselineBy
   by-addend keys k add r t m h adds raises = rw (method-is ∙ m) (high-level keys k add r (addend book e) t h (addend-level-is keys add t m adds) raises)
 
-  last-is : lastReading book e ≡ beforeIn readings (quartersOf c * e .point) (dayStart c (e .day) + e .first) (e .notice + 1)
+  last-is : lastReading book e ≡ beforeIn readings (originOf c (e .point)) (dayStart c (e .day) + e .first) (e .notice + 1)
   unfolding lastReading
-  last-is = before-at (s .shows) (start (book .calendar) e) (e .notice + 1) ∙ ap (λ (q : ℕ). beforeIn readings (quartersOf c * e .point) q (e .notice + 1)) (start-at (s .shows))
+  last-is = before-at (s .shows) (start (book .calendar) e) (e .notice + 1) ∙ ap (λ (q : ℕ). beforeIn readings (originOf c (e .point)) q (e .notice + 1)) (start-at (s .shows))
 
-  last-there : point .method ≡ LastQuarter → known (beforeIn readings (quartersOf c * e .point) (dayStart c (e .day) + e .first) (e .notice + 1)) ≡ true
+  last-there : point .method ≡ LastQuarter → known (beforeIn readings (originOf c (e .point)) (dayStart c (e .day) + e .first) (e .notice + 1)) ≡ true
   last-there m = ap known (sym last-is) ∙ last-known book e (settles book e (s .good)) (method-is ∙ m)
 
   pub last-inside : point .method ≡ LastQuarter → e .notice + 1 ≤ dayStart c (e .day) + e .first
-  last-inside m = known-inside readings (quartersOf c * e .point) (dayStart c (e .day) + e .first) (e .notice + 1) (last-there m)
+  last-inside m = known-inside readings (originOf c (e .point)) (dayStart c (e .day) + e .first) (e .notice + 1) (last-there m)
 
-  pub by-last : (k r : ℕ) → point .method ≡ LastQuarter → Lasts (beforeIn readings (quartersOf c * e .point) (dayStart c (e .day) + e .first) (e .notice + 1)) r → Over (grains 6442450944) (baseline book e k) r
+  pub by-last : (k r : ℕ) → point .method ≡ LastQuarter → Lasts (beforeIn readings (originOf c (e .point)) (dayStart c (e .day) + e .first) (e .notice + 1)) r → Over (grains 6442450944) (baseline book e k) r
   unfolding baseline baselineBy
   by-last k r m lasts = rw (method-is ∙ m, last-is) (lasts .level (last-there m))
 
@@ -129,8 +129,8 @@ module _ {c : Calendar} {calendar readings : List ℕ} {point : Point} {e : Enga
       let day : getD (daysIn keys x) j 0 ≡ getD keys j 0 % 64 = List·getD-map (λ k. k % 64) (take x keys) j 0 ∙ ap (λ (k : ℕ). k % 64) (getD-take x keys j 0 i) in
       subst (Serves book e) day (all-at (Serves book e) (daysIn keys x) j 0 (rw (t .days) (t .each)) (omega (arith, length-map (take x keys) (λ k. k % 64), length-take x keys)))
 
-  lie-of : (keys : List ℕ) → Fits c calendar readings e → Took book e keys x → x ≤ 10 → x ≤ length keys → (q back n : ℕ) → q ≤ 96 → n ≤ 12
-      → ((d : ℕ) → Serves book e d → Lies readings c (quartersOf c * e .point) q back n d) → Lie readings keys c (quartersOf c * e .point) q back n x
+  lie-of : (keys : List ℕ) → Fits c calendar readings e → Took book e keys x → x ≤ 10 → x ≤ length keys → (q back n : ℕ) → q ≤ longestDay → n ≤ 12
+      → ((d : ℕ) → Serves book e d → Lies readings c (originOf c (e .point)) q back n d) → Lie readings keys c (originOf c (e .point)) q back n x
   lie-of keys f t few room q back n h k lies =
       let own = stands c calendar readings e (e .day) f (f .day) in
       record {
@@ -142,13 +142,13 @@ module _ {c : Calendar} {calendar readings : List ℕ} {point : Point} {e : Enga
         lies = λ j i. lies (getD keys j 0 % 64) (serves-at keys t room j i);
       }
 
-  pub lie-quarters : (keys : List ℕ) → Fits c calendar readings e → Took book e keys x → x ≤ 10 → x ≤ length keys → (k : ℕ) → k < e .count → Lie readings keys c (quartersOf c * e .point) (e .first + k) 0 1 x
+  pub lie-quarters : (keys : List ℕ) → Fits c calendar readings e → Took book e keys x → x ≤ 10 → x ≤ length keys → (k : ℕ) → k < e .count → Lie readings keys c (originOf c (e .point)) (e .first + k) 0 1 x
   lie-quarters keys f t few room k h =
       let own = stands c calendar readings e (e .day) f (f .day) in
       lie-of keys f t few room (e .first + k) 0 1 (omega (arith, own .short)) (omega arith)
       (λ d v. let m = stands c calendar readings e d f (omega (arith, v .early, f .day)) in record { early = v .small; from = omega arith; room = omega (arith, m .roomy) })
 
-  pub lie-windows : (keys : List ℕ) → Fits c calendar readings e → Took book e keys x → x ≤ 10 → x ≤ length keys → point .method ≡ Adjusted → Lie readings keys c (quartersOf c * e .point) (e .first) 24 12 x
+  pub lie-windows : (keys : List ℕ) → Fits c calendar readings e → Took book e keys x → x ≤ 10 → x ≤ length keys → point .method ≡ Adjusted → Lie readings keys c (originOf c (e .point)) (e .first) 24 12 x
   lie-windows keys f t few room w =
       let own = stands c calendar readings e (e .day) f (f .day) in
       lie-of keys f t few room (e .first) 24 12 (omega (arith, own .short)) (omega arith)
@@ -159,8 +159,8 @@ module _ {c : Calendar} {calendar readings : List ℕ} {point : Point} {e : Enga
 
   -- methods 1 and 2 together
   pub by-days : (keys : List ℕ) (k add r : ℕ) (m : Method) → point .method ≡ m → looksBack m ≡ true → Took book e keys x → k < e .count
-      → Added m (windowIn readings (quartersOf c * e .point) (dayStart c (e .day) + e .first)) (dayRows readings c (quartersOf c * e .point) (e .first) 24 12 (daysIn keys x)) x add
-      → Raises (dayRows readings c (quartersOf c * e .point) (e .first + k) 0 1 (daysIn keys x)) x add r → Over (grains 6442450944) (baseline book e k) r
+      → Added m (windowIn readings (originOf c (e .point)) (dayStart c (e .day) + e .first)) (dayRows readings c (originOf c (e .point)) (e .first) 24 12 (daysIn keys x)) x add
+      → Raises (dayRows readings c (originOf c (e .point)) (e .first + k) 0 1 (daysIn keys x)) x add r → Over (grains 6442450944) (baseline book e k) r
   unfolding looksBack
   by-days keys k add r LastQuarter m b t h a raises = let z : _≡_ {A = ℕ} 0 1 = cc in absurd (omega arith)
   by-days keys k add r HighXOfY m b t h a raises = by-mean keys k add r t m h (a .plain refl) raises

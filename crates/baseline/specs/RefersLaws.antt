@@ -7,10 +7,10 @@ use native.Mathlib.Omega.{arith}
 use lib.Dec.{eqb}
 use lib.ListN.{getD}
 use Rattle.integers.specs.Tests.{both}
-use Rattle.book.specs.declared.Calendar.{Calendar}
+use Rattle.quarters.specs.declared.Calendar.{Calendar}
 use Rattle.book.specs.declared.Engagement.{Engagement}
 use Rattle.book.specs.declared.Point.{Point}
-use Rattle.book.specs.Calendars.{dayStart, quartersOf}
+use Rattle.quarters.specs.Quarters.{dayStart, originOf}
 use Rattle.book.specs.Register.{excludes}
 use Rattle.book.specs.Book.{Book}
 use Rattle.volumes.specs.Baseline.{complete, dayReadings, dayWindow, windowed, allowed, eligible, daySum}
@@ -41,8 +41,8 @@ module _ {c : Calendar} {calendar readings : List ℕ} {point : Point} {e : Enga
       }
 
   pub refers : alike calendar point e d ≡ true → (t : Tally) (good : Bool)
-      → Tallied (inRow readings (quartersOf c * e .point + (dayStart c d + e .first)) (e .count)) (e .count) t
-      → good ≡ windowed (point .method) (windowIn readings (quartersOf c * e .point) (dayStart c d + e .first))
+      → Tallied (inRow readings (originOf c (e .point) + (dayStart c d + e .first)) (e .count)) (e .count) t
+      → good ≡ windowed (point .method) (windowIn readings (originOf c (e .point)) (dayStart c d + e .first))
       → Refers book e d (record { whole = t .whole && good; sum = t .sum })
   unfolding daySum
   refers h t good k g =

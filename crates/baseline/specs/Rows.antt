@@ -3,8 +3,8 @@ use mathlib.Core.List.{List, map, flatMap}
 use Prim.Native.Nat.{ℕ, _+_, _-_, _*_, _%_, _≤_, _<_}
 use lib.ListN.{length, take, getD}
 use Rattle.wire.specs.declared.Reading.{Reading}
-use Rattle.book.specs.declared.Calendar.{Calendar}
-use Rattle.book.specs.Calendars.{dayStart}
+use Rattle.quarters.specs.declared.Calendar.{Calendar}
+use Rattle.quarters.specs.Quarters.{dayStart, longestDay, farthestOrigin}
 use Rattle.baseline.specs.Tally.{inRow}
 
 -- the days that the first x keys tell
@@ -26,8 +26,8 @@ pub record Lies (readings : List ℕ) (c : Calendar) (base q back n d : ℕ) : T
   pub room : 4 * (base + (dayStart c d + q - back) + n) ≤ length readings
 
 pub record Lie (readings keys : List ℕ) (c : Calendar) (base q back n x : ℕ) : Type 0 where
-  pub start : base ≤ 2000000
-  pub quarter : q ≤ 96
+  pub start : base ≤ farthestOrigin
+  pub quarter : q ≤ longestDay
   pub short : n ≤ 12
   pub few : x ≤ 10
   pub some : x ≤ length keys

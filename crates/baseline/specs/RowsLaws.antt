@@ -8,8 +8,7 @@ use native.Mathlib.Omega.{arith}
 use lib.ListN.{length, take, getD}
 use lib.Seq.{take-suc}
 use Rattle.wire.specs.declared.Reading.{Reading}
-use Rattle.book.specs.declared.Calendar.{Calendar}
-use Rattle.book.specs.Calendars.{dayStart}
+use Rattle.quarters.specs.declared.Calendar.{Calendar}
 use Rattle.volumes.specs.QuartersLaws.{flatMap-append}
 use Rattle.baseline.specs.declared.tally.Tally.{Tally}
 use Rattle.baseline.specs.Tally.{Tallied}
@@ -37,7 +36,3 @@ rows-more readings keys c base q back n j t u h f g =
 
 pub product-few : (j n : ℕ) → j ≤ 10 → n ≤ 12 → j * n ≤ 120
 product-few j n h k = mul-le-mul {n₁ = j} {m₁ = n} {n₂ = 10} {m₂ = 12} h k
-
-pub day-start-few : (c : Calendar) (d : ℕ) → d < 64 → dayStart c d ≤ 6144
-unfolding dayStart
-day-start-few c d h = omega arith

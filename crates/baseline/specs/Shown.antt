@@ -10,10 +10,10 @@ use Rattle.integers.specs.Z.{Over}
 use Rattle.wire.specs.Readings.{readingAt}
 use Rattle.wire.specs.declared.Reading.{Reading}
 use Rattle.wire.specs.declared.Reading.the-variants.{Missing}
-use Rattle.book.specs.declared.Calendar.{Calendar}
+use Rattle.quarters.specs.declared.Calendar.{Calendar}
 use Rattle.book.specs.declared.Engagement.{Engagement}
 use Rattle.book.specs.declared.Point.{Point}
-use Rattle.book.specs.Calendars.{daysOf, quarters, quartersOf, Ranged}
+use Rattle.quarters.specs.Quarters.{daysOf, quarters, quartersOf, Ranged, originOf}
 use Rattle.book.specs.Tables.{categoryAt}
 use Rattle.book.specs.Book.{Book}
 use Rattle.volumes.specs.Baseline.{pointOf, eligible, daySum}
@@ -23,7 +23,7 @@ use Rattle.baseline.specs.declared.tally.Tally.{Tally}
 pub record Shows (c : Calendar) (calendar readings : List ℕ) (point : Point) (e : Engagement) (book : Book) : Type 0 where
   pub when : book .calendar ≡ c
   pub category : (d : ℕ) → book .category d ≡ categoryAt calendar d
-  pub reading : (p k : ℕ) → book .reading p k ≡ readingAt readings (quartersOf c * p + k)
+  pub reading : (p k : ℕ) → book .reading p k ≡ readingAt readings (originOf c p + k)
   pub owner : pointOf book e ≡ point
 
 -- the engagement lies in the calendar, and its point's readings in theirs
@@ -35,7 +35,7 @@ pub record Fits (c : Calendar) (calendar readings : List ℕ) (e : Engagement) :
   pub some : 1 ≤ e .count
   pub soon : e .notice ≤ 96
   pub few : e .point < 256
-  pub room : 4 * (quartersOf c * e .point + quartersOf c) ≤ length readings
+  pub room : 4 * (originOf c (e .point) + quartersOf c) ≤ length readings
 
 -- the reading n quarter-hours before quarter-hour q, of the point whose readings start at `base`
 abbrev pub beforeIn : List ℕ → ℕ → ℕ → ℕ → Reading

@@ -1,14 +1,15 @@
 // The raised baselines of an engagement's quarter-hours.
-use book::Calendar;
 use book::Engagement;
 use book::Method;
 use book::Point;
+use quarters::Calendar;
 ghost use mathlib.Core.Path.{_≡_};
 ghost use mathlib.Core.Bool.{true, false};
 ghost use mathlib.Core.List.{_++_};
 ghost use Prim.Native.Nat.{_+_, _*_, _≤_};
 ghost use lib.ListN.{length, drop, replicate};
 ghost use Rattle.grains.specs.Grains.{grains};
+ghost use Rattle.quarters.specs.Quarters.{longestDay, longestCalendar};
 ghost use Rattle.baseline.specs.Shown.{windowIn};
 ghost use Rattle.baseline.specs.Rows.{daysIn, dayRows};
 ghost use Rattle.baseline.specs.Needs.{looksBack};
@@ -39,7 +40,7 @@ fn fill_means(
     add: u64,
     bases: &mut [u64],
 )
-    requires { ⌜ LieAll (now readings) (now keys) c base first n x × (1 ≤ x) × (first + n ≤ 96) × (add ≤ grains 8589934592) × (n ≤ length (now bases)) ⌝ }
+    requires { ⌜ LieAll (now readings) (now keys) c base first n x × (1 ≤ x) × (first + n ≤ longestDay) × (add ≤ grains 8589934592) × (n ≤ length (now bases)) ⌝ }
     ensures { λ r. ⌜ Fills (λ k. Raises (dayRows (now (readings .entry)) c base (first + k) 0 1 (daysIn (now (keys .entry)) x)) x add) n (now (bases .entry)) (now (bases .exit)) ⌝ }
 {
     let mut k = 0;
@@ -61,7 +62,7 @@ fn addend_of(
     q: usize,
     method: Method,
 ) -> u64
-    requires { ⌜ Adding method (now readings) (now keys) c base first x × (1 ≤ x) × (q ≤ 6144) × (4 * (base + q) ≤ length (now readings)) ⌝ }
+    requires { ⌜ Adding method (now readings) (now keys) c base first x × (1 ≤ x) × (q ≤ longestCalendar) × (4 * (base + q) ≤ length (now readings)) ⌝ }
     ensures { λ r. ⌜ Added method (windowIn (now (readings .entry)) base q) (dayRows (now (readings .entry)) c base first 24 12 (daysIn (now (keys .entry)) x)) x r ⌝ }
 {
     match method {
@@ -87,8 +88,8 @@ fn fill_days(
 {
     let mut keys = [0u64; 20];
     crate::ranking::rank_days(c, calendar, readings, point, e, y, &mut keys);
-    let base = crate::judge::base_of(c, e);
-    let q = crate::judge::start_of(c, e);
+    let base = quarters::origin_of(c, e.point);
+    let q = quarters::in_calendar(c, e.day, e.first);
     let first = e.first as usize;
     let method = point.method;
     let add = addend_of(c, readings, &keys, x, base, first, q, method);
@@ -119,8 +120,8 @@ fn fill_last(
     requires { ⌜ Accepts c (now calendar) (now readings) point e x y × (looksBack (point .method) ≡ false) × (e .count ≤ length (now bases)) ⌝ }
     ensures { λ r. ⌜ Filled c (now (calendar .entry)) (now (readings .entry)) point e x y (now (bases .entry)) (now (bases .exit)) ⌝ }
 {
-    let base = crate::judge::base_of(c, e);
-    let q = crate::judge::start_of(c, e);
+    let base = quarters::origin_of(c, e.point);
+    let q = quarters::in_calendar(c, e.day, e.first);
     let level = crate::levels::last_level(readings, base, q, e.notice as usize + 1);
     fill_flat(bases, e.count as usize, level);
 }

@@ -1,13 +1,13 @@
 // Reference days: which are eligible, and their sums over the engagement's quarter-hours.
 use crate::tally::Tally;
-use book::Calendar;
 use book::Engagement;
 use book::Method;
 use book::Point;
+use quarters::Calendar;
 ghost use mathlib.Core.Path.{_≡_};
 ghost use Prim.Native.Nat.{_+_, _*_, _≤_, _<_};
 ghost use lib.ListN.{length};
-ghost use Rattle.book.specs.Calendars.{quartersOf};
+ghost use Rattle.quarters.specs.Quarters.{originOf, longestCalendar, farthestOrigin};
 ghost use Rattle.book.specs.Book.{Book};
 ghost use Rattle.baseline.specs.Tally.{inRow, Tallied};
 ghost use Rattle.baseline.specs.Shown.{Shows, Fits, Refers, windowIn};
@@ -15,7 +15,7 @@ ghost use Rattle.volumes.specs.Baseline.{windowed};
 
 // The 12 readings from 24 before quarter-hour q; those before the calendar are missing.
 pub fn window(readings: &[u8], base: usize, q: usize) -> Tally
-    requires { ⌜ (base ≤ 2000000) × (q ≤ 6144) × (4 * (base + q) ≤ length (now readings)) ⌝ }
+    requires { ⌜ (base ≤ farthestOrigin) × (q ≤ longestCalendar) × (4 * (base + q) ≤ length (now readings)) ⌝ }
     ensures { λ r. ⌜ Tallied (windowIn (now (readings .entry)) base q) 12 r ⌝ }
 {
     if q < 24 {
@@ -29,7 +29,7 @@ pub fn window(readings: &[u8], base: usize, q: usize) -> Tally
 
 // Method 2 looks at the day's window too.
 fn window_good(readings: &[u8], base: usize, q: usize, method: Method) -> bool
-    requires { ⌜ (base ≤ 2000000) × (q ≤ 6144) × (4 * (base + q) ≤ length (now readings)) ⌝ }
+    requires { ⌜ (base ≤ farthestOrigin) × (q ≤ longestCalendar) × (4 * (base + q) ≤ length (now readings)) ⌝ }
     ensures { λ r. ⌜ r ≡ windowed method (windowIn (now (readings .entry)) base q) ⌝ }
 {
     match method {
@@ -49,7 +49,7 @@ pub fn reference_day(
     base: usize,
     day: usize,
 ) -> Tally
-    requires { ⌜ Fits c (now calendar) (now readings) e × (base ≡ quartersOf c * e .point) × (day < e .day) ⌝ }
+    requires { ⌜ Fits c (now calendar) (now readings) e × (base ≡ originOf c (e .point)) × (day < e .day) ⌝ }
     ensures { λ r. ⌜ (r .sum ≤ 4294967295 * e .count) × ((b : Book) → Shows c (now (calendar .entry)) (now (readings .entry)) point e b → Refers b e day r) ⌝ }
 {
     let own = e.day as usize;
@@ -62,7 +62,7 @@ pub fn reference_day(
             sum: 0,
         };
     }
-    let q = (book::header::day_start(c, day as u64) + (e.first as u64)) as usize;
+    let q = (quarters::day_start(c, day as u64) + (e.first as u64)) as usize;
     let t = crate::tally::tally_row(readings, base + q, e.count as usize);
     let good = window_good(readings, base, q, method);
     Tally {

@@ -1,8 +1,8 @@
 // Levels: raised baselines, in grains. A raised reading has 2^31 watts more than the reading; a raised baseline has three times as much more, so that no
 // addend makes it less than 0.
-use book::Calendar;
 use book::Method;
 use grains::Grains;
+use quarters::Calendar;
 ghost use mathlib.Core.Path.{_≡_};
 ghost use mathlib.Core.Bool.{true};
 ghost use Prim.Native.Nat.{_+_, _*_, _≤_};
@@ -11,6 +11,7 @@ ghost use lib.ListN.{length};
 ghost use Rattle.integers.specs.Z.{Over};
 ghost use Rattle.integers.specs.Sums.{sumZ};
 ghost use Rattle.grains.specs.Grains.{grains, grainsZ, share};
+ghost use Rattle.quarters.specs.Quarters.{longestCalendar, farthestOrigin};
 ghost use Rattle.volumes.specs.Baseline.{watts, known, complete};
 ghost use Rattle.baseline.specs.Shown.{beforeIn, windowIn};
 ghost use Rattle.baseline.specs.Rows.{daysIn, dayRows, Lie};
@@ -25,7 +26,7 @@ pub fn lift() -> u64
 
 // The level of method 0: the reading n quarter-hours before quarter-hour q.
 pub fn last_level(readings: &[u8], base: usize, q: usize, n: usize) -> u64
-    requires { ⌜ (base ≤ 2000000) × (q ≤ 6144) × (1 ≤ n) × (n ≤ q) × (4 * (base + q) ≤ length (now readings)) ⌝ }
+    requires { ⌜ (base ≤ farthestOrigin) × (q ≤ longestCalendar) × (1 ≤ n) × (n ≤ q) × (4 * (base + q) ≤ length (now readings)) ⌝ }
     ensures { λ r. ⌜ Lasts (beforeIn (now (readings .entry)) base q n) r ⌝ }
 {
     Grains::from_watts(wire::raised_at(readings, base + (q - n))).count + lift()
@@ -57,7 +58,7 @@ pub fn addend_level(
     first: usize,
     q: usize,
 ) -> u64
-    requires { ⌜ Lie (now readings) (now keys) c base first 24 12 x × (1 ≤ x) × (q ≤ 6144) × (4 * (base + q) ≤ length (now readings)) ⌝ }
+    requires { ⌜ Lie (now readings) (now keys) c base first 24 12 x × (1 ≤ x) × (q ≤ longestCalendar) × (4 * (base + q) ≤ length (now readings)) ⌝ }
     ensures { λ r. ⌜ Adds (windowIn (now (readings .entry)) base q) (dayRows (now (readings .entry)) c base first 24 12 (daysIn (now (keys .entry)) x)) x r ⌝ }
 {
     let own = crate::days::window(readings, base, q);

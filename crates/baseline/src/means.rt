@@ -1,6 +1,6 @@
 // Sums over the days that are taken, and the levels that the methods make of them.
 use crate::tally::Tally;
-use book::Calendar;
+use quarters::Calendar;
 ghost use Prim.Native.Nat.{_*_};
 ghost use Rattle.baseline.specs.Tally.{Tallied};
 ghost use Rattle.baseline.specs.Rows.{daysIn, dayRows, Lie};
@@ -23,7 +23,7 @@ pub fn tally_days(
     let mut sum: u64 = 0;
     let mut j = 0;
     while j < x {
-        let start = book::header::day_start(c, keys[j] % 64) as usize;
+        let start = quarters::day_start(c, keys[j] % 64) as usize;
         let t = crate::tally::tally_row(readings, base + (start + q - back), n);
         whole = whole & t.whole;
         sum += t.sum;

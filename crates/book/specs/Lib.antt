@@ -1,6 +1,4 @@
 pub mod Refusals
-pub mod Calendars
-pub mod CalendarsLaws
 pub mod Header
 pub mod HeaderLaws
 pub mod Tables

@@ -1,14 +1,14 @@
 // Section 5: the engagements.
-use crate::Calendar;
 use crate::Direction;
 use crate::Engagement;
 use crate::Found;
+use quarters::Calendar;
 ghost use mathlib.Core.Path.{_≡_};
 ghost use mathlib.Core.Bool.{not, _||_};
 ghost use Prim.Native.Nat.{_+_, _*_, _≤_};
 ghost use lib.ListN.{length};
 ghost use Rattle.integers.specs.First.{first};
-ghost use Rattle.book.specs.Calendars.{Ranged};
+ghost use Rattle.quarters.specs.Quarters.{Ranged};
 ghost use Rattle.book.specs.Judged.{foundAt};
 ghost use Rattle.book.specs.Engagements.{directionOf, engagementOf, engagementAt, placeGood, termsGood, rises, overlaps, outOfOrder, badEngagement};
 
@@ -56,10 +56,10 @@ fn place_good(row: &[u8], c: Calendar, points: usize) -> bool
     let day = wire::u8_at(row, 2) as u64;
     let first = wire::u8_at(row, 3) as u64;
     let count = wire::u8_at(row, 4) as u64;
-    let quarters = crate::header::quarters(c, day);
+    let quarters = quarters::quarters(c, day);
     (point < points)
         & ((c.lead <= day)
-            & ((day < crate::header::days_of(c))
+            & ((day < quarters::days_of(c))
                 & ((first < quarters) & ((1 <= count) & (first + count <= quarters)))))
 }
 

@@ -1,39 +1,10 @@
 // The header, the pairs, and where the sections stand.
-use crate::Calendar;
+use quarters::Calendar;
 ghost use mathlib.Core.Path.{_≡_};
 ghost use Prim.Native.Nat.{_+_, _*_, _≤_};
 ghost use lib.ListN.{length};
-ghost use Rattle.book.specs.Calendars.{daysOf, quarters, dayStart, quartersOf, Ranged};
+ghost use Rattle.quarters.specs.Quarters.{Ranged};
 ghost use Rattle.book.specs.Header.{calendarOf, pointCount, engagementCount, headerFields, headerGood, isPair, sizes, adjoining, placesOf};
-
-// The days of the calendar.
-pub fn days_of(c: Calendar) -> u64
-    requires { ⌜ Ranged c ⌝ }
-    ensures { λ r. ⌜ r ≡ daysOf c ⌝ }
-{
-    calendar::dates::calendar_days(c.year, c.month, c.lead)
-}
-
-// The quarter-hours of a day, where it starts among those of the calendar, and those of the whole calendar.
-pub fn quarters(c: Calendar, day: u64) -> u64
-    ensures { λ r. ⌜ r ≡ quarters c day ⌝ }
-{
-    96
-}
-
-pub fn day_start(c: Calendar, day: u64) -> u64
-    requires { ⌜ day ≤ 64 ⌝ }
-    ensures { λ r. ⌜ r ≡ dayStart c day ⌝ }
-{
-    96 * day
-}
-
-pub fn quarters_of(c: Calendar) -> u64
-    requires { ⌜ Ranged c ⌝ }
-    ensures { λ r. ⌜ r ≡ quartersOf c ⌝ }
-{
-    day_start(c, days_of(c))
-}
 
 pub fn calendar_of(book: &[u8]) -> Calendar
     requires { ⌜ 56 ≤ length (now book) ⌝ }
@@ -109,8 +80,8 @@ pub fn layout_at(c: Calendar, points: usize, rows: usize) -> Places
     requires { ⌜ Ranged c × (points ≤ 256) × (rows ≤ 512) ⌝ }
     ensures { λ r. ⌜ r ≡ placesOf c points rows ⌝ }
 {
-    let days = days_of(c) as usize;
-    let quarters = quarters_of(c) as usize;
+    let days = quarters::days_of(c) as usize;
+    let quarters = quarters::quarters_of(c) as usize;
     let pairs = 56 + days;
     let register = pairs + 8;
     let readings = register + 64 * points;
@@ -130,8 +101,8 @@ pub fn layout_good(book: &[u8], c: Calendar, points: usize, rows: usize) -> bool
     ensures { λ r. ⌜ r ≡ adjoining (now (book .entry)) 0 56 (sizes c points rows) ⌝ }
 {
     let p = layout_at(c, points, rows);
-    let days = days_of(c) as usize;
-    let readings = 4 * (quarters_of(c) as usize) * points;
+    let days = quarters::days_of(c) as usize;
+    let readings = 4 * (quarters::quarters_of(c) as usize) * points;
     let late = pair_is(book, 3, p.readings, readings)
         & (pair_is(book, 4, p.engagements, 16 * rows) & (book.len() == p.end));
     pair_is(book, 0, 56, days)

@@ -7,7 +7,7 @@ use lib.Seq.{sets}
 use Rattle.book.specs.declared.Supply.{Supply}
 use Rattle.book.specs.declared.Direction.{Direction}
 use Rattle.book.specs.Book.{Book}
-use Rattle.volumes.specs.Quarters.{monthQuarters}
+use Rattle.quarters.specs.Quarters.{monthQuarters}
 use Rattle.volumes.specs.Series.{Kind, grainsAt, seriesOf}
 use Rattle.message.specs.Contents.{Observation}
 use Rattle.message.specs.Rows.{Row, numbers}

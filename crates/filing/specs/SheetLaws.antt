@@ -11,7 +11,7 @@ use Rattle.book.specs.Refusals.{Refusal}
 use Rattle.book.specs.Header.{registerSection}
 use Rattle.book.specs.Book.{bookOf}
 use Rattle.book.specs.Judged.{refusalOf}
-use Rattle.volumes.specs.Quarters.{monthQuarters}
+use Rattle.quarters.specs.Quarters.{monthQuarters}
 use Rattle.volumes.specs.Settlement.{orElse, bookRefusal}
 use Rattle.volumes.specs.Sheets.{parties, sheet}
 use Rattle.volumes.specs.SheetsLaws.{sheet-length}

@@ -21,6 +21,7 @@ use Rattle.calendar.specs.DatesLaws.{last-sunday-is, month-length}
 use Rattle.moments.specs.Moments.{momentBytes, dateBytes, timeBytes, tailBytes, periodStart, periodEnd, realDate, realTime, real, valueAt, parts, momentOf}
 use Rattle.moments.specs.Ids.{isTransactionId}
 use Rattle.kinds.specs.declared.Kind.the-variants.{Toe01}
+use Rattle.quarters.specs.Quarters.{quartersInMonth}
 use Rattle.message.specs.Contents.{Observation, Series, File}
 use Rattle.message.specs.Bytes.{element, opening, ending, closing, root, counter, group, partner, digits, quantityBytes, observationBytes, periodBytes, supplies, deliveries, supplyBytes, volumeBytes, seriesBytes, supplyOf, partnerBytes, fileBytes}
 use Rattle.message.specs.Valid.{isMoment, lastPosition, periods, firstOf, IsVolume, IsFile}
@@ -97,7 +98,7 @@ renders = ap around period
 
 -- it is valid
 volume : IsVolume series
-unfolding series observations All rises lastPosition monthLength
+unfolding series observations All rises lastPosition quartersInMonth monthLength
 volume =
     record {
       delivery = omega arith;

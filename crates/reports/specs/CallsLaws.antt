@@ -13,7 +13,7 @@ use Rattle.integers.specs.Tests.{both}
 use Rattle.moments.specs.Ids.{isTransactionId}
 use Rattle.book.specs.Book.{Book, bookOf}
 use Rattle.book.specs.Refusals.{Refusal, unless}
-use Rattle.volumes.specs.Quarters.{monthQuarters}
+use Rattle.quarters.specs.Quarters.{monthQuarters}
 use Rattle.volumes.specs.Settlement.{rowWidth, rowCount, orElse, bookRefusal}
 use Rattle.volumes.specs.SoundLaws.{never, not-refused}
 use Rattle.volumes.specs.Sheets.{parties}

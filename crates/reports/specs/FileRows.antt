@@ -14,7 +14,7 @@ use Rattle.book.specs.declared.Direction.{Direction}
 use Rattle.book.specs.declared.Direction.the-variants.{Up, Down}
 use Rattle.book.specs.declared.Point.{Point}
 use Rattle.book.specs.Book.{Book}
-use Rattle.volumes.specs.Quarters.{monthQuarters}
+use Rattle.quarters.specs.Quarters.{monthQuarters}
 use Rattle.volumes.specs.Series.{Kind, takes, receiverOf, partnerOf, Series, grainsAt, seriesOf}
 use Rattle.message.specs.Contents.{Observation, Series as TimeSeries, Partner, File}
 use Rattle.message.specs.Bytes.{fileBytes}

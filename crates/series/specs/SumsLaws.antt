@@ -20,12 +20,12 @@ use Rattle.book.specs.declared.Supply.{Supply}
 use Rattle.book.specs.declared.Supply.the-variants.{OffTake, Injection}
 use Rattle.book.specs.declared.Direction.{Direction}
 use Rattle.book.specs.declared.Direction.the-variants.{Up, Down}
-use Rattle.book.specs.declared.Calendar.{Calendar}
+use Rattle.quarters.specs.declared.Calendar.{Calendar}
 use Rattle.book.specs.declared.Engagement.{Engagement}
 use Rattle.book.specs.Engagements.{engagementAt}
 use Rattle.book.specs.Header.{calendarOf, registerSection, engagementSection}
 use Rattle.book.specs.Book.{Book, bookOf}
-use Rattle.volumes.specs.Quarters.{monthQuarters}
+use Rattle.quarters.specs.Quarters.{monthQuarters}
 use Rattle.volumes.specs.QuartersLaws.{map-range-cong, position-inside}
 use Rattle.volumes.specs.Settlement.{delivered, rows, rowCount}
 use Rattle.volumes.specs.SettlementLaws.{passing}

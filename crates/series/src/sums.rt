@@ -1,5 +1,4 @@
 // The watts of a series by position, from a book's delivered volumes.
-use book::Calendar;
 use book::Direction;
 use book::Engagement;
 use book::Point;
@@ -7,8 +6,7 @@ use book::Supply;
 use book::Takers;
 use grains::Grains;
 use kinds::Kind;
-use sheets::cells::first_cell;
-use sheets::cells::month_quarters;
+use quarters::Calendar;
 ghost use mathlib.Core.Path.{_≡_};
 ghost use mathlib.Core.Bool.{cond};
 ghost use Prim.Native.Nat.{ℕ, _+_, _*_, _^_, _≤_, _<_};
@@ -22,7 +20,7 @@ ghost use Rattle.book.specs.declared.Takers.the-variants.{Aggregated};
 ghost use Rattle.book.specs.declared.Direction.{Direction};
 ghost use Rattle.book.specs.Register.{pointAt};
 ghost use Rattle.book.specs.Book.{Book, bookOf};
-ghost use Rattle.volumes.specs.Quarters.{monthQuarters};
+ghost use Rattle.quarters.specs.Quarters.{monthQuarters};
 ghost use Rattle.volumes.specs.Baseline.{pointOf};
 ghost use Rattle.volumes.specs.Series.{takenBy, Told, receiverOf, partnerOf, sameSupply, sameDirection, isPoint, isEngagement, grainsAt, seriesWatts, seriesOf};
 ghost use Rattle.series.specs.Sums.{byPosition, cellAt, added, Addable, Parts, Parted, DeliveredIn};
@@ -208,7 +206,7 @@ fn add_engagements(
     while i < n {
         let e = book::engagements::engagement_at(engagements, i);
         let own = series_rows(register, e, kind, receiver, partner, supply, delivery);
-        let first = first_cell(c, e);
+        let first = quarters::cell_of(c, e.day, e.first);
         add_volumes(grains, first, volumes, at, own);
         at += e.count as usize;
         i += 1;
@@ -232,7 +230,7 @@ pub fn fill_grains(
     let register = settlement::sections::section(book, 2);
     let engagements = settlement::sections::section(book, 4);
     let c = book::header::calendar_of(book);
-    clear(grains, month_quarters(c));
+    clear(grains, quarters::month_quarters(c));
     add_engagements(
         c,
         register,
@@ -288,5 +286,5 @@ pub fn series_watts(
         watts,
     );
     let c = book::header::calendar_of(book);
-    fill_watts(watts, month_quarters(c));
+    fill_watts(watts, quarters::month_quarters(c));
 }

@@ -7,10 +7,10 @@ use native.Mathlib.Omega.{arith}
 use Rattle.integers.specs.Tests.{both}
 use Rattle.integers.specs.Ranges.{range}
 use Rattle.wire.specs.Readings.{readingAt}
-use Rattle.book.specs.declared.Calendar.{Calendar}
+use Rattle.quarters.specs.declared.Calendar.{Calendar}
 use Rattle.book.specs.declared.Engagement.{Engagement}
 use Rattle.book.specs.declared.Point.{Point}
-use Rattle.book.specs.Calendars.{dayStart, quartersOf}
+use Rattle.quarters.specs.Quarters.{dayStart, quartersOf}
 use Rattle.book.specs.Book.{Book}
 use Rattle.volumes.specs.Quarters.{start, quarterHours}
 use Rattle.volumes.specs.Baseline.{pointOf, complete, ownReading}

@@ -10,8 +10,8 @@ use Rattle.book.specs.declared.Direction.{Direction}
 use Rattle.book.specs.declared.Direction.the-variants.{Up, Down}
 use Rattle.book.specs.declared.Point.{Point}
 use Rattle.book.specs.declared.Engagement.{Engagement}
-use Rattle.book.specs.declared.Calendar.{Calendar}
-use Rattle.book.specs.Calendars.{quartersOf}
+use Rattle.quarters.specs.declared.Calendar.{Calendar}
+use Rattle.quarters.specs.Quarters.{quartersOf}
 use Rattle.volumes.specs.Quarters.{quarterHours, start}
 use Rattle.volumes.specs.Baseline.{watts}
 use Rattle.volumes.specs.Settlement.{deliveredBy, signed}

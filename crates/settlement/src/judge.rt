@@ -1,7 +1,7 @@
 // Refusals 1 to 9: those of the book, then by engagement.
 use baseline::judge::Lack;
-use book::Calendar;
 use book::Judged;
+use quarters::Calendar;
 ghost use mathlib.Core.Path.{_≡_};
 ghost use Prim.Native.Nat.{_<_};
 ghost use Rattle.book.specs.Header.{calendarOf};

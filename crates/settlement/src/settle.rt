@@ -1,7 +1,7 @@
 // Settling a book: its rows, or why there are none.
 use crate::judge::Verdict;
 use crate::rows::ROW_WIDTH;
-use book::Calendar;
+use quarters::Calendar;
 ghost use mathlib.Core.Path.{_≡_};
 ghost use mathlib.Core.Option.{none};
 ghost use Prim.Native.Nat.{_+_, _*_, _≤_, _<_};

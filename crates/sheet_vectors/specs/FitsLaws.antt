@@ -11,7 +11,7 @@ use borrow.Author.Tests.{leb-true}
 use native.Mathlib.Omega.{arith}
 use Rattle.book.specs.Refusals.{Refusal, unless}
 use Rattle.book.specs.Book.{bookOf}
-use Rattle.volumes.specs.Quarters.{monthQuarters}
+use Rattle.quarters.specs.Quarters.{monthQuarters}
 use Rattle.volumes.specs.Settlement.{orElse, bookRefusal}
 use Rattle.volumes.specs.Sheets.{parties}
 use Rattle.reports.specs.Calls.{stands, sheetRefusal, sheetSays, sheetAnswer, SheetCalled}

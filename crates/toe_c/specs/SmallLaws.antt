@@ -12,9 +12,9 @@ use native.Mathlib.Omega.{arith}
 use borrow.Author.Tests.{leb-true}
 use Rattle.integers.specs.First.{first}
 use Rattle.integers.specs.Ranges.{range, length-range}
-use Rattle.book.specs.declared.Calendar.{Calendar}
+use Rattle.quarters.specs.declared.Calendar.{Calendar}
 use Rattle.book.specs.declared.Engagement.{Engagement}
-use Rattle.book.specs.Calendars.{daysOf, quartersOf}
+use Rattle.quarters.specs.Quarters.{daysOf, quartersOf, monthQuarters}
 use Rattle.book.specs.Refusals.{Refusal, refused, unless, unlessFound}
 use Rattle.book.specs.Header.{calendarOf, pointCount, engagementCount, headerGood, layoutGood, calendarSection, pairSection, registerSection, readingSection, engagementSection}
 use Rattle.book.specs.HeaderLaws.{headed}
@@ -44,7 +44,6 @@ use Rattle.formats.specs.Format.{Res, got, bad}
 use Rattle.writer.specs.WriterRows.{isRows, rowsMessage}
 use Rattle.writer.specs.WriteCalls.{fitting, writeVerdict, WriteCalled}
 use Rattle.toe_c.specs.Codes.{refusalCode, Decoded, withFacts}
-use Rattle.volumes.specs.Quarters.{monthQuarters}
 use Rattle.volumes.specs.Sheets.{parties}
 use Rattle.reports.specs.declared.SheetAnswer.{SheetAnswer}
 use Rattle.reports.specs.declared.FileAnswer.{FileAnswer}

@@ -7,10 +7,9 @@ use lib.ListN.{length}
 use native.Mathlib.Omega.{arith}
 use Rattle.book.specs.Refusals.{Refusal}
 use Rattle.book.specs.Book.{bookOf}
-use Rattle.volumes.specs.Quarters.{monthQuarters}
+use Rattle.quarters.specs.Quarters.{monthQuarters}
+use Rattle.quarters.specs.QuartersLaws.{month-quarters-most}
 use Rattle.volumes.specs.Settlement.{rowCount, bookRefusal, settlingRefusal}
-use Rattle.volumes.specs.SettlementLaws.{passing}
-use Rattle.volumes.specs.SoundLaws.{sound}
 use Rattle.settlement.specs.Settling.{answerBy}
 use Rattle.message.specs.Rows.{Message}
 use Rattle.message.specs.Messages.{readMessage}
@@ -19,7 +18,6 @@ use Rattle.message.specs.declared.WriteAnswer.{WriteAnswer}
 use Rattle.writer.specs.WriteCalls.{writeVerdict, WriteCalled}
 use Rattle.reports.specs.Calls.{sheetRefusal, sheetSays, sheetAnswer, textOf, fileRefusal, fileSays, fileAnswer}
 use Rattle.series.specs.VolumesLaws.{volumes-most}
-use Rattle.filing.specs.ObservationsLaws.{month-most}
 use Rattle.toe_c.specs.Codes.{Tells, VerdictTells, settleCode, sheetCode, fileCode, readCode, writeCode, codedVerdict}
 use Rattle.toe_c.specs.SmallLaws.{AllSmall, VerdictSmall, RowsRoom, decoded, settling-small, sheet-judged, file-judged, verdict-written, read-judged, facts-judged}
 use Rattle.toe_c.specs.FileSizeLaws.{first-none, file-few}
@@ -39,7 +37,7 @@ settle-told bytes lent code e =
     let x = settlingRefusal bytes lent in
     subst (Tells x) (sym e) (settled-tells x (rowCount (bookOf bytes)) (settling-small bytes lent) (rows-few bytes lent))
 
--- ---- a sheet: at most 2,976 sums
+-- ---- a sheet: no more sums than a longest month has quarter-hours
 
 sheet-tells : (x : Option Refusal) (count : ℕ) → AllSmall x → (x ≡ none → count < 2 ^ 63) → Tells x (sheetCode (sheetSays x count))
 unfolding sheetSays
@@ -47,9 +45,7 @@ sheet-tells none count h k = k refl
 sheet-tells (some r) count h k = decoded (r .number) (r .item) h
 
 sums-few : (bytes : List ℕ) (party lent : ℕ) → sheetRefusal bytes party lent ≡ none → monthQuarters (bookOf bytes .calendar) < 2 ^ 63
-unfolding sheetRefusal
-sums-few bytes party lent e =
-    omega (arith, month-most (bookOf bytes .calendar) (sound bytes (passing bytes (first-none (bookRefusal bytes) _ e) .passed) .ranged))
+sums-few bytes party lent e = omega (arith, month-quarters-most (bookOf bytes .calendar))
 
 pub sheet-told : (bytes : List ℕ) (party lent code : ℕ) → code ≡ sheetCode (sheetAnswer bytes party lent) → Tells (sheetRefusal bytes party lent) code
 unfolding sheetAnswer

@@ -29,11 +29,11 @@ took-at c b s = took-days s (c .rank-days .last .1 .1 .1 .1 .1 .1 .0) (c .rank-d
 roomy : (c : tie.After-rank-days) → c .before .before .before .before .before .args .x ≤ length (c .rank-days .last .1 .1 .1 .1 .1 .1 .0)
 roomy c = omega (arith, c .rank-days .kept .1 .1 .1 .1 .1 .1 .0, c .before .before .before .before .before .pre .0 .few)
 
-base-of-requires : tie.Need-base-of-requires
-base-of-requires c κs = (c .before .before .before .before .before .before .pre .0 .fits .ranged, c .before .before .before .before .before .before .pre .0 .fits .few)
+origin-of-requires : tie.Need-origin-of-requires
+origin-of-requires c κs = (c .before .before .before .before .before .before .pre .0 .fits .ranged, c .before .before .before .before .before .before .pre .0 .fits .few)
 
-start-of-requires : tie.Need-start-of-requires
-start-of-requires c κs = let s = c .before .before .before .before .before .before .before in
+in-calendar-requires : tie.Need-in-calendar-requires
+in-calendar-requires c κs = let s = c .before .before .before .before .before .before .before in
     let a = s .pre .0 in
     let m = stands (s .args .c) (s .args .calendar .now) (s .args .readings .now) (s .args .e) (s .args .e .day) (a .fits) (a .fits .day) in
     m .early
@@ -49,10 +49,10 @@ addend-of-requires c κs = let s = c .before .before .before .before .before .be
     let a = s .pre .0 in
     let m = stands (s .args .c) (s .args .calendar .now) (s .args .readings .now) (s .args .e) (s .args .e .day) (a .fits) (a .fits .day) in
     let r = c .before .before .before .before .before in (
-      λ w. subst (λ (b : ℕ). Lie (s .args .readings .now) (r .rank-days .last .1 .1 .1 .1 .1 .1 .0) (s .args .c) b (s .args .e .first) 24 12 (s .args .x)) (sym (c .before .before .before .base-of .ensures)) (lie-windows (a .settled) (r .rank-days .last .1 .1 .1 .1 .1 .1 .0) (a .fits) (took-at r (a .book) (a .settled)) (a .few) (roomy r) w),
+      λ w. subst (λ (b : ℕ). Lie (s .args .readings .now) (r .rank-days .last .1 .1 .1 .1 .1 .1 .0) (s .args .c) b (s .args .e .first) 24 12 (s .args .x)) (sym (c .before .before .before .origin-of .ensures)) (lie-windows (a .settled) (r .rank-days .last .1 .1 .1 .1 .1 .1 .0) (a .fits) (took-at r (a .book) (a .settled)) (a .few) (roomy r) w),
       a .some,
-      omega (arith, m .inside, m .few, c .before .before .start-of .ensures),
-      omega (arith, m .roomy, c .before .before .before .base-of .ensures, c .before .before .start-of .ensures),
+      omega (arith, m .inside, m .few, c .before .before .in-calendar .ensures),
+      omega (arith, m .roomy, c .before .before .before .origin-of .ensures, c .before .before .in-calendar .ensures),
     )
 
 slice-aggregate-fill-means : tie.Need-slice-aggregate-fill-means
@@ -66,7 +66,7 @@ fill-means-requires c κs = let s = c .before .before .before .before .before .b
     let a = s .pre .0 in
     let m = stands (s .args .c) (s .args .calendar .now) (s .args .readings .now) (s .args .e) (s .args .e .day) (a .fits) (a .fits .day) in
     let r = c .before .before .before .before .before .before .before .before .before in (
-      λ k h. subst (λ (b : ℕ). Lie (s .args .readings .now) (r .rank-days .last .1 .1 .1 .1 .1 .1 .0) (s .args .c) b (s .args .e .first + k) 0 1 (s .args .x)) (sym (c .before .before .before .before .before .before .before .base-of .ensures)) (lie-quarters (a .settled) (r .rank-days .last .1 .1 .1 .1 .1 .1 .0) (a .fits) (took-at r (a .book) (a .settled)) (a .few) (roomy r) k h),
+      λ k h. subst (λ (b : ℕ). Lie (s .args .readings .now) (r .rank-days .last .1 .1 .1 .1 .1 .1 .0) (s .args .c) b (s .args .e .first + k) 0 1 (s .args .x)) (sym (c .before .before .before .before .before .before .before .origin-of .ensures)) (lie-quarters (a .settled) (r .rank-days .last .1 .1 .1 .1 .1 .1 .0) (a .fits) (took-at r (a .book) (a .settled)) (a .few) (roomy r) k h),
       a .some,
       m .short,
       c .before .before .before .addend-of .ensures .small,
@@ -80,14 +80,14 @@ returns : tie.Need-returns
 returns c = let s = c .before .before .before .before .before .before .before .before .before .before .before .before .before .before .before .before .before in
     let r = c .before .before .before .before .before .before .before .before .before .before .before .before in
     let keys = r .rank-days .last .1 .1 .1 .1 .1 .1 .0 in
-    let base = c .before .before .before .before .before .before .before .before .before .before .base-of .ensures in
+    let base = c .before .before .before .before .before .before .before .before .before .before .origin-of .ensures in
     let add = c .before .before .before .before .before .before .addend-of in
     let out = c .before .before .fill-means .last .1 .1 .1 .1 .1 .1 .1 .1 .0 in
     record {
       small = λ k h. c .before .before .fill-means .ensures .each k h .small;
       levels = λ book settled k h.
           by-days settled keys k (add .result) (getD out k 0) (s .args .point .method) refl (s .pre .1) (took-at r book settled) h
-          (subst-both (λ (b q : ℕ). Added (s .args .point .method) (windowIn (s .args .readings .now) b q) (dayRows (s .args .readings .now) (s .args .c) b (s .args .e .first) 24 12 (daysIn keys (s .args .x))) (s .args .x) (add .result)) base (c .before .before .before .before .before .before .before .before .before .start-of .ensures) (add .ensures))
+          (subst-both (λ (b q : ℕ). Added (s .args .point .method) (windowIn (s .args .readings .now) b q) (dayRows (s .args .readings .now) (s .args .c) b (s .args .e .first) 24 12 (daysIn keys (s .args .x))) (s .args .x) (add .result)) base (c .before .before .before .before .before .before .before .before .before .in-calendar .ensures) (add .ensures))
           (subst (λ (b : ℕ). Raises (dayRows (s .args .readings .now) (s .args .c) b (s .args .e .first + k) 0 1 (daysIn keys (s .args .x))) (s .args .x) (add .result) (getD out k 0)) base (c .before .before .fill-means .ensures .each k h));
       rest = c .before .before .fill-means .ensures .rest;
     }
@@ -98,8 +98,8 @@ fill-days-spec =
     (tie.spec
     slice-aggregate-rank-days
     rank-days-requires
-    base-of-requires
-    start-of-requires
+    origin-of-requires
+    in-calendar-requires
     cast-first
     slice-aggregate-addend-of
     addend-of-requires

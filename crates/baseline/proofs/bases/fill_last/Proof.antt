@@ -11,11 +11,11 @@ use borrow.Author.Needs.{needs}
 use Rattle.baseline.proofs.bases.fill_last.Statement.{statement}
 use Rattle.baseline.proofs.bases.fill_last.Tie as tie
 
-base-of-requires : tie.Need-base-of-requires
-base-of-requires c κs = (c .before .before .before .pre .0 .fits .ranged, c .before .before .before .pre .0 .fits .few)
+origin-of-requires : tie.Need-origin-of-requires
+origin-of-requires c κs = (c .before .before .before .pre .0 .fits .ranged, c .before .before .before .pre .0 .fits .few)
 
-start-of-requires : tie.Need-start-of-requires
-start-of-requires c κs = let s = c .before .before .before .before in
+in-calendar-requires : tie.Need-in-calendar-requires
+in-calendar-requires c κs = let s = c .before .before .before .before in
     let a = s .pre .0 in
     let m = stands (s .args .c) (s .args .calendar .now) (s .args .readings .now) (s .args .e) (s .args .e .day) (a .fits) (a .fits .day) in
     m .early
@@ -31,7 +31,7 @@ last-level-requires c κs = let s = c .before .before .before .before .before .b
     let a = s .pre .0 in
     let m = stands (s .args .c) (s .args .calendar .now) (s .args .readings .now) (s .args .e) (s .args .e .day) (a .fits) (a .fits .day) in
     let w = last-inside (a .settled) (method-0 (a .settled) (s .args .point .method) refl (s .pre .1)) in
-    (omega (arith, m .base, c .before .before .base-of .ensures), omega (arith, m .inside, m .few, c .before .start-of .ensures), omega arith, omega (arith, w, c .before .start-of .ensures), omega (arith, m .roomy, c .before .before .base-of .ensures, c .before .start-of .ensures))
+    (omega (arith, m .base, c .before .before .origin-of .ensures), omega (arith, m .inside, m .few, c .before .in-calendar .ensures), omega arith, omega (arith, w, c .before .in-calendar .ensures), omega (arith, m .roomy, c .before .before .origin-of .ensures, c .before .in-calendar .ensures))
 
 cast-fill-flat : tie.Need-cast-fill-flat
 cast-fill-flat c = search needs
@@ -46,7 +46,7 @@ returns : tie.Need-returns
 returns c = let s = c .before .before .before .before .before .before .before .before .before .before .before .before in
     let level = c .before .before .before .before .before .last-level in
     let here = same-fills (s .args .e .count) (level .result) (s .args .bases .now) (c .before .before .fill-flat .last .0) (c .before .before .fill-flat .ensures) in
-    let lasts = subst-both (λ (b q : ℕ). Lasts (beforeIn (s .args .readings .now) b q (s .args .e .notice + 1)) (level .result)) (c .before .before .before .before .before .before .before .before .base-of .ensures) (c .before .before .before .before .before .before .before .start-of .ensures) (level .ensures) in
+    let lasts = subst-both (λ (b q : ℕ). Lasts (beforeIn (s .args .readings .now) b q (s .args .e .notice + 1)) (level .result)) (c .before .before .before .before .before .before .before .before .origin-of .ensures) (c .before .before .before .before .before .before .before .in-calendar .ensures) (level .ensures) in
     record {
       small = λ k h. omega (arith, here .each k h, level .ensures .small);
       levels = λ book settled k h. rw (here .each k h) (by-last settled k (level .result) (method-0 settled (s .args .point .method) refl (s .pre .1)) lasts);
@@ -57,8 +57,8 @@ pub fill-last-spec : {M : Type 1} → statement M
 fill-last-spec =
     tie.close
     (tie.spec
-    base-of-requires
-    start-of-requires
+    origin-of-requires
+    in-calendar-requires
     cast-last-level
     add-last-level
     last-level-requires

@@ -1,4 +1,5 @@
 use Prim.Native.Nat.{ℕ, _+_, _-_, _*_, _%_, _≤_}
+use Rattle.quarters.specs.QuartersLaws.{day-start-few}
 use Rattle.baseline.specs.Tally.{inRow, Tallied}
 -- The tally of the days passed grows by one day a turn.
 use mathlib.Core.Path.{_≡_, subst}
@@ -7,7 +8,7 @@ use native.Mathlib.Nat.{zero-mul}
 use lib.ListN.{getD}
 use Rattle.baseline.specs.TallyLaws.{tally-none}
 use Rattle.baseline.specs.Rows.{daysIn, dayRows}
-use Rattle.baseline.specs.RowsLaws.{rows-more, product-few, day-start-few}
+use Rattle.baseline.specs.RowsLaws.{rows-more, product-few}
 use borrow.Author.Needs.{needs}
 use native.Mathlib.Omega.{arith}
 use Rattle.baseline.proofs.means.tally_days.Statement.{statement}
@@ -37,28 +38,28 @@ add-tally-row : tie.Need-add-tally-row Inv-loop μ-loop
 add-tally-row c = let l = c .before .before .before in
     let s = l .before .before .before in
     let h = s .pre .lies (l .loop .j) (omega arith) in
-    let f = day-start-few (s .args .c) (getD (s .args .keys .now) (l .loop .j) 0 % 64) (h .early) in
+    let f = day-start-few (s .args .c) (getD (s .args .keys .now) (l .loop .j) 0 % 64) (omega (arith, h .early)) in
     omega (arith, c .day-start .ensures, s .pre .quarter)
 
 sub-tally-row : tie.Need-sub-tally-row Inv-loop μ-loop
 sub-tally-row c = let l = c .before .before .before in
     let s = l .before .before .before in
     let h = s .pre .lies (l .loop .j) (omega arith) in
-    let f = day-start-few (s .args .c) (getD (s .args .keys .now) (l .loop .j) 0 % 64) (h .early) in
+    let f = day-start-few (s .args .c) (getD (s .args .keys .now) (l .loop .j) 0 % 64) (omega (arith, h .early)) in
     omega (arith, c .day-start .ensures, h .from)
 
 add-tally-row-2 : tie.Need-add-tally-row-2 Inv-loop μ-loop
 add-tally-row-2 c = let l = c .before .before .before in
     let s = l .before .before .before in
     let h = s .pre .lies (l .loop .j) (omega arith) in
-    let f = day-start-few (s .args .c) (getD (s .args .keys .now) (l .loop .j) 0 % 64) (h .early) in
+    let f = day-start-few (s .args .c) (getD (s .args .keys .now) (l .loop .j) 0 % 64) (omega (arith, h .early)) in
     omega (arith, c .day-start .ensures, s .pre .quarter, s .pre .start)
 
 tally-row-requires : tie.Need-tally-row-requires Inv-loop μ-loop
 tally-row-requires c κs = let l = c .before .before .before in
     let s = l .before .before .before in
     let h = s .pre .lies (l .loop .j) (omega arith) in
-    let f = day-start-few (s .args .c) (getD (s .args .keys .now) (l .loop .j) 0 % 64) (h .early) in
+    let f = day-start-few (s .args .c) (getD (s .args .keys .now) (l .loop .j) 0 % 64) (omega (arith, h .early)) in
     (omega (arith, c .day-start .ensures, h .room), omega (arith, s .pre .short))
 
 add-sum : tie.Need-add-sum Inv-loop μ-loop

@@ -17,8 +17,8 @@ Inv-loop c calendar readings point e y keys₀ base day₀ found₀ keys day fou
 abbrev μ-loop : tie.MeasureT-loop
 μ-loop c calendar readings point e y keys₀ base day₀ found₀ keys day found = day
 
-base-of-requires : tie.Need-base-of-requires Inv-loop μ-loop
-base-of-requires c κs = let s = c .before .before .before in (s .pre .0 .ranged, s .pre .0 .few)
+origin-of-requires : tie.Need-origin-of-requires Inv-loop μ-loop
+origin-of-requires c κs = let s = c .before .before .before in (s .pre .0 .ranged, s .pre .0 .few)
 
 cast-day : tie.Need-cast-day Inv-loop μ-loop
 cast-day c = search needs
@@ -40,7 +40,7 @@ sub-day c = search needs
 
 reference-day-requires : tie.Need-reference-day-requires Inv-loop μ-loop
 reference-day-requires c κs = let l = c .before .before in
-    (l .before .before .before .before .before .before .pre .0, l .before .before .base-of .ensures, omega arith)
+    (l .before .before .before .before .before .before .pre .0, l .before .before .origin-of .ensures, omega arith)
 
 consider-requires : tie.Need-consider-requires Inv-loop μ-loop
 consider-requires c κs = let l = c .before .before .before .before in
@@ -77,7 +77,7 @@ rank-days-spec =
     (tie.spec
     Inv-loop
     μ-loop
-    base-of-requires
+    origin-of-requires
     cast-day
     loop-holds
     same-length

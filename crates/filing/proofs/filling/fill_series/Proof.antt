@@ -2,7 +2,7 @@
 use mathlib.Core.Path.{_≡_, refl, ap, _∙_}
 use Prim.Native.Nat.{_≤_}
 use Rattle.book.specs.Book.{bookOf}
-use Rattle.volumes.specs.Quarters.{monthQuarters}
+use Rattle.quarters.specs.Quarters.{monthQuarters, longestMonth}
 use Rattle.volumes.specs.Series.{seriesOf}
 use Rattle.reports.specs.FileRows.{observationsOf}
 use Rattle.filing.specs.Observations.{observationsIn}
@@ -20,7 +20,7 @@ calendar c = dated (c .args .book .now) (c .args .volumes .now) (c .pre .0)
 month : (c : tie.After-month-quarters) → c .month-quarters .result ≡ monthQuarters (bookOf (c .before .before .before .before .before .before .before .before .args .book .now) .calendar)
 month c = c .month-quarters .ensures ∙ ap monthQuarters (c .before .calendar-of .ensures ∙ calendar (c .before .before .before .before .before .before .before .before) .own)
 
-few : (c : tie.After-month-quarters) → c .month-quarters .result ≤ 2976
+few : (c : tie.After-month-quarters) → c .month-quarters .result ≤ longestMonth
 few c = omega (arith, month c, calendar (c .before .before .before .before .before .before .before .before) .few)
 
 -- what is written are the series' observations

@@ -18,11 +18,11 @@ fill-bases-requires c κs = let s = c .before .before .before in
     let m = stands (s .args .c) (s .args .calendar .now) (s .args .readings .now) (s .args .e) (s .args .e .day) (a .fits) (a .fits .day) in
     (a, m .many)
 
-base-of-requires : tie.Need-base-of-requires
-base-of-requires c κs = (c .before .before .before .before .before .pre .0 .fits .ranged, c .before .before .before .before .before .pre .0 .fits .few)
+origin-of-requires : tie.Need-origin-of-requires
+origin-of-requires c κs = (c .before .before .before .before .before .pre .0 .fits .ranged, c .before .before .before .before .before .pre .0 .fits .few)
 
-start-of-requires : tie.Need-start-of-requires
-start-of-requires c κs = let s = c .before .before .before .before .before .before in
+in-calendar-requires : tie.Need-in-calendar-requires
+in-calendar-requires c κs = let s = c .before .before .before .before .before .before in
     let a = s .pre .0 in
     let m = stands (s .args .c) (s .args .calendar .now) (s .args .readings .now) (s .args .e) (s .args .e .day) (a .fits) (a .fits .day) in
     m .early
@@ -31,7 +31,7 @@ add-first : tie.Need-add-first
 add-first c = let s = c .before .before .before .before .before .before .before in
     let a = s .pre .0 in
     let m = stands (s .args .c) (s .args .calendar .now) (s .args .readings .now) (s .args .e) (s .args .e .day) (a .fits) (a .fits .day) in
-    omega (arith, m .base, m .inside, m .few, c .before .base-of .ensures, c .start-of .ensures)
+    omega (arith, m .base, m .inside, m .few, c .before .origin-of .ensures, c .in-calendar .ensures)
 
 slice-aggregate-write-rows : tie.Need-slice-aggregate-write-rows
 slice-aggregate-write-rows c = search needs
@@ -41,8 +41,8 @@ write-rows-requires c κs = let s = c .before .before .before .before .before .b
     let a = s .pre .0 in
     let m = stands (s .args .c) (s .args .calendar .now) (s .args .readings .now) (s .args .e) (s .args .e .day) (a .fits) (a .fits .day) in
     let f = c .before .before .before .before .before .fill-bases in
-    let first = ap₂ _+_ (c .before .before .before .base-of .ensures) (c .before .before .start-of .ensures) in
-    (s .pre .1, omega (arith, m .many, f .kept .1 .1 .1 .1 .1 .1 .1 .0), record { each = λ k h. omega (arith, f .ensures .small k h) }, omega (arith, m .roomy, c .before .before .before .base-of .ensures, c .before .before .start-of .ensures), own-whole (a .settled) (c .before .before .before .base-of .result + c .before .before .start-of .result) first)
+    let first = ap₂ _+_ (c .before .before .before .origin-of .ensures) (c .before .before .in-calendar .ensures) in
+    (s .pre .1, omega (arith, m .many, f .kept .1 .1 .1 .1 .1 .1 .1 .0), record { each = λ k h. omega (arith, f .ensures .small k h) }, omega (arith, m .roomy, c .before .before .before .origin-of .ensures, c .before .before .in-calendar .ensures), own-whole (a .settled) (c .before .before .before .origin-of .result + c .before .before .in-calendar .result) first)
 
 same-length : tie.Need-same-length
 same-length c = search needs
@@ -50,8 +50,8 @@ same-length c = search needs
 returns : tie.Need-returns
 returns c = λ b settled.
     let s = c .before .before .before .before .before .before .before .before .before .before .before .args in
-    let first = ap₂ _+_ (c .before .before .before .before .before .base-of .ensures) (c .before .before .before .before .start-of .ensures) in
-    c .before .write-rows .ensures ∙ ap (sets (s .out .now) (s .at)) (rows-are settled (c .before .before .before .before .before .before .before .fill-bases .last .1 .1 .1 .1 .1 .1 .1 .0) (c .before .before .before .before .before .base-of .result + c .before .before .before .before .start-of .result) (c .before .before .before .before .before .before .before .fill-bases .ensures) first)
+    let first = ap₂ _+_ (c .before .before .before .before .before .origin-of .ensures) (c .before .before .before .before .in-calendar .ensures) in
+    c .before .write-rows .ensures ∙ ap (sets (s .out .now) (s .at)) (rows-are settled (c .before .before .before .before .before .before .before .fill-bases .last .1 .1 .1 .1 .1 .1 .1 .0) (c .before .before .before .before .before .origin-of .result + c .before .before .before .before .in-calendar .result) (c .before .before .before .before .before .before .before .fill-bases .ensures) first)
 
 pub settle-engagement-spec : {M : Type 1} → statement M
 settle-engagement-spec =
@@ -59,8 +59,8 @@ settle-engagement-spec =
     (tie.spec
     slice-aggregate-fill-bases
     fill-bases-requires
-    base-of-requires
-    start-of-requires
+    origin-of-requires
+    in-calendar-requires
     add-first
     slice-aggregate-write-rows
     write-rows-requires

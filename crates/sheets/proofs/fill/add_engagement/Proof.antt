@@ -4,10 +4,13 @@ use mathlib.Core.Path.{_≡_, ap, ap₂, _∙_}
 use native.Mathlib.Omega.{arith}
 use lib.IntN.{pos}
 use lib.ListN.{replicate, length-replicate}
+use Prim.Native.Nat.{_*_}
+use Rattle.quarters.specs.Quarters.{longestDay}
 use Rattle.book.specs.declared.Engagement.{Engagement}
 use Rattle.book.specs.Engagements.{engagementAt}
 use Rattle.settlement.specs.Sections.{bookWith}
 use Rattle.settlement.specs.EngagedLaws.{engaged}
+use Rattle.volumes.specs.Settlement.{rowWidth}
 use Rattle.sheets.specs.Adds.{adds}
 use Rattle.sheets.specs.Shares.{getsOf, Both, correctionsFor, firstCell}
 use Rattle.sheets.specs.EngagementLaws.{Placing, engagement-placed, engagement-gets, engagement-both}
@@ -32,8 +35,8 @@ point-at-requires c κs =
     let s = c .before .before .before .before .before in
     rw (c .before .before .section .ensures, c .before .engagement-at .ensures) (engaged (s .pre .0) (s .args .i) (s .pre .2) .registered)
 
-first-cell-requires : tie.Need-first-cell-requires
-first-cell-requires c κs = let p = placed (c .before .before .before .before .before .before) in rw (c .before .before .engagement-at .ensures) (p .day, p .settled)
+cell-of-requires : tie.Need-cell-of-requires
+cell-of-requires c κs = let p = placed (c .before .before .before .before .before .before) in rw (c .before .before .engagement-at .ensures) (p .day, p .settled)
 
 slice-aggregate-fill-row : tie.Need-slice-aggregate-fill-row
 slice-aggregate-fill-row c = search needs
@@ -59,19 +62,19 @@ gets c =
     let k = c .before .before .before in
     let g = k .before .before in
     let s = g .before .before .before .before in
-    engagement-gets (s .pre .0) (s .args .i) (s .pre .2) (replicate 384 (pos 0)) (omega (arith, length-replicate 384 (pos 0))) (g .engagement-at .ensures) (k .point-at .ensures) (g .before .section .ensures) (c .fill-row .ensures .1) (s .args .party)
+    engagement-gets (s .pre .0) (s .args .i) (s .pre .2) (replicate (rowWidth * longestDay) (pos 0)) (omega (arith, length-replicate (rowWidth * longestDay) (pos 0))) (g .engagement-at .ensures) (k .point-at .ensures) (g .before .section .ensures) (c .fill-row .ensures .1) (s .args .party)
 
 both : (c : tie.After-fill-row) → Both (c .fill-row .last .1 .1 .1 .1 .0) (c .before .before .before .before .before .engagement-at .result .count)
 both c =
     let k = c .before .before .before in
     let g = k .before .before in
     let s = g .before .before .before .before in
-    engagement-both (s .pre .0) (s .args .i) (s .pre .2) (replicate 384 (pos 0)) (omega (arith, length-replicate 384 (pos 0))) (g .engagement-at .ensures) (k .point-at .ensures) (g .before .section .ensures) (c .fill-row .ensures .1)
+    engagement-both (s .pre .0) (s .args .i) (s .pre .2) (replicate (rowWidth * longestDay) (pos 0)) (omega (arith, length-replicate (rowWidth * longestDay) (pos 0))) (g .engagement-at .ensures) (k .point-at .ensures) (g .before .section .ensures) (c .fill-row .ensures .1)
 
 -- the first of its cells
-cell : (c : tie.After-first-cell) → let a = c .before .before .before .before .before .before .before .args in
-    c .first-cell .result ≡ firstCell (a .c) (engagementAt (a .engagements .now) (a .i))
-cell c = c .first-cell .ensures ∙ ap (firstCell (c .before .before .before .before .before .before .before .args .c)) (c .before .before .before .engagement-at .ensures)
+cell : (c : tie.After-cell-of) → let a = c .before .before .before .before .before .before .before .args in
+    c .cell-of .result ≡ firstCell (a .c) (engagementAt (a .engagements .now) (a .i))
+cell c = c .cell-of .ensures ∙ ap (firstCell (c .before .before .before .before .before .before .before .args .c)) (c .before .before .before .engagement-at .ensures)
 
 add-rows-requires : tie.Need-add-rows-requires
 add-rows-requires c κs =
@@ -98,7 +101,7 @@ add-engagement-spec =
     engagement-at-requires
     cast-point-at
     point-at-requires
-    first-cell-requires
+    cell-of-requires
     slice-aggregate-fill-row
     fill-row-requires
     slice-aggregate-add-rows

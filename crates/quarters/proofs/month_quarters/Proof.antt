@@ -3,12 +3,12 @@ use borrow.Author.Needs.{needs}
 use mathlib.Core.Path.{ap₂}
 use Prim.Native.Nat.{_-_}
 use native.Mathlib.Omega.{arith}
-use Rattle.book.specs.Calendars.{daysOf}
-use Rattle.book.specs.CalendarsLaws.{days-few}
-use Rattle.volumes.specs.Quarters.{monthQuarters}
-use Rattle.volumes.specs.QuartersLaws.{day-start-mono}
-use Rattle.sheets.proofs.cells.month_quarters.Statement.{statement}
-use Rattle.sheets.proofs.cells.month_quarters.Tie as tie
+use Rattle.quarters.specs.Quarters.{daysOf}
+use Rattle.quarters.specs.QuartersLaws.{days-few}
+use Rattle.quarters.specs.Quarters.{monthQuarters}
+use Rattle.quarters.specs.QuartersLaws.{day-start-mono}
+use Rattle.quarters.proofs.month_quarters.Statement.{statement}
+use Rattle.quarters.proofs.month_quarters.Tie as tie
 
 quarters-of-requires : tie.Need-quarters-of-requires
 quarters-of-requires c κs = search needs

@@ -1,8 +1,8 @@
 -- Each day has as many.
 use mathlib.Core.Path.{refl}
-use Rattle.book.specs.Calendars.{quarters}
-use Rattle.book.proofs.header.quarters.Statement.{statement}
-use Rattle.book.proofs.header.quarters.Tie as tie
+use Rattle.quarters.specs.Quarters.{quarters}
+use Rattle.quarters.proofs.quarters.Statement.{statement}
+use Rattle.quarters.proofs.quarters.Tie as tie
 
 returns : tie.Need-returns
 unfolding quarters

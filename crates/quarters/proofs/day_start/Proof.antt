@@ -1,9 +1,9 @@
 -- Days of equal length.
 use mathlib.Core.Path.{refl}
-use Rattle.book.specs.Calendars.{dayStart}
+use Rattle.quarters.specs.Quarters.{dayStart}
 use borrow.Author.Needs.{needs}
-use Rattle.book.proofs.header.day_start.Statement.{statement}
-use Rattle.book.proofs.header.day_start.Tie as tie
+use Rattle.quarters.proofs.day_start.Statement.{statement}
+use Rattle.quarters.proofs.day_start.Tie as tie
 
 mul-result : tie.Need-mul-result
 mul-result c = search needs

@@ -1,9 +1,9 @@
 -- The calendar ends where the day after its last would start.
-use Rattle.book.specs.CalendarsLaws.{days-few}
+use Rattle.quarters.specs.QuartersLaws.{days-few}
 use native.Mathlib.Omega.{arith}
 use borrow.Author.Needs.{needs}
-use Rattle.book.proofs.header.quarters_of.Statement.{statement}
-use Rattle.book.proofs.header.quarters_of.Tie as tie
+use Rattle.quarters.proofs.quarters_of.Statement.{statement}
+use Rattle.quarters.proofs.quarters_of.Tie as tie
 
 days-of-requires : tie.Need-days-of-requires
 days-of-requires c κs = search needs
