@@ -37,13 +37,13 @@ pub record Fits (c : Calendar) (calendar readings : List ℕ) (e : Engagement) :
   pub few : e .point < 256
   pub room : 4 * (originOf c (e .point) + quartersOf c) ≤ length readings
 
--- the reading n quarter-hours before quarter-hour q, of the point whose readings start at `base`
+-- the reading n quarter-hours before quarter-hour q, of the point whose readings start at `origin`
 abbrev pub beforeIn : List ℕ → ℕ → ℕ → ℕ → Reading
-beforeIn readings base q n = cond (leb n q) (readingAt readings (base + (q - n))) Missing
+beforeIn readings origin q n = cond (leb n q) (readingAt readings (origin + (q - n))) Missing
 
 -- the 12 readings from 24 before quarter-hour q
 abbrev pub windowIn : List ℕ → ℕ → ℕ → List Reading
-windowIn readings base q = map (λ i. beforeIn readings base q (24 - i)) (range 0 12)
+windowIn readings origin q = map (λ i. beforeIn readings origin q (24 - i)) (range 0 12)
 
 -- whole where day d is eligible, and then its sum, raised
 pub record Refers (book : Book) (e : Engagement) (d : ℕ) (t : Tally) : Type 0 where

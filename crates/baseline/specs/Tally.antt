@@ -1,4 +1,4 @@
--- Readings in a row, and what a tally of them says.
+-- Runs of readings, and what a tally of them says.
 use mathlib.Core.Path.{_≡_}
 use mathlib.Core.Bool.{true}
 use mathlib.Core.List.{List, map}
@@ -12,8 +12,8 @@ use Rattle.volumes.specs.Baseline.{watts, complete}
 use Rattle.baseline.specs.declared.tally.Tally.{Tally}
 
 -- n readings from reading `at` on
-abbrev pub inRow : List ℕ → ℕ → ℕ → List Reading
-inRow readings at n = map (readingAt readings) (range at n)
+abbrev pub inRun : List ℕ → ℕ → ℕ → List Reading
+inRun readings at n = map (readingAt readings) (range at n)
 
 -- whole where no reading of a list of n is missing, and then their sum, raised by 2^31 a reading
 pub record Tallied (list : List Reading) (n : ℕ) (t : Tally) : Type 0 where

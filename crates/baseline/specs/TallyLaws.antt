@@ -17,11 +17,11 @@ use Rattle.wire.specs.declared.Reading.{Reading}
 use Rattle.wire.specs.declared.Reading.the-variants.{Watts}
 use Rattle.volumes.specs.Baseline.{watts, known, complete}
 use Rattle.volumes.specs.BaselineLaws.{complete-append}
-use Rattle.baseline.specs.Tally.{inRow, Tallied}
+use Rattle.baseline.specs.Tally.{inRun, Tallied}
 use Rattle.baseline.specs.declared.tally.Tally.{Tally}
 
-pub row-more : (readings : List ℕ) (at n : ℕ) → inRow readings at (n + 1) ≡ inRow readings at n ++ (readingAt readings (at + n) ∷ [])
-row-more readings at n = ap (map (readingAt readings)) (range-more at n) ∙ map-append (readingAt readings) (range at n) ((at + n) ∷ [])
+pub run-more : (readings : List ℕ) (at n : ℕ) → inRun readings at (n + 1) ≡ inRun readings at n ++ (readingAt readings (at + n) ∷ [])
+run-more readings at n = ap (map (readingAt readings)) (range-more at n) ∙ map-append (readingAt readings) (range at n) ((at + n) ∷ [])
 
 pub complete-more : (l : List Reading) (r : Reading) → complete (l ++ (r ∷ [])) ≡ (complete l && known r)
 unfolding complete

@@ -23,25 +23,25 @@ pub enum Lack {
 }
 
 // The reading n quarter-hours before quarter-hour q is there.
-fn known_before(readings: &[u8], base: usize, q: usize, n: usize) -> bool
-    requires { ⌜ (base ≤ farthestOrigin) × (q ≤ longestCalendar) × (1 ≤ n) × (4 * (base + q) ≤ length (now readings)) ⌝ }
-    ensures { λ r. ⌜ r ≡ known (beforeIn (now (readings .entry)) base q n) ⌝ }
+fn known_before(readings: &[u8], origin: usize, q: usize, n: usize) -> bool
+    requires { ⌜ (origin ≤ farthestOrigin) × (q ≤ longestCalendar) × (1 ≤ n) × (4 * (origin + q) ≤ length (now readings)) ⌝ }
+    ensures { λ r. ⌜ r ≡ known (beforeIn (now (readings .entry)) origin q n) ⌝ }
 {
     if q < n {
         return false;
     }
-    wire::raised_at(readings, base + (q - n)) != 0
+    wire::raised_at(readings, origin + (q - n)) != 0
 }
 
 // The readings that the method needs besides those of the engagement's quarter-hours are there.
-fn method_whole(readings: &[u8], base: usize, q: usize, notice: usize, method: Method) -> bool
-    requires { ⌜ (base ≤ farthestOrigin) × (q ≤ longestCalendar) × (notice ≤ 96) × (4 * (base + q) ≤ length (now readings)) ⌝ }
-    ensures { λ r. ⌜ r ≡ complete (neededIn method (now (readings .entry)) base q notice) ⌝ }
+fn method_whole(readings: &[u8], origin: usize, q: usize, notice: usize, method: Method) -> bool
+    requires { ⌜ (origin ≤ farthestOrigin) × (q ≤ longestCalendar) × (notice ≤ 96) × (4 * (origin + q) ≤ length (now readings)) ⌝ }
+    ensures { λ r. ⌜ r ≡ complete (neededIn method (now (readings .entry)) origin q notice) ⌝ }
 {
     match method {
-        Method::LastQuarter => known_before(readings, base, q, notice + 1),
+        Method::LastQuarter => known_before(readings, origin, q, notice + 1),
         Method::HighXOfY => true,
-        Method::Adjusted => crate::days::window(readings, base, q).whole,
+        Method::Adjusted => crate::days::window(readings, origin, q).whole,
     }
 }
 
@@ -56,12 +56,12 @@ fn readings_whole(
     requires { ⌜ Fits c (now calendar) (now readings) e ⌝ }
     ensures { λ r. ⌜ ((b : Book) → Shows c (now (calendar .entry)) (now (readings .entry)) point e b → r ≡ complete (needed b e)) ⌝ }
 {
-    let base = quarters::origin_of(c, e.point);
+    let origin = quarters::origin_of(c, e.point);
     let q = quarters::in_calendar(c, e.day, e.first);
     let method = point.method;
-    let own = crate::tally::tally_row(readings, base + q, e.count as usize);
+    let own = crate::tally::tally_run(readings, origin + q, e.count as usize);
     let whole = own.whole;
-    whole & method_whole(readings, base, q, e.notice as usize, method)
+    whole & method_whole(readings, origin, q, e.notice as usize, method)
 }
 
 // Whether the method looks at reference days.

@@ -67,7 +67,7 @@ pub fn rank_days(
     requires { ⌜ Fits c (now calendar) (now readings) e × (y ≤ length (now keys)) ⌝ }
     ensures { λ r. ⌜ ((b : Book) → Shows c (now (calendar .entry)) (now (readings .entry)) point e b → RankedTo b e y (now (keys .entry)) (now (keys .exit)) r) ⌝ }
 {
-    let base = quarters::origin_of(c, e.point);
+    let origin = quarters::origin_of(c, e.point);
     let mut day = e.day as usize;
     let mut found = 0;
     while found < y {
@@ -75,7 +75,7 @@ pub fn rank_days(
             return found;
         }
         day -= 1;
-        let t = crate::days::reference_day(c, calendar, readings, point, e, base, day);
+        let t = crate::days::reference_day(c, calendar, readings, point, e, origin, day);
         found = consider(keys, found, t, day);
     }
     found

@@ -39,7 +39,7 @@ use Rattle.settlement.specs.Sections.{engagementCountIn, engagementsIn, rowCoun
 use Rattle.settlement.specs.SectionsLaws.{rows-counted, same-book, opened}
 use Rattle.settlement.specs.EngagedLaws.{engaged}
 use Rattle.settlement.specs.PartsLaws.{rowCountTo, count-more, count-most}
-use Rattle.baseline.specs.BasesLaws.{next-cell}
+use Rattle.baseline.specs.FillsLaws.{next-cell}
 use Rattle.series.specs.Sums.{byPosition, cellAt, grainsTo, added, Addable, Parts, DeliveredIn}
 use Rattle.series.specs.Volumes.{bookVolumes}
 use Rattle.series.specs.VolumesLaws.{volumes-length, volume-of}

@@ -50,7 +50,7 @@ fn fill_engagement(
     ensures { λ r. ⌜ (r ≡ at + engagementAt (now (engagements .entry)) i .count) × (now (volumes .exit) ≡ sets (now (volumes .entry)) at (volumesOf (bookWith (now (book .entry)) (now (engagements .entry))) (engagementAt (now (engagements .entry)) i))) ⌝ }
 {
     let mut rows = [0i64; settlement::rows::ROW_WIDTH * quarters::LONGEST_DAY];
-    settlement::settle::fill_row(c, book, engagements, i, &mut rows, 0);
+    settlement::settle::settle_engagement_at(c, book, engagements, i, &mut rows, 0);
     let e = book::engagements::engagement_at(engagements, i);
     let n = e.count as usize;
     store_volumes(volumes, at, &rows, n);

@@ -13,7 +13,7 @@ greatest = grains 17179869184
 
 -- the baseline of a raised one, and the watts of a raised reading
 unfoldable pub baselineOf : ℕ → ℤ
-baselineOf base = subℕ base bias
+baselineOf level = subℕ level bias
 
 unfoldable pub wattsOf : ℕ → ℤ
 wattsOf raised = subℕ raised 2147483648

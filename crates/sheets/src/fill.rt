@@ -33,7 +33,7 @@ fn add_engagement(
     let point = book::register::point_at(register, e.point as usize);
     let at = quarters::cell_of(c, e.day, e.first);
     let mut rows = [0i64; settlement::rows::ROW_WIDTH * quarters::LONGEST_DAY];
-    settlement::settle::fill_row(c, book, engagements, i, &mut rows, 0);
+    settlement::settle::settle_engagement_at(c, book, engagements, i, &mut rows, 0);
     crate::cells::add_rows(sums, at, party, point, &rows, e.count as usize);
 }
 

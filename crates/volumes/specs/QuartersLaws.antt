@@ -39,6 +39,11 @@ module _ {ℓ κ} {A : Type ℓ} {B : Type κ} where
   length-flatMap n f h [] = omega (arith, mul-zero n)
   length-flatMap n f h (a ∷ l) = simp (length-append, h, length-flatMap n f h l) (omega (arith, mul-suc n (length l)))
 
+-- where an engagement starts in the calendar
+pub start-is : (c : Calendar) (e : Engagement) → start c e ≡ inCalendar c (e .day) (e .first)
+unfolding start
+start-is c e = refl
+
 module _ (c : Calendar) (points : ℕ) (e : Engagement) (h : Placed c points e) where
   pub start-inside : (k : ℕ) → k < e .count → start c e + k < quartersOf c
   unfolding start

@@ -1,3 +1,4 @@
+-- A's window and the days' windows have one bias, which falls out of the difference.
 use mathlib.Core.Path.{_≡_, subst, ap₂, _∙_}
 use Prim.Native.Nat.{ℕ, _+_, _-_, _*_, _≤_}
 use lib.IntN.{pos, _*ℤ_}
@@ -6,9 +7,8 @@ use Rattle.integers.specs.Z.{Over}
 use Rattle.volumes.specs.Baseline.{watts}
 use Rattle.grains.specs.Grains.{grains, share, Shares}
 use Rattle.baseline.specs.Shown.{windowIn}
-use Rattle.baseline.specs.Rows.{daysIn, dayRows}
+use Rattle.baseline.specs.Runs.{daysIn, dayRuns}
 use Rattle.baseline.specs.LevelLaws.{difference}
--- A's window and the days' windows have one bias, which falls out of the difference.
 use native.Mathlib.Nat.{mul-comm}
 use Rattle.grains.specs.GrainsLaws.{shares-12x, mean-over, mean-small}
 use native.Mathlib.Omega.{arith}
@@ -55,8 +55,8 @@ returns c = let s = c .before .before .before .before .before .before .before in
     let x = s .args .x in
     let own = c .before .before .before .before .window in
     let days = c .before .before .before .tally-days in
-    let total = sumZ watts (dayRows (s .args .readings .now) (s .args .c) (s .args .base) (s .args .first) 24 12 (daysIn (s .args .keys .now) (s .args .x))) in
-    let mine = sumZ watts (windowIn (s .args .readings .now) (s .args .base) (s .args .q)) in
+    let total = sumZ watts (dayRuns (s .args .readings .now) (s .args .c) (s .args .e) (s .args .origin) 0 24 12 (daysIn (s .args .keys .now) (s .args .x))) in
+    let mine = sumZ watts (windowIn (s .args .readings .now) (s .args .origin) (s .args .q)) in
     let less = less-small (c .before) in
     let answer : c .before .before .mean .result .count + c .lift .result - c .before .mean2 .result .count ≡ own .result .sum * share 12 + grains 4294967296 - days .result .sum * share (12 * x) = ap₂ _-_ (ap₂ _+_ (c .before .before .mean .ensures) (c .lift .ensures)) (c .before .mean2 .ensures) in
     rw answer

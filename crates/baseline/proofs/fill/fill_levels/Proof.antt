@@ -1,8 +1,8 @@
 -- Methods 1 and 2 look at days, method 0 at one reading.
 use mathlib.Core.Path.{sym, _∙_}
 use borrow.Author.Needs.{needs}
-use Rattle.baseline.proofs.bases.fill_bases.Statement.{statement}
-use Rattle.baseline.proofs.bases.fill_bases.Tie as tie
+use Rattle.baseline.proofs.fill.fill_levels.Statement.{statement}
+use Rattle.baseline.proofs.fill.fill_levels.Tie as tie
 
 looks-back-requires : tie.Need-looks-back-requires
 looks-back-requires c κs = search needs
@@ -27,8 +27,8 @@ same-length-2 c = search needs
 returns-2 : tie.Need-returns-2
 returns-2 c = search needs
 
-pub fill-bases-spec : {M : Type 1} → statement M
-fill-bases-spec =
+pub fill-levels-spec : {M : Type 1} → statement M
+fill-levels-spec =
     tie.close
     (tie.spec
     looks-back-requires

@@ -13,8 +13,8 @@ use Rattle.settlement.specs.PartsLaws.{rowCountTo, count-none, count-mor
 use Rattle.settlement.specs.SettlingLaws.{rows-all, not-refused}
 use borrow.Author.Needs.{needs}
 use native.Mathlib.Omega.{arith}
-use Rattle.settlement.proofs.settle.fill_rows.Statement.{statement}
-use Rattle.settlement.proofs.settle.fill_rows.Tie as tie
+use Rattle.settlement.proofs.settle.settle_engagements.Statement.{statement}
+use Rattle.settlement.proofs.settle.settle_engagements.Tie as tie
 
 abbrev Inv-loop : tie.InvT-loop
 Inv-loop c book engagements out₀ n at₀ i₀ out at i = (i ≤ n) × (at ≡ rowWidth * rowCountTo engagements i) × (out ≡ sets out₀ 0 (partsTo (rowsOf (bookWith book engagements)) engagements i))
@@ -36,8 +36,8 @@ room c =
     let same = ap length (l .inv .2) ∙ length-sets (s .args .out .now) 0 (partsTo (rowsOf (bookWith (s .args .book .now) (s .args .engagements .now))) engagements (l .i)) in
     omega (arith, same, l .inv .1, count-more engagements (l .i) (search needs), count-most engagements (l .i + 1), s .pre .3)
 
-fill-row-requires : tie.Need-fill-row-requires Inv-loop μ-loop
-fill-row-requires c κs =
+settle-engagement-at-requires : tie.Need-settle-engagement-at-requires Inv-loop μ-loop
+settle-engagement-at-requires c κs =
     let s = c .before .before .before .before .before in
     (s .pre .0, s .pre .1, search needs, not-refused (s .pre .0) (s .pre .2) (c .before .before .loop .i) (search needs), room (c .before))
 
@@ -52,7 +52,7 @@ loop-again c =
     let s = c .before .before .before .before .before .before .before in
     let l = c .before .before .before .before .loop in
     let book = bookWith (s .args .book .now) (s .args .engagements .now) in
-    let r = c .before .fill-row .ensures in
+    let r = c .before .settle-engagement-at .ensures in
     let more = count-more (s .args .engagements .now) (l .i) (search needs) in (
       search needs,
       omega (arith, r .0, l .inv .1, more),
@@ -70,14 +70,14 @@ returns c =
     let l = c .before .loop in
     l .inv .2 ∙ ap (sets (s .args .out .now) 0) (rows-all _ _ (l .i) (search needs))
 
-pub fill-rows-spec : {M : Type 1} → statement M
-fill-rows-spec =
+pub settle-engagements-spec : {M : Type 1} → statement M
+settle-engagements-spec =
     tie.close
     (tie.spec
     Inv-loop
     μ-loop
     loop-holds
-    fill-row-requires
+    settle-engagement-at-requires
     add-i
     loop-less
     loop-again

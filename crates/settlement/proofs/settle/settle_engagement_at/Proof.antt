@@ -12,8 +12,8 @@ use Rattle.settlement.specs.EngagedLaws.{Engaged, engaged-as}
 use Rattle.settlement.specs.SettlingLaws.{settled, accepts}
 use native.Mathlib.Omega.{arith}
 use borrow.Author.Needs.{needs}
-use Rattle.settlement.proofs.settle.fill_row.Statement.{statement}
-use Rattle.settlement.proofs.settle.fill_row.Tie as tie
+use Rattle.settlement.proofs.settle.settle_engagement_at.Statement.{statement}
+use Rattle.settlement.proofs.settle.settle_engagement_at.Tie as tie
 
 section-requires : tie.Need-section-requires
 section-requires c κs = (c .before .before .pre .0 .passed, search needs)
@@ -111,8 +111,8 @@ returns c =
           ∙ ap (λ (e : Engagement). sets (a .out .now) (a .at) (rowsOf book e)) (g .engagement-at .ensures),
     )
 
-pub fill-row-spec : {M : Type 1} → statement M
-fill-row-spec =
+pub settle-engagement-at-spec : {M : Type 1} → statement M
+settle-engagement-at-spec =
     tie.close
     (tie.spec
     section-requires

@@ -3,8 +3,8 @@ use mathlib.Core.Path.{_≡_}
 use Prim.Native.Nat.{ℕ}
 use native.Mathlib.Omega.{arith}
 use borrow.Author.Needs.{needs}
-use Rattle.baseline.proofs.bases.addend_of.Statement.{statement}
-use Rattle.baseline.proofs.bases.addend_of.Tie as tie
+use Rattle.baseline.proofs.fill.addend_of.Statement.{statement}
+use Rattle.baseline.proofs.fill.addend_of.Tie as tie
 
 enum-told : tie.Need-enum-told
 enum-told c = search needs

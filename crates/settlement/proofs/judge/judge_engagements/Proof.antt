@@ -8,8 +8,8 @@ use Rattle.baseline.specs.Needs.{numberOf}
 use Rattle.settlement.specs.Sections.{bookWith}
 use Rattle.settlement.specs.EngagedLaws.{refusal-row, refusal-last}
 use borrow.Author.Needs.{needs}
-use Rattle.settlement.proofs.judge.judge_rows.Statement.{statement}
-use Rattle.settlement.proofs.judge.judge_rows.Tie as tie
+use Rattle.settlement.proofs.judge.judge_engagements.Statement.{statement}
+use Rattle.settlement.proofs.judge.judge_engagements.Tie as tie
 
 abbrev Inv-loop : tie.InvT-loop
 Inv-loop c book engagements n i₀ i = (i ≤ n) × (settlementRefusal (bookWith book engagements) ≡ refusalAt (bookWith book engagements) i)
@@ -20,19 +20,19 @@ abbrev μ-loop : tie.MeasureT-loop
 loop-holds : tie.Need-loop-holds Inv-loop μ-loop
 loop-holds c = (search needs, refusal-all _)
 
-judge-row-requires : tie.Need-judge-row-requires Inv-loop μ-loop
-judge-row-requires c κs = search needs
+judge-engagement-at-requires : tie.Need-judge-engagement-at-requires Inv-loop μ-loop
+judge-engagement-at-requires c κs = search needs
 
 -- what is known of the present engagement, by what it lacks
-judged : (c : tie.After-judge-row Inv-loop μ-loop) → let s = c .before .before .before .before .before in
+judged : (c : tie.After-judge-engagement-at Inv-loop μ-loop) → let s = c .before .before .before .before .before in
     let i = c .before .before .loop .i in
-    let book = bookWith (s .args .book .now) (s .args .engagements .now) in settlementRefusal book ≡ rowRefusal i (numberOf (c .judge-row .result)) (refusalAt book (i + 1))
+    let book = bookWith (s .args .book .now) (s .args .engagements .now) in settlementRefusal book ≡ rowRefusal i (numberOf (c .judge-engagement-at .result)) (refusalAt book (i + 1))
 judged c = let s = c .before .before .before .before .before in
     let l = c .before .before .loop in
     let book = bookWith (s .args .book .now) (s .args .engagements .now) in
     l .inv .1
     ∙ refusal-row (s .pre .0) (l .i) (search needs)
-    ∙ ap (λ (o : Option ℕ). rowRefusal (l .i) o (refusalAt book (l .i + 1))) (sym (c .judge-row .ensures))
+    ∙ ap (λ (o : Option ℕ). rowRefusal (l .i) o (refusalAt book (l .i + 1))) (sym (c .judge-engagement-at .ensures))
 
 enum-told : tie.Need-enum-told Inv-loop μ-loop
 enum-told c = search needs
@@ -65,14 +65,14 @@ returns-3 : tie.Need-returns-3 Inv-loop μ-loop
 returns-3 c = let l = c .before in
     sym (l .loop .inv .1 ∙ refusal-last (c .before .before .before .before .pre .0) (l .loop .i) (search needs))
 
-pub judge-rows-spec : {M : Type 1} → statement M
-judge-rows-spec =
+pub judge-engagements-spec : {M : Type 1} → statement M
+judge-engagements-spec =
     tie.close
     (tie.spec
     Inv-loop
     μ-loop
     loop-holds
-    judge-row-requires
+    judge-engagement-at-requires
     enum-told
     enum-told-2
     returns

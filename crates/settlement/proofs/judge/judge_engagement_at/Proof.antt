@@ -6,8 +6,8 @@ use Rattle.settlement.specs.Sections.{bookWith}
 use Rattle.settlement.specs.EngagedLaws.{Engaged, engaged-as}
 use native.Mathlib.Omega.{arith}
 use borrow.Author.Needs.{needs}
-use Rattle.settlement.proofs.judge.judge_row.Statement.{statement}
-use Rattle.settlement.proofs.judge.judge_row.Tie as tie
+use Rattle.settlement.proofs.judge.judge_engagement_at.Statement.{statement}
+use Rattle.settlement.proofs.judge.judge_engagement_at.Tie as tie
 
 section-requires : tie.Need-section-requires
 section-requires c κs = (c .before .before .pre .0 .passed, search needs)
@@ -70,8 +70,8 @@ returns c =
     c .judge-engagement .ensures book (rw (c .before .before .before .before .point-at .ensures) (h .shows)) (c .before .y-of .ensures ∙ ap (yAt (g .before .before .before .section2 .result .now)) (c .before .before .category .ensures) ∙ sym (h .y))
     ∙ ap (refusalNumber book) (g .engagement-at .ensures)
 
-pub judge-row-spec : {M : Type 1} → statement M
-judge-row-spec =
+pub judge-engagement-at-spec : {M : Type 1} → statement M
+judge-engagement-at-spec =
     tie.close
     (tie.spec
     section-requires

@@ -11,7 +11,7 @@ use Rattle.integers.specs.Z.{over-add}
 use Rattle.grains.specs.Grains.{grains}
 use Rattle.wire.specs.declared.Reading.{Reading}
 use Rattle.baseline.specs.Levels.{Means}
-use Rattle.baseline.specs.Bases.{Raises, Fills}
+use Rattle.baseline.specs.Fills.{Raises, Fills}
 
 -- no place yet, and one more
 pub fills-none : (P : ℕ → ℕ → Type 0) (l : List ℕ) → Fills P 0 l l

@@ -10,10 +10,11 @@ use Rattle.integers.specs.Z.{Over}
 use Rattle.grains.specs.Grains.{grains, share}
 use Rattle.wire.specs.declared.Reading.{Reading}
 use Rattle.quarters.specs.declared.Calendar.{Calendar}
+use Rattle.book.specs.declared.Engagement.{Engagement}
 use Rattle.book.specs.declared.Method.{Method}
 use Rattle.book.specs.declared.Method.the-variants.{HighXOfY, Adjusted}
 use Rattle.volumes.specs.Baseline.{watts, complete}
-use Rattle.baseline.specs.Rows.{Lie}
+use Rattle.baseline.specs.Runs.{Lie}
 use Rattle.baseline.specs.Levels.{Adds}
 
 -- the mean of n readings and an addend, raised by 3 times 2^31 watts, where the addend is raised by 2^32
@@ -27,12 +28,12 @@ pub record Fills (holds : ℕ → ℕ → Type 0) (n : ℕ) (before after : List
   pub rest : drop n after ≡ drop n before
 
 -- what each quarter-hour of the days needs to be read
-abbrev pub LieAll : List ℕ → List ℕ → Calendar → ℕ → ℕ → ℕ → ℕ → Type 0
-LieAll readings keys c base first n x = (k : ℕ) → k < n → Lie readings keys c base (first + k) 0 1 x
+abbrev pub LieAll : List ℕ → List ℕ → Calendar → Engagement → ℕ → ℕ → Type 0
+LieAll readings keys c e origin x = (k : ℕ) → k < e .count → Lie readings keys c e origin k 0 1 x
 
 -- what the days' windows need, where method 2 looks at them
-abbrev pub Adding : Method → List ℕ → List ℕ → Calendar → ℕ → ℕ → ℕ → Type 0
-Adding method readings keys c base first x = method ≡ Adjusted → Lie readings keys c base first 24 12 x
+abbrev pub Adding : Method → List ℕ → List ℕ → Calendar → Engagement → ℕ → ℕ → Type 0
+Adding method readings keys c e origin x = method ≡ Adjusted → Lie readings keys c e origin 0 24 12 x
 
 -- method 2's addend; method 1 adds nothing
 pub record Added (method : Method) (own days : List Reading) (x r : ℕ) : Type 0 where

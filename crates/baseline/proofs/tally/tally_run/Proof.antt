@@ -2,15 +2,15 @@
 use mathlib.Core.Path.{_≡_, subst}
 use Prim.Native.Nat.{ℕ, _-_, _≤_}
 use Rattle.integers.specs.Ranges.{range}
-use Rattle.baseline.specs.Tally.{inRow, Tallied}
-use Rattle.baseline.specs.TallyLaws.{row-more, there, tally-none, tally-more}
+use Rattle.baseline.specs.Tally.{inRun, Tallied}
+use Rattle.baseline.specs.TallyLaws.{run-more, there, tally-none, tally-more}
 use borrow.Author.Needs.{needs}
 use native.Mathlib.Omega.{arith}
-use Rattle.baseline.proofs.tally.tally_row.Statement.{statement}
-use Rattle.baseline.proofs.tally.tally_row.Tie as tie
+use Rattle.baseline.proofs.tally.tally_run.Statement.{statement}
+use Rattle.baseline.proofs.tally.tally_run.Tie as tie
 
 abbrev Inv-loop : tie.InvT-loop
-Inv-loop readings at n whole₀ sum₀ i₀ whole sum i = (i ≤ n) × Tallied (inRow readings at i) i (record { whole = whole; sum = sum })
+Inv-loop readings at n whole₀ sum₀ i₀ whole sum i = (i ≤ n) × Tallied (inRun readings at i) i (record { whole = whole; sum = sum })
 
 abbrev μ-loop : tie.MeasureT-loop
 μ-loop readings at n whole₀ sum₀ i₀ whole sum i = n - i
@@ -43,18 +43,18 @@ loop-again c = let l = c .before .before in
     let s = l .before .before .args in
     let r = c .raised-at in (
       search needs,
-      rw (row-more (s .readings .now) (s .at) (l .loop .i))
-          (tally-more (inRow (s .readings .now) (s .at) (l .loop .i)) (l .loop .i) (record { whole = l .loop .whole; sum = l .loop .sum }) _ (r .result) (l .loop .inv .1) (there _ (r .result) (r .ensures .range) (r .ensures .is)) (omega arith)),
+      rw (run-more (s .readings .now) (s .at) (l .loop .i))
+          (tally-more (inRun (s .readings .now) (s .at) (l .loop .i)) (l .loop .i) (record { whole = l .loop .whole; sum = l .loop .sum }) _ (r .result) (l .loop .inv .1) (there _ (r .result) (r .ensures .range) (r .ensures .is)) (omega arith)),
     )
 
 returns : tie.Need-returns Inv-loop μ-loop
 returns c = let l = c .before in
     let s = l .before .before .args in
     let e : l .loop .i ≡ s .n = omega arith in
-    subst (λ (k : ℕ). Tallied (inRow (s .readings .now) (s .at) k) k (record { whole = l .loop .whole; sum = l .loop .sum })) e (l .loop .inv .1)
+    subst (λ (k : ℕ). Tallied (inRun (s .readings .now) (s .at) k) k (record { whole = l .loop .whole; sum = l .loop .sum })) e (l .loop .inv .1)
 
-pub tally-row-spec : {M : Type 1} → statement M
-tally-row-spec =
+pub tally-run-spec : {M : Type 1} → statement M
+tally-run-spec =
     tie.close
     (tie.spec
     Inv-loop
