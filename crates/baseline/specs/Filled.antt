@@ -2,8 +2,9 @@
 use mathlib.Core.Path.{_≡_}
 use mathlib.Core.List.{List}
 use mathlib.Core.Option.{none}
-use Prim.Native.Nat.{ℕ, _≤_, _<_}
+use Prim.Native.Nat.{ℕ, _≤_, _<_, _*_}
 use lib.ListN.{getD, drop}
+use Rattle.wire.specs.Readings.{raise}
 use Rattle.integers.specs.Z.{Over}
 use Rattle.grains.specs.Grains.{grains}
 use Rattle.quarters.specs.declared.Calendar.{Calendar}
@@ -34,5 +35,5 @@ pub record Accepts (c : Calendar) (calendar readings : List ℕ) (point : Point)
 -- each quarter-hour's baseline, raised by 3 times 2^31 watts; the places behind them are as they were
 pub record Filled (c : Calendar) (calendar readings : List ℕ) (point : Point) (e : Engagement) (x y : ℕ) (before after : List ℕ) : Type 0 where
   pub small : (k : ℕ) → k < e .count → getD after k 0 ≤ grains 12884901887
-  pub levels : (book : Book) → Unrefused c calendar readings point e x y book → (k : ℕ) → k < e .count → Over (grains 6442450944) (baseline book e k) (getD after k 0)
+  pub levels : (book : Book) → Unrefused c calendar readings point e x y book → (k : ℕ) → k < e .count → Over (grains (3 * raise)) (baseline book e k) (getD after k 0)
   pub rest : drop (e .count) after ≡ drop (e .count) before

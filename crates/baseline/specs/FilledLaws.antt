@@ -13,7 +13,7 @@ use Rattle.integers.specs.Sums.{sumZ}
 use Rattle.integers.specs.Z.{Over}
 use Rattle.integers.specs.All.{all-at}
 use Rattle.grains.specs.Grains.{grains, share}
-use Rattle.wire.specs.Readings.{readingAt}
+use Rattle.wire.specs.Readings.{readingAt, raise}
 use Rattle.wire.specs.declared.Reading.{Reading}
 use Rattle.wire.specs.declared.Reading.the-variants.{Missing}
 use Rattle.quarters.specs.declared.Calendar.{Calendar}
@@ -73,17 +73,17 @@ module _ {c : Calendar} {calendar readings : List ℕ} {point : Point} {e : Enga
   took-days {keys₀} keys n back few r = took book e keys₀ keys x y n r (s .takes) (s .wants) (omega (arith, r .count, length-take y (eligibleDays book e), enough book e (point .method) back (rw method-is at (settles book e (s .good) .enough)), s .wants)) few
 
   -- a quarter-hour's mean
-  pub high-level : (keys : List ℕ) (k add r : ℕ) (z : ℤ) → Took book e keys x → k < e .count → Over (grains 4294967296) z add
-      → Raises (dayRuns readings c e (originOf c (e .point)) k 0 1 (daysIn keys x)) x add r → Over (grains 6442450944) (high book e k +ℤ z) r
+  pub high-level : (keys : List ℕ) (k add r : ℕ) (z : ℤ) → Took book e keys x → k < e .count → Over (grains (2 * raise)) z add
+      → Raises (dayRuns readings c e (originOf c (e .point)) k 0 1 (daysIn keys x)) x add r → Over (grains (3 * raise)) (high book e k +ℤ z) r
   unfolding high mean
   high-level keys k add r z t h o raises =
       let runs : dayRuns readings c e (originOf c (e .point)) k 0 1 (daysIn keys x) ≡ map (dayReading book e k) (taken book e) = ap (dayRuns readings c e (originOf c (e .point)) k 0 1) (t .days) ∙ quarter-runs (s .shows) k (taken book e) in
       let count : length (map (dayReading book e k) (taken book e)) ≡ x = length-map (taken book e) (dayReading book e k) ∙ t .count in
-      rw count (subst (λ (l : List Reading). Over (grains 6442450944) (sumZ watts l *ℤ pos (share x) +ℤ z) r) runs (raises .level z (ap complete runs ∙ high-complete book e k h) o))
+      rw count (subst (λ (l : List Reading). Over (grains (3 * raise)) (sumZ watts l *ℤ pos (share x) +ℤ z) r) runs (raises .level z (ap complete runs ∙ high-complete book e k h) o))
 
   -- method 2's addend
   pub addend-level-is : (keys : List ℕ) (r : ℕ) → Took book e keys x → point .method ≡ Adjusted
-      → Adds (windowIn readings (originOf c (e .point)) (start c e)) (dayRuns readings c e (originOf c (e .point)) 0 24 12 (daysIn keys x)) x r → Over (grains 4294967296) (addend book e) r
+      → Adds (windowIn readings (originOf c (e .point)) (start c e)) (dayRuns readings c e (originOf c (e .point)) 0 24 12 (daysIn keys x)) x r → Over (grains (2 * raise)) (addend book e) r
   unfolding addend mean
   addend-level-is keys r t m adds =
       let own = sym (own-window (s .shows)) in
@@ -92,20 +92,20 @@ module _ {c : Calendar} {calendar readings : List ℕ} {point : Point} {e : Enga
       let count : length (flatMap (dayWindow book e) (taken book e)) ≡ 12 * x = length-flatMap 12 (dayWindow book e) (λ d. day-length book e d) (taken book e) ∙ ap (λ (n : ℕ). 12 * n) (t .count) in
       let here = method-is ∙ m in
       rw (mine, count)
-      (subst (λ (l : List Reading). Over (grains 4294967296) (sumZ watts (ownWindow book e) *ℤ pos (share 12) -ℤ sumZ watts l *ℤ pos (share (12 * x))) r) runs
-      (subst (λ (l : List Reading). Over (grains 4294967296) (sumZ watts l *ℤ pos (share 12) -ℤ sumZ watts (dayRuns readings c e (originOf c (e .point)) 0 24 12 (daysIn keys x)) *ℤ pos (share (12 * x))) r) own
+      (subst (λ (l : List Reading). Over (grains (2 * raise)) (sumZ watts (ownWindow book e) *ℤ pos (share 12) -ℤ sumZ watts l *ℤ pos (share (12 * x))) r) runs
+      (subst (λ (l : List Reading). Over (grains (2 * raise)) (sumZ watts l *ℤ pos (share 12) -ℤ sumZ watts (dayRuns readings c e (originOf c (e .point)) 0 24 12 (daysIn keys x)) *ℤ pos (share (12 * x))) r) own
       (adds .level (ap complete own ∙ own-window-complete book e (settles book e (s .good)) here) (ap complete runs ∙ windows-complete book e here))))
 
   -- what the methods make of these
-  pub by-mean : (keys : List ℕ) (k add r : ℕ) → Took book e keys x → point .method ≡ HighXOfY → k < e .count → add ≡ grains 4294967296
-      → Raises (dayRuns readings c e (originOf c (e .point)) k 0 1 (daysIn keys x)) x add r → Over (grains 6442450944) (baseline book e k) r
+  pub by-mean : (keys : List ℕ) (k add r : ℕ) → Took book e keys x → point .method ≡ HighXOfY → k < e .count → add ≡ grains (2 * raise)
+      → Raises (dayRuns readings c e (originOf c (e .point)) k 0 1 (daysIn keys x)) x add r → Over (grains (3 * raise)) (baseline book e k) r
   unfolding baseline baselineBy
   by-mean keys k add r t m h a raises =
       rw (method-is ∙ m) (rw (+ℤ-idr (high book e k)) at (high-level keys k add r (pos 0) t h (record { law = omega arith }) raises))
 
   pub by-addend : (keys : List ℕ) (k add r : ℕ) → Took book e keys x → point .method ≡ Adjusted → k < e .count
       → Adds (windowIn readings (originOf c (e .point)) (start c e)) (dayRuns readings c e (originOf c (e .point)) 0 24 12 (daysIn keys x)) x add
-      → Raises (dayRuns readings c e (originOf c (e .point)) k 0 1 (daysIn keys x)) x add r → Over (grains 6442450944) (baseline book e k) r
+      → Raises (dayRuns readings c e (originOf c (e .point)) k 0 1 (daysIn keys x)) x add r → Over (grains (3 * raise)) (baseline book e k) r
   unfolding baseline baselineBy
   by-addend keys k add r t m h adds raises = rw (method-is ∙ m) (high-level keys k add r (addend book e) t h (addend-level-is keys add t m adds) raises)
 
@@ -119,7 +119,7 @@ module _ {c : Calendar} {calendar readings : List ℕ} {point : Point} {e : Enga
   pub last-inside : point .method ≡ LastQuarter → e .notice + 1 ≤ start c e
   last-inside m = known-inside readings (originOf c (e .point)) (start c e) (e .notice + 1) (last-there m)
 
-  pub by-last : (k r : ℕ) → point .method ≡ LastQuarter → Lasts (beforeIn readings (originOf c (e .point)) (start c e) (e .notice + 1)) r → Over (grains 6442450944) (baseline book e k) r
+  pub by-last : (k r : ℕ) → point .method ≡ LastQuarter → Lasts (beforeIn readings (originOf c (e .point)) (start c e) (e .notice + 1)) r → Over (grains (3 * raise)) (baseline book e k) r
   unfolding baseline baselineBy
   by-last k r m lasts = rw (method-is ∙ m, last-is) (lasts .level (last-there m))
 
@@ -159,7 +159,7 @@ module _ {c : Calendar} {calendar readings : List ℕ} {point : Point} {e : Enga
   -- methods 1 and 2 together
   pub by-days : (keys : List ℕ) (k add r : ℕ) (m : Method) → point .method ≡ m → looksBack m ≡ true → Took book e keys x → k < e .count
       → Added m (windowIn readings (originOf c (e .point)) (start c e)) (dayRuns readings c e (originOf c (e .point)) 0 24 12 (daysIn keys x)) x add
-      → Raises (dayRuns readings c e (originOf c (e .point)) k 0 1 (daysIn keys x)) x add r → Over (grains 6442450944) (baseline book e k) r
+      → Raises (dayRuns readings c e (originOf c (e .point)) k 0 1 (daysIn keys x)) x add r → Over (grains (3 * raise)) (baseline book e k) r
   unfolding looksBack
   by-days keys k add r LastQuarter m b t h a raises = let z : _≡_ {A = ℕ} 0 1 = cc in absurd (omega arith)
   by-days keys k add r HighXOfY m b t h a raises = by-mean keys k add r t m h (a .plain refl) raises

@@ -2,9 +2,10 @@
 use mathlib.Core.Path.{_≡_}
 use mathlib.Core.Bool.{true}
 use mathlib.Core.List.{List}
-use Prim.Native.Nat.{ℕ, _+_, _≤_, _<_}
+use Prim.Native.Nat.{ℕ, _+_, _≤_, _<_, _*_}
 use lib.IntN.{ℤ, pos, _+ℤ_, _*ℤ_}
 use lib.ListN.{getD, drop}
+use Rattle.wire.specs.Readings.{raise}
 use Rattle.integers.specs.Sums.{sumZ}
 use Rattle.integers.specs.Z.{Over}
 use Rattle.grains.specs.Grains.{grains, share}
@@ -19,7 +20,7 @@ use Rattle.baseline.specs.Levels.{Adds}
 
 -- the mean of n readings and an addend, raised by 3 times 2^31 watts, where the addend is raised by 2^32
 pub record Raises (list : List Reading) (n add r : ℕ) : Type 0 where
-  pub level : (z : ℤ) → complete list ≡ true → Over (grains 4294967296) z add → Over (grains 6442450944) (sumZ watts list *ℤ pos (share n) +ℤ z) r
+  pub level : (z : ℤ) → complete list ≡ true → Over (grains (2 * raise)) z add → Over (grains (3 * raise)) (sumZ watts list *ℤ pos (share n) +ℤ z) r
   pub small : r ≤ grains 12884901887
 
 -- the first n places hold what they are to, and the others are as they were
@@ -38,5 +39,5 @@ Adding method readings keys c e origin x = method ≡ Adjusted → Lie readings 
 -- method 2's addend; method 1 adds nothing
 pub record Added (method : Method) (own days : List Reading) (x r : ℕ) : Type 0 where
   pub adjusted : method ≡ Adjusted → Adds own days x r
-  pub plain : method ≡ HighXOfY → r ≡ grains 4294967296
-  pub small : r ≤ grains 8589934592
+  pub plain : method ≡ HighXOfY → r ≡ grains (2 * raise)
+  pub small : r ≤ grains (4 * raise)

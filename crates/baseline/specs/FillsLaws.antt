@@ -1,12 +1,13 @@
 -- One place more is filled; a mean and an addend are a raised baseline.
 use mathlib.Core.Path.{_≡_, refl, sym, ap, subst, _∙_}
 use mathlib.Core.List.{List, [], _∷_, _++_}
-use Prim.Native.Nat.{ℕ, suc, _+_, _≤_, _<_}
+use Prim.Native.Nat.{ℕ, suc, _+_, _≤_, _<_, _*_}
 use native.Mathlib.Numerals.{add-one}
 use native.Mathlib.Omega.{arith}
 use borrow.Author.Count.{below-more}
 use lib.ListN.{length, getD, set, drop, replicate, length-replicate, getD-replicate, replicate-append-replicate, List·getD-append}
 use lib.Seq.{getD-set-same, getD-set-other, drop-set-lt, drop-drop, drop-cons, drop-at, set-at, append-snoc}
+use Rattle.wire.specs.Readings.{raise}
 use Rattle.integers.specs.Z.{over-add}
 use Rattle.grains.specs.Grains.{grains}
 use Rattle.wire.specs.declared.Reading.{Reading}
@@ -46,8 +47,8 @@ same-fills n v before after e =
       rest = ap (drop n) e ∙ drop-at (replicate n v) (drop n before) n (length-replicate n v);
     }
 
-pub raises : (list : List Reading) (n mean add : ℕ) → Means list n mean → add ≤ grains 8589934592 → Raises list n add (mean + add)
-raises list n mean add m h = record { level = λ z w o. over-add (grains 6442450944) (m .level w) o (omega arith); small = omega (arith, m .small) }
+pub raises : (list : List Reading) (n mean add : ℕ) → Means list n mean → add ≤ grains (4 * raise) → Raises list n add (mean + add)
+raises list n mean add m h = record { level = λ z w o. over-add (grains (3 * raise)) (m .level w) o (omega arith); small = omega (arith, m .small) }
 
 -- two numbers are exchanged for equal ones
 pub subst-both : (P : ℕ → ℕ → Type 0) {a b c d : ℕ} → a ≡ b → c ≡ d → P a c → P b d

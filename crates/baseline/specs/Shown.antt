@@ -7,7 +7,7 @@ use lib.Dec.{leb}
 use lib.ListN.{length}
 use Rattle.integers.specs.Ranges.{range}
 use Rattle.integers.specs.Z.{Over}
-use Rattle.wire.specs.Readings.{readingAt}
+use Rattle.wire.specs.Readings.{readingAt, raise}
 use Rattle.wire.specs.declared.Reading.{Reading}
 use Rattle.wire.specs.declared.Reading.the-variants.{Missing}
 use Rattle.quarters.specs.declared.Calendar.{Calendar}
@@ -48,4 +48,4 @@ windowIn readings origin q = map (λ i. beforeIn readings origin q (24 - i)) (ra
 -- whole where day d is eligible, and then its sum, raised
 pub record Refers (book : Book) (e : Engagement) (d : ℕ) (t : Tally) : Type 0 where
   pub whole : t .whole ≡ eligible book e d
-  pub sum : t .whole ≡ true → Over (2147483648 * e .count) (daySum book e d) (t .sum)
+  pub sum : t .whole ≡ true → Over (raise * e .count) (daySum book e d) (t .sum)

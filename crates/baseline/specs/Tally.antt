@@ -6,7 +6,7 @@ use Prim.Native.Nat.{ℕ, _*_, _≤_}
 use Rattle.integers.specs.Ranges.{range}
 use Rattle.integers.specs.Sums.{sumZ}
 use Rattle.integers.specs.Z.{Over}
-use Rattle.wire.specs.Readings.{readingAt}
+use Rattle.wire.specs.Readings.{readingAt, raise}
 use Rattle.wire.specs.declared.Reading.{Reading}
 use Rattle.volumes.specs.Baseline.{watts, complete}
 use Rattle.baseline.specs.declared.tally.Tally.{Tally}
@@ -18,5 +18,5 @@ inRun readings at n = map (readingAt readings) (range at n)
 -- whole where no reading of a list of n is missing, and then their sum, raised by 2^31 a reading
 pub record Tallied (list : List Reading) (n : ℕ) (t : Tally) : Type 0 where
   pub whole : t .whole ≡ complete list
-  pub sum : t .whole ≡ true → Over (2147483648 * n) (sumZ watts list) (t .sum)
+  pub sum : t .whole ≡ true → Over (raise * n) (sumZ watts list) (t .sum)
   pub small : t .sum ≤ 4294967295 * n

@@ -8,6 +8,7 @@ ghost use mathlib.Core.Bool.{true, false};
 ghost use mathlib.Core.List.{_++_};
 ghost use Prim.Native.Nat.{_+_, _*_, _≤_};
 ghost use lib.ListN.{length, drop, replicate};
+ghost use Rattle.wire.specs.Readings.{raise};
 ghost use Rattle.grains.specs.Grains.{grains};
 ghost use Rattle.quarters.specs.Quarters.{longestCalendar};
 ghost use Rattle.baseline.specs.Shown.{windowIn};
@@ -39,7 +40,7 @@ fn fill_means(
     add: u64,
     levels: &mut [u64],
 )
-    requires { ⌜ LieAll (now readings) (now keys) c e origin x × (1 ≤ x) × (add ≤ grains 8589934592) × (e .count ≤ length (now levels)) ⌝ }
+    requires { ⌜ LieAll (now readings) (now keys) c e origin x × (1 ≤ x) × (add ≤ grains (4 * raise)) × (e .count ≤ length (now levels)) ⌝ }
     ensures { λ r. ⌜ Fills (λ k. Raises (dayRuns (now (readings .entry)) c e origin k 0 1 (daysIn (now (keys .entry)) x)) x add) (e .count) (now (levels .entry)) (now (levels .exit)) ⌝ }
 {
     let n = e.count as usize;

@@ -8,6 +8,7 @@ ghost use mathlib.Core.Bool.{true};
 ghost use Prim.Native.Nat.{_+_, _*_, _≤_};
 ghost use lib.IntN.{pos, _*ℤ_, _-ℤ_};
 ghost use lib.ListN.{length};
+ghost use Rattle.wire.specs.Readings.{raise};
 ghost use Rattle.integers.specs.Z.{Over};
 ghost use Rattle.integers.specs.Sums.{sumZ};
 ghost use Rattle.grains.specs.Grains.{grains, grainsZ, share};
@@ -19,9 +20,9 @@ ghost use Rattle.baseline.specs.Levels.{Means, Adds, Lasts};
 
 // 2^32 watts.
 pub fn lift() -> u64
-    ensures { λ r. ⌜ r ≡ grains 4294967296 ⌝ }
+    ensures { λ r. ⌜ r ≡ grains (2 * raise) ⌝ }
 {
-    2 * Grains::from_watts(2147483648).count
+    2 * Grains::from_watts(wire::RAISE).count
 }
 
 // The level of method 0: the reading n quarter-hours before quarter-hour q.

@@ -13,7 +13,7 @@ use Rattle.integers.specs.Ranges.{range}
 use Rattle.integers.specs.Z.{up, Over, over-sub, is-sub, mul, neg, dif}
 use Rattle.wire.specs.declared.Reading.{Reading}
 use Rattle.wire.specs.declared.Reading.the-variants.{Watts}
-use Rattle.wire.specs.Readings.{wattsAt, readingOf, readingAt, missingIf, Raised}
+use Rattle.wire.specs.Readings.{wattsAt, readingOf, readingAt, missingIf, Raised, raise}
 use Rattle.wire.specs.ReadingsLaws.{raised-over}
 use Rattle.grains.specs.Grains.{perWatt, grains, grainsZ}
 use Rattle.volumes.specs.Baseline.{watts, known, complete}
@@ -38,22 +38,22 @@ pub level-most : {z : ℤ} {level : ℕ} → Bounded (3 * most) z → Over bias 
 level-most h o = omega arith
 
 -- a reading, raised
-pub over-watts : (raised : ℕ) → Over 2147483648 (wattsOf raised) raised
+pub over-watts : (raised : ℕ) → Over raise (wattsOf raised) raised
 unfolding wattsOf
-over-watts raised = over-sub raised 2147483648
+over-watts raised = over-sub raised raise
 
-pub is-watts : {w : ℤ} {raised : ℕ} → Over 2147483648 w raised → w ≡ wattsOf raised
+pub is-watts : {w : ℤ} {raised : ℕ} → Over raise w raised → w ≡ wattsOf raised
 unfolding wattsOf
 is-watts h = is-sub h
 
 -- what the baseline is above the reading, and the reading above the baseline, 2^32 watts giving the reading the baseline's bias
-pub above-up : (level raised : ℕ) → up (baselineOf level -ℤ grainsZ (wattsOf raised)) ≡ level - grains (raised + 4294967296)
+pub above-up : (level raised : ℕ) → up (baselineOf level -ℤ grainsZ (wattsOf raised)) ≡ level - grains (raised + 2 * raise)
 above-up level raised =
     let z = baselineOf level in
     let w = wattsOf raised in
     omega (arith, over-level level, over-watts raised, mul w perWatt, dif z (grainsZ w))
 
-pub above-down : (level raised : ℕ) → up (negℤ (baselineOf level -ℤ grainsZ (wattsOf raised))) ≡ grains (raised + 4294967296) - level
+pub above-down : (level raised : ℕ) → up (negℤ (baselineOf level -ℤ grainsZ (wattsOf raised))) ≡ grains (raised + 2 * raise) - level
 above-down level raised =
     let z = baselineOf level in
     let w = wattsOf raised in

@@ -9,6 +9,7 @@ ghost use Prim.Native.Nat.{_+_, _-_, _*_, _≤_, _<_, min};
 ghost use lib.IntN.{pos, _-ℤ_};
 ghost use lib.ListN.{length};
 ghost use lib.Seq.{sets};
+ghost use Rattle.wire.specs.Readings.{raise};
 ghost use Rattle.grains.specs.Grains.{grains, grainsZ};
 ghost use Rattle.volumes.specs.Baseline.{complete};
 ghost use Rattle.volumes.specs.Settlement.{rowWidth, limited, signed};
@@ -22,14 +23,14 @@ pub const ROW_WIDTH: usize = 4;
 pub fn bias() -> u64
     ensures { λ r. ⌜ r ≡ bias ⌝ }
 {
-    3 * Grains::from_watts(2147483648).count
+    3 * Grains::from_watts(wire::RAISE).count
 }
 
 // A raised reading in grains, with the bias of a raised baseline.
 fn reading_grains(raised: u32) -> u64
-    ensures { λ r. ⌜ r ≡ grains (raised + 4294967296) ⌝ }
+    ensures { λ r. ⌜ r ≡ grains (raised + 2 * raise) ⌝ }
 {
-    Grains::from_watts(raised).count + 2 * Grains::from_watts(2147483648).count
+    Grains::from_watts(raised).count + 2 * Grains::from_watts(wire::RAISE).count
 }
 
 // What a is above b, and `most` at most.
