@@ -2,11 +2,12 @@
 use mathlib.Core.Path.{_≡_}
 use mathlib.Core.List.{List}
 use mathlib.Core.Option.{none}
-use Prim.Native.Nat.{ℕ, _≤_, _<_}
+use Prim.Native.Nat.{ℕ, _≤_, _<_, _*_}
 use lib.ListN.{getD, drop}
+use Rattle.wire.specs.Readings.{raise}
 use Rattle.integers.specs.Z.{Over}
 use Rattle.grains.specs.Grains.{grains}
-use Rattle.book.specs.declared.Calendar.{Calendar}
+use Rattle.quarters.specs.declared.Calendar.{Calendar}
 use Rattle.book.specs.declared.Engagement.{Engagement}
 use Rattle.book.specs.declared.Point.{Point}
 use Rattle.book.specs.Book.{Book}
@@ -32,7 +33,7 @@ pub record Accepts (c : Calendar) (calendar readings : List ℕ) (point : Point)
   pub most : y ≤ 20
 
 -- each quarter-hour's baseline, raised by 3 times 2^31 watts; the places behind them are as they were
-pub record Filled (c : Calendar) (calendar readings : List ℕ) (point : Point) (e : Engagement) (x y : ℕ) (before bases : List ℕ) : Type 0 where
-  pub small : (k : ℕ) → k < e .count → getD bases k 0 ≤ grains 12884901887
-  pub levels : (book : Book) → Unrefused c calendar readings point e x y book → (k : ℕ) → k < e .count → Over (grains 6442450944) (baseline book e k) (getD bases k 0)
-  pub rest : drop (e .count) bases ≡ drop (e .count) before
+pub record Filled (c : Calendar) (calendar readings : List ℕ) (point : Point) (e : Engagement) (x y : ℕ) (before after : List ℕ) : Type 0 where
+  pub small : (k : ℕ) → k < e .count → getD after k 0 ≤ grains 12884901887
+  pub levels : (book : Book) → Unrefused c calendar readings point e x y book → (k : ℕ) → k < e .count → Over (grains (3 * raise)) (baseline book e k) (getD after k 0)
+  pub rest : drop (e .count) after ≡ drop (e .count) before

@@ -1,12 +1,13 @@
 -- Levels in arithmetic: a mean's bias is one reading's, and biases cancel in a difference.
-use Prim.Native.Nat.{ℕ, _+_, _-_, _≤_}
+use Prim.Native.Nat.{ℕ, _+_, _-_, _≤_, _*_}
 use native.Mathlib.Omega.{arith}
 use lib.IntN.{ℤ, _-ℤ_}
+use Rattle.wire.specs.Readings.{raise}
 use Rattle.integers.specs.Z.{Over, dif, mul}
 use Rattle.grains.specs.Grains.{perWatt, grains, grainsZ}
 
 -- a reading and 2^32 watts more
-pub lifted : (w : ℤ) (raised : ℕ) → Over 2147483648 w raised → Over (grains 6442450944) (grainsZ w) (grains raised + grains 4294967296)
+pub lifted : (w : ℤ) (raised : ℕ) → Over raise w raised → Over (grains (3 * raise)) (grainsZ w) (grains raised + grains (2 * raise))
 lifted w raised o = record { law = omega (arith, o .law, mul w perWatt) }
 
 -- a less b, 2^32 watts added, where both have one bias

@@ -4,6 +4,7 @@ use mathlib.Core.Bool.{true}
 use mathlib.Core.List.{List}
 use Prim.Native.Nat.{ℕ, _*_, _≤_}
 use lib.IntN.{ℤ, pos, _*ℤ_, _-ℤ_}
+use Rattle.wire.specs.Readings.{raise}
 use Rattle.integers.specs.Sums.{sumZ}
 use Rattle.integers.specs.Z.{Over}
 use Rattle.grains.specs.Grains.{grains, grainsZ, share}
@@ -12,15 +13,15 @@ use Rattle.volumes.specs.Baseline.{watts, known, complete}
 
 -- a reading, raised by 3 times 2^31 watts
 pub record Lasts (reading : Reading) (r : ℕ) : Type 0 where
-  pub level : known reading ≡ true → Over (grains 6442450944) (grainsZ (watts reading)) r
-  pub small : r ≤ grains 8589934592
+  pub level : known reading ≡ true → Over (grains (3 * raise)) (grainsZ (watts reading)) r
+  pub small : r ≤ grains (4 * raise)
 
 -- the mean of n readings, raised by 2^31 watts
 pub record Means (list : List Reading) (n r : ℕ) : Type 0 where
-  pub level : complete list ≡ true → Over (grains 2147483648) (sumZ watts list *ℤ pos (share n)) r
+  pub level : complete list ≡ true → Over (grains raise) (sumZ watts list *ℤ pos (share n)) r
   pub small : r ≤ grains 4294967295
 
 -- the mean of 12 readings less that of 12 x, raised by 2^32 watts
 pub record Adds (own days : List Reading) (x r : ℕ) : Type 0 where
-  pub level : complete own ≡ true → complete days ≡ true → Over (grains 4294967296) (sumZ watts own *ℤ pos (share 12) -ℤ sumZ watts days *ℤ pos (share (12 * x))) r
-  pub small : r ≤ grains 8589934592
+  pub level : complete own ≡ true → complete days ≡ true → Over (grains (2 * raise)) (sumZ watts own *ℤ pos (share 12) -ℤ sumZ watts days *ℤ pos (share (12 * x))) r
+  pub small : r ≤ grains (4 * raise)

@@ -9,50 +9,46 @@ use borrow.Author.Tests.{ltb-true, ltb-false}
 use Rattle.integers.specs.Ranges.{range}
 use Rattle.integers.specs.All.{All}
 use Rattle.wire.specs.Readings.{readingAt}
-use Rattle.book.specs.declared.Calendar.{Calendar}
+use Rattle.quarters.specs.declared.Calendar.{Calendar}
 use Rattle.book.specs.declared.Engagement.{Engagement}
 use Rattle.book.specs.declared.Point.{Point}
 use Rattle.book.specs.declared.Method.the-variants.{Adjusted}
-use Rattle.book.specs.Calendars.{dayStart, quartersOf}
+use Rattle.quarters.specs.Quarters.{originOf}
 use Rattle.book.specs.Book.{Book}
-use Rattle.volumes.specs.Quarters.{referenceQuarter, reference}
+use Rattle.volumes.specs.Quarters.{reference}
 use Rattle.volumes.specs.Baseline.{complete, dayReading, dayWindow, windowed, eligible}
 use Rattle.volumes.specs.UsedLaws.{eligible-day}
 use Rattle.baseline.specs.Shown.{Shows}
-use Rattle.baseline.specs.ShownLaws.{day-window, window-row, window-early}
-use Rattle.baseline.specs.Rows.{dayRows}
+use Rattle.baseline.specs.ShownLaws.{day-reading, day-window, window-run, window-early}
+use Rattle.baseline.specs.Runs.{dayRuns}
 use Rattle.baseline.specs.Taken.{Serves}
 
 module _ {c : Calendar} {calendar readings : List ℕ} {point : Point} {e : Engagement} {book : Book} (s : Shows c calendar readings point e book) where
   -- quarter-hour k of the days
-  day-reading : (k d : ℕ) → readingAt readings (quartersOf c * e .point + (dayStart c d + (e .first + k) - 0)) ≡ dayReading book e k d
-  unfolding dayReading reference referenceQuarter
-  day-reading k d =
-      let z : dayStart c d + (e .first + k) - 0 ≡ dayStart c d + (e .first + k) = omega arith in
-      rw z (sym (s .reading (e .point) (dayStart (book .calendar) d + (e .first + k)) ∙ ap (λ (b : Calendar). readingAt readings (quartersOf c * e .point + (dayStart b d + (e .first + k)))) (s .when)))
-
-  pub quarter-rows : (k : ℕ) (l : List ℕ) → dayRows readings c (quartersOf c * e .point) (e .first + k) 0 1 l ≡ map (dayReading book e k) l
+  pub quarter-runs : (k : ℕ) (l : List ℕ) → dayRuns readings c e (originOf c (e .point)) k 0 1 l ≡ map (dayReading book e k) l
   unfolding flatMap range
-  quarter-rows k [] = refl
-  quarter-rows k (d ∷ l) = ap₂ _∷_ (day-reading k d) (quarter-rows k l)
+  quarter-runs k [] = refl
+  quarter-runs k (d ∷ l) =
+      let none : reference c e d k - 0 ≡ reference c e d k = omega arith in
+      ap₂ _∷_ (ap (λ (q : ℕ). readingAt readings (originOf c (e .point) + q)) none ∙ sym (day-reading s k d)) (quarter-runs k l)
 
   -- the windows of the days, where method 2 looks at them
   window-lies : (d : ℕ) → point .method ≡ Adjusted → eligible book e d ≡ true → complete (dayWindow book e d) ≡ true
   unfolding windowed
   window-lies d m i = rw (ap (λ (p : Point). p .method) (s .owner) ∙ m) at (eligible-day book e d i .windowed)
 
-  pub window-inside : (d : ℕ) → point .method ≡ Adjusted → eligible book e d ≡ true → 24 ≤ dayStart c d + e .first
-  window-inside d m i = go (ltb (dayStart c d + e .first) 24) refl
+  pub window-inside : (d : ℕ) → point .method ≡ Adjusted → eligible book e d ≡ true → 24 ≤ reference c e d 0
+  window-inside d m i = go (ltb (reference c e d 0) 24) refl
     where
-      go : (b : Bool) → ltb (dayStart c d + e .first) 24 ≡ b → 24 ≤ dayStart c d + e .first
-      go false f = ltb-false (dayStart c d + e .first) 24 f
+      go : (b : Bool) → ltb (reference c e d 0) 24 ≡ b → 24 ≤ reference c e d 0
+      go false f = ltb-false (reference c e d 0) 24 f
       go true f =
-          let early = window-early readings (quartersOf c * e .point) (dayStart c d + e .first) (ltb-true (dayStart c d + e .first) 24 f) in
+          let early = window-early readings (originOf c (e .point)) (reference c e d 0) (ltb-true (reference c e d 0) 24 f) in
           let whole = sym (ap complete (day-window s d)) ∙ window-lies d m i in
           let z : _≡_ {A = ℕ} 0 1 = cc in absurd (omega arith)
 
-  pub window-rows : (l : List ℕ) → point .method ≡ Adjusted → All (Serves book e) l → dayRows readings c (quartersOf c * e .point) (e .first) 24 12 l ≡ flatMap (dayWindow book e) l
+  pub window-runs : (l : List ℕ) → point .method ≡ Adjusted → All (Serves book e) l → dayRuns readings c e (originOf c (e .point)) 0 24 12 l ≡ flatMap (dayWindow book e) l
   unfolding flatMap All
-  window-rows [] m g = refl
-  window-rows (d ∷ l) m g =
-      ap₂ _++_ (sym (day-window s d ∙ window-row readings (quartersOf c * e .point) (dayStart c d + e .first) (window-inside d m (g .0 .good)))) (window-rows l m (g .1))
+  window-runs [] m g = refl
+  window-runs (d ∷ l) m g =
+      ap₂ _++_ (sym (day-window s d ∙ window-run readings (originOf c (e .point)) (reference c e d 0) (window-inside d m (g .0 .good)))) (window-runs l m (g .1))

@@ -8,8 +8,8 @@ pub mod ShownLaws
 pub mod RefersLaws
 pub mod Ranks
 pub mod RanksLaws
-pub mod Rows
-pub mod RowsLaws
+pub mod Runs
+pub mod RunsLaws
 pub mod Needs
 pub mod NeedsLaws
 pub mod Taken
@@ -17,7 +17,7 @@ pub mod TakenLaws
 pub mod LevelsLaws
 pub mod Levels
 pub mod LevelLaws
-pub mod Bases
-pub mod BasesLaws
+pub mod Fills
+pub mod FillsLaws
 pub mod Filled
 pub mod FilledLaws

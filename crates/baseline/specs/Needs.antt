@@ -10,11 +10,11 @@ use Rattle.baseline.specs.Shown.{beforeIn, windowIn}
 use Rattle.baseline.specs.declared.judge.Lack.{Lack}
 use Rattle.baseline.specs.declared.judge.Lack.the-variants.{Nothing, Reading as LacksReading, Days}
 
--- what a method needs besides the engagement's own quarter-hours, of the point whose readings start at `base`
+-- what a method needs besides the engagement's own quarter-hours, of the point whose readings start at `origin`
 unfoldable pub neededIn : Method → List ℕ → ℕ → ℕ → ℕ → List Reading
-neededIn LastQuarter readings base q notice = beforeIn readings base q (notice + 1) ∷ []
-neededIn HighXOfY readings base q notice = []
-neededIn Adjusted readings base q notice = windowIn readings base q
+neededIn LastQuarter readings origin q notice = beforeIn readings origin q (notice + 1) ∷ []
+neededIn HighXOfY readings origin q notice = []
+neededIn Adjusted readings origin q notice = windowIn readings origin q
 
 -- methods 1 and 2 look at reference days
 unfoldable pub looksBack : Method → Bool

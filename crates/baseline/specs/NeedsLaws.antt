@@ -8,35 +8,35 @@ use native.Mathlib.Omega.{arith}
 use lib.Dec.{ltb}
 use lib.ListN.{length, take}
 use Rattle.wire.specs.declared.Reading.{Reading}
-use Rattle.book.specs.declared.Calendar.{Calendar}
+use Rattle.quarters.specs.declared.Calendar.{Calendar}
 use Rattle.book.specs.declared.Engagement.{Engagement}
 use Rattle.book.specs.declared.Point.{Point}
 use Rattle.book.specs.declared.Method.{Method}
 use Rattle.book.specs.declared.Method.the-variants.{LastQuarter, HighXOfY, Adjusted}
-use Rattle.book.specs.Calendars.{dayStart, quartersOf}
+use Rattle.quarters.specs.Quarters.{originOf}
 use Rattle.book.specs.Book.{Book}
 use Rattle.volumes.specs.Quarters.{start, quarterHours}
 use Rattle.volumes.specs.Baseline.{pointOf, complete, lastReading, ownReading, eligibleDays, yOf, latest}
 use Rattle.volumes.specs.BaselineLaws.{complete-append}
 use Rattle.volumes.specs.DaysLaws.{few-latest}
 use Rattle.volumes.specs.Settlement.{neededBy, needed, tooFew, refusalNumber}
-use Rattle.baseline.specs.Tally.{inRow}
+use Rattle.baseline.specs.Tally.{inRun}
 use Rattle.baseline.specs.Shown.{Shows, beforeIn}
-use Rattle.baseline.specs.ShownLaws.{own-row, before-at, start-at, own-window}
+use Rattle.baseline.specs.ShownLaws.{own-run, before-at, start-at, own-window}
 use Rattle.baseline.specs.Needs.{neededIn, looksBack, firstOf}
 
 module _ {c : Calendar} {calendar readings : List ℕ} {point : Point} {e : Engagement} {book : Book} (s : Shows c calendar readings point e book) where
-  needed-by : (method : Method) → neededBy method book e ≡ neededIn method readings (quartersOf c * e .point) (dayStart c (e .day) + e .first) (e .notice)
+  needed-by : (method : Method) → neededBy method book e ≡ neededIn method readings (originOf c (e .point)) (start c e) (e .notice)
   unfolding neededBy neededIn lastReading
-  needed-by LastQuarter = ap (λ (r : Reading). r ∷ []) (before-at s (start (book .calendar) e) (e .notice + 1) ∙ ap (λ (q : ℕ). beforeIn readings (quartersOf c * e .point) q (e .notice + 1)) (start-at s))
+  needed-by LastQuarter = ap (λ (r : Reading). r ∷ []) (before-at s (start (book .calendar) e) (e .notice + 1) ∙ ap (λ (q : ℕ). beforeIn readings (originOf c (e .point)) q (e .notice + 1)) (start-at s))
   needed-by HighXOfY = refl
   needed-by Adjusted = own-window s
 
-  pub needed-is : complete (needed book e) ≡ (complete (inRow readings (quartersOf c * e .point + (dayStart c (e .day) + e .first)) (e .count)) && complete (neededIn (point .method) readings (quartersOf c * e .point) (dayStart c (e .day) + e .first) (e .notice)))
+  pub needed-is : complete (needed book e) ≡ (complete (inRun readings (originOf c (e .point) + start c e) (e .count)) && complete (neededIn (point .method) readings (originOf c (e .point)) (start c e) (e .notice)))
   unfolding needed
   needed-is =
       complete-append (map (ownReading book e) (quarterHours e)) (neededBy (pointOf book e .method) book e)
-      ∙ ap₂ _&&_ (ap complete (own-row s)) (ap complete (needed-by (pointOf book e .method) ∙ ap (λ (p : Point). neededIn (p .method) readings (quartersOf c * e .point) (dayStart c (e .day) + e .first) (e .notice)) (s .owner)))
+      ∙ ap₂ _&&_ (ap complete (own-run s)) (ap complete (needed-by (pointOf book e .method) ∙ ap (λ (p : Point). neededIn (p .method) readings (originOf c (e .point)) (start c e) (e .notice)) (s .owner)))
 
   -- 8 before 9
   pub first-lack : (whole few : Bool) → whole ≡ complete (needed book e) → few ≡ tooFew (point .method) (yOf book e) (length (eligibleDays book e))

@@ -4,6 +4,7 @@ use mathlib.Core.Bool.{true, false}
 use mathlib.Core.List.{List, map, _++_}
 use Prim.Native.Nat.{ℕ, _+_, _*_, _≤_}
 use lib.ListN.{length, take, drop}
+use Rattle.wire.specs.Readings.{raise}
 use Rattle.book.specs.declared.Engagement.{Engagement}
 use Rattle.book.specs.Book.{Book}
 use Rattle.volumes.specs.Ranking.{ranked}
@@ -20,7 +21,7 @@ pub record Considered (keys₀ keys : List ℕ) (n : ℕ) (t : Tally) (d r : ℕ
 
 -- a day's sum over the engagement's quarter-hours is raised by 2^31 a reading
 abbrev pub bias : Engagement → ℕ
-bias e = 2147483648 * e .count
+bias e = raise * e .count
 
 abbrev pub keyIn : Book → Engagement → ℕ → ℕ
 keyIn book e = keyOf (bias e) (daySum book e)

@@ -7,18 +7,20 @@ use native.Mathlib.Omega.{arith}
 use lib.Dec.{eqb}
 use lib.ListN.{getD}
 use Rattle.integers.specs.Tests.{both}
-use Rattle.book.specs.declared.Calendar.{Calendar}
+use Rattle.quarters.specs.declared.Calendar.{Calendar}
 use Rattle.book.specs.declared.Engagement.{Engagement}
 use Rattle.book.specs.declared.Point.{Point}
-use Rattle.book.specs.Calendars.{dayStart, quartersOf}
+use Rattle.quarters.specs.Quarters.{originOf}
 use Rattle.book.specs.Register.{excludes}
 use Rattle.book.specs.Book.{Book}
+use Rattle.volumes.specs.Quarters.{reference}
 use Rattle.volumes.specs.Baseline.{complete, dayReadings, dayWindow, windowed, allowed, eligible, daySum}
 use Rattle.volumes.specs.UsedLaws.{eligible-is}
 use Rattle.baseline.specs.declared.tally.Tally.{Tally}
-use Rattle.baseline.specs.Tally.{inRow, Tallied}
+use Rattle.baseline.specs.Tally.{Tallied}
+use Rattle.baseline.specs.Runs.{standing}
 use Rattle.baseline.specs.Shown.{Shows, Refers, windowIn}
-use Rattle.baseline.specs.ShownLaws.{day-row, day-window}
+use Rattle.baseline.specs.ShownLaws.{day-standing, day-window}
 
 -- the day's category is A's, and the mask doesn't exclude it
 abbrev pub alike : List ℕ → Point → Engagement → ℕ → Bool
@@ -41,14 +43,14 @@ module _ {c : Calendar} {calendar readings : List ℕ} {point : Point} {e : Enga
       }
 
   pub refers : alike calendar point e d ≡ true → (t : Tally) (good : Bool)
-      → Tallied (inRow readings (quartersOf c * e .point + (dayStart c d + e .first)) (e .count)) (e .count) t
-      → good ≡ windowed (point .method) (windowIn readings (quartersOf c * e .point) (dayStart c d + e .first))
+      → Tallied (standing readings c e (originOf c (e .point)) d) (e .count) t
+      → good ≡ windowed (point .method) (windowIn readings (originOf c (e .point)) (reference c e d 0))
       → Refers book e d (record { whole = t .whole && good; sum = t .sum })
   unfolding daySum
   refers h t good k g =
-      let row = sym (day-row s d) in
+      let run = sym (day-standing s d) in
       let win = g ∙ ap (windowed (point .method)) (sym (day-window s d)) in
       record {
-        whole = ap₂ _&&_ (k .whole ∙ ap complete row) win ∙ sym (eligible-by true h);
-        sum = λ z. rw (← row) (k .sum (both (t .whole) good z .0));
+        whole = ap₂ _&&_ (k .whole ∙ ap complete run) win ∙ sym (eligible-by true h);
+        sum = λ z. rw (← run) (k .sum (both (t .whole) good z .0));
       }

@@ -7,13 +7,13 @@ use lib.Dec.{leb}
 use lib.ListN.{length}
 use Rattle.integers.specs.Ranges.{range}
 use Rattle.integers.specs.Z.{Over}
-use Rattle.wire.specs.Readings.{readingAt}
+use Rattle.wire.specs.Readings.{readingAt, raise}
 use Rattle.wire.specs.declared.Reading.{Reading}
 use Rattle.wire.specs.declared.Reading.the-variants.{Missing}
-use Rattle.book.specs.declared.Calendar.{Calendar}
+use Rattle.quarters.specs.declared.Calendar.{Calendar}
 use Rattle.book.specs.declared.Engagement.{Engagement}
 use Rattle.book.specs.declared.Point.{Point}
-use Rattle.book.specs.Calendars.{daysOf, quarters, quartersOf, Ranged}
+use Rattle.quarters.specs.Quarters.{daysOf, quarters, quartersOf, Ranged, originOf}
 use Rattle.book.specs.Tables.{categoryAt}
 use Rattle.book.specs.Book.{Book}
 use Rattle.volumes.specs.Baseline.{pointOf, eligible, daySum}
@@ -23,7 +23,7 @@ use Rattle.baseline.specs.declared.tally.Tally.{Tally}
 pub record Shows (c : Calendar) (calendar readings : List ℕ) (point : Point) (e : Engagement) (book : Book) : Type 0 where
   pub when : book .calendar ≡ c
   pub category : (d : ℕ) → book .category d ≡ categoryAt calendar d
-  pub reading : (p k : ℕ) → book .reading p k ≡ readingAt readings (quartersOf c * p + k)
+  pub reading : (p k : ℕ) → book .reading p k ≡ readingAt readings (originOf c p + k)
   pub owner : pointOf book e ≡ point
 
 -- the engagement lies in the calendar, and its point's readings in theirs
@@ -35,17 +35,17 @@ pub record Fits (c : Calendar) (calendar readings : List ℕ) (e : Engagement) :
   pub some : 1 ≤ e .count
   pub soon : e .notice ≤ 96
   pub few : e .point < 256
-  pub room : 4 * (quartersOf c * e .point + quartersOf c) ≤ length readings
+  pub room : 4 * (originOf c (e .point) + quartersOf c) ≤ length readings
 
--- the reading n quarter-hours before quarter-hour q, of the point whose readings start at `base`
+-- the reading n quarter-hours before quarter-hour q, of the point whose readings start at `origin`
 abbrev pub beforeIn : List ℕ → ℕ → ℕ → ℕ → Reading
-beforeIn readings base q n = cond (leb n q) (readingAt readings (base + (q - n))) Missing
+beforeIn readings origin q n = cond (leb n q) (readingAt readings (origin + (q - n))) Missing
 
 -- the 12 readings from 24 before quarter-hour q
 abbrev pub windowIn : List ℕ → ℕ → ℕ → List Reading
-windowIn readings base q = map (λ i. beforeIn readings base q (24 - i)) (range 0 12)
+windowIn readings origin q = map (λ i. beforeIn readings origin q (24 - i)) (range 0 12)
 
 -- whole where day d is eligible, and then its sum, raised
 pub record Refers (book : Book) (e : Engagement) (d : ℕ) (t : Tally) : Type 0 where
   pub whole : t .whole ≡ eligible book e d
-  pub sum : t .whole ≡ true → Over (2147483648 * e .count) (daySum book e d) (t .sum)
+  pub sum : t .whole ≡ true → Over (raise * e .count) (daySum book e d) (t .sum)

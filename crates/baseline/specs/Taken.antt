@@ -8,7 +8,7 @@ use Rattle.integers.specs.All.{All}
 use Rattle.book.specs.declared.Engagement.{Engagement}
 use Rattle.book.specs.Book.{Book}
 use Rattle.volumes.specs.Baseline.{eligible, taken}
-use Rattle.baseline.specs.Rows.{daysIn}
+use Rattle.baseline.specs.Runs.{daysIn}
 
 -- an eligible day before A
 pub record Serves (book : Book) (e : Engagement) (d : ℕ) : Type 0 where

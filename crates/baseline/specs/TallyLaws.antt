@@ -11,17 +11,17 @@ use Rattle.integers.specs.Ranges.{range, range-more}
 use Rattle.integers.specs.Tests.{both}
 use Rattle.integers.specs.Sums.{sumZ, sumBy, integers, sum-append}
 use Rattle.integers.specs.Z.{Over, Within, over-add}
-use Rattle.wire.specs.Readings.{readingAt, readingOf, missingIf, raised}
+use Rattle.wire.specs.Readings.{readingAt, readingOf, missingIf, raised, raise}
 use Rattle.wire.specs.ReadingsLaws.{raised-over}
 use Rattle.wire.specs.declared.Reading.{Reading}
 use Rattle.wire.specs.declared.Reading.the-variants.{Watts}
 use Rattle.volumes.specs.Baseline.{watts, known, complete}
 use Rattle.volumes.specs.BaselineLaws.{complete-append}
-use Rattle.baseline.specs.Tally.{inRow, Tallied}
+use Rattle.baseline.specs.Tally.{inRun, Tallied}
 use Rattle.baseline.specs.declared.tally.Tally.{Tally}
 
-pub row-more : (readings : List ℕ) (at n : ℕ) → inRow readings at (n + 1) ≡ inRow readings at n ++ (readingAt readings (at + n) ∷ [])
-row-more readings at n = ap (map (readingAt readings)) (range-more at n) ∙ map-append (readingAt readings) (range at n) ((at + n) ∷ [])
+pub run-more : (readings : List ℕ) (at n : ℕ) → inRun readings at (n + 1) ≡ inRun readings at n ++ (readingAt readings (at + n) ∷ [])
+run-more readings at n = ap (map (readingAt readings)) (range-more at n) ∙ map-append (readingAt readings) (range at n) ((at + n) ∷ [])
 
 pub complete-more : (l : List Reading) (r : Reading) → complete (l ++ (r ∷ [])) ≡ (complete l && known r)
 unfolding complete
@@ -30,14 +30,14 @@ complete-more l r = complete-append l (r ∷ []) ∙ ap (λ (b : Bool). complete
 -- a raised reading tells whether the reading is there, and its watts
 pub record There (reading : Reading) (r : ℕ) : Type 0 where
   pub is : not (eqb r 0) ≡ known reading
-  pub sum : known reading ≡ true → Over 2147483648 (watts reading) r
+  pub sum : known reading ≡ true → Over raise (watts reading) r
 
 negative : (w r : ℕ) (b : Bool) → eqb (suc w) 2147483648 ≡ b → r + suc w ≡ 2147483648 → There (missingIf b (Watts (negsuc w))) r
 unfolding watts known
 negative w r true e o = record { is = ap not (eq-eqb r 0 (omega (arith, eqb-true (suc w) 2147483648 e))); sum = λ z. let q : _≡_ {A = ℕ} 0 1 = cc in absurd (omega arith) }
 negative w r false e o = record { is = ap not (ne-eqb r 0 (λ q. eqb-false (suc w) 2147483648 e (omega arith))); sum = λ z. record { law = omega arith } }
 
-pub there : (z : ℤ) (r : ℕ) → Within z 2147483648 → r ≡ raised (readingOf z) → There (readingOf z) r
+pub there : (z : ℤ) (r : ℕ) → Within z raise → r ≡ raised (readingOf z) → There (readingOf z) r
 unfolding readingOf watts known
 there (pos w) r h e = let o = raised-over (pos w) h in record { is = ap not (ne-eqb r 0 (λ q. omega arith)); sum = λ z. record { law = omega arith } }
 there (negsuc w) r h e = let o = raised-over (negsuc w) h in negative w r (eqb (suc w) 2147483648) refl (omega arith)
@@ -52,7 +52,7 @@ pub tally-more : (l : List Reading) (n : ℕ) (t : Tally) (reading : Reading) (r
 tally-more l n t reading r h k small =
     record {
       whole = ap₂ _&&_ (h .whole) (k .is) ∙ sym (complete-more l reading);
-      sum = λ e. let parts = both (t .whole) (not (eqb r 0)) e in rw (sum-more l reading) (over-add (2147483648 * (n + 1)) (h .sum (parts .0)) (k .sum (sym (k .is) ∙ parts .1)) (omega arith));
+      sum = λ e. let parts = both (t .whole) (not (eqb r 0)) e in rw (sum-more l reading) (over-add (raise * (n + 1)) (h .sum (parts .0)) (k .sum (sym (k .is) ∙ parts .1)) (omega arith));
       small = omega (arith, h .small);
     }
 
@@ -65,6 +65,6 @@ pub tally-append : (l m : List Reading) (n k : ℕ) (t u : Tally) → Tallied l 
 tally-append l m n k t u h g =
     record {
       whole = ap₂ _&&_ (h .whole) (g .whole) ∙ sym (complete-append l m);
-      sum = λ e. let parts = both (t .whole) (u .whole) e in rw (sum-append integers watts l m) (over-add (2147483648 * (n + k)) (h .sum (parts .0)) (g .sum (parts .1)) (omega arith));
+      sum = λ e. let parts = both (t .whole) (u .whole) e in rw (sum-append integers watts l m) (over-add (raise * (n + k)) (h .sum (parts .0)) (g .sum (parts .1)) (omega arith));
       small = omega (arith, h .small, g .small);
     }

@@ -1,22 +1,24 @@
 // Reference days: which are eligible, and their sums over the engagement's quarter-hours.
 use crate::tally::Tally;
-use book::Calendar;
 use book::Engagement;
 use book::Method;
 use book::Point;
+use quarters::Calendar;
 ghost use mathlib.Core.Path.{_≡_};
 ghost use Prim.Native.Nat.{_+_, _*_, _≤_, _<_};
 ghost use lib.ListN.{length};
-ghost use Rattle.book.specs.Calendars.{quartersOf};
+ghost use Rattle.quarters.specs.Quarters.{originOf, longestCalendar, farthestOrigin, longestDay};
 ghost use Rattle.book.specs.Book.{Book};
-ghost use Rattle.baseline.specs.Tally.{inRow, Tallied};
+ghost use Rattle.baseline.specs.Tally.{Tallied};
 ghost use Rattle.baseline.specs.Shown.{Shows, Fits, Refers, windowIn};
+ghost use Rattle.baseline.specs.Runs.{standing};
+ghost use Rattle.volumes.specs.Quarters.{reference};
 ghost use Rattle.volumes.specs.Baseline.{windowed};
 
 // The 12 readings from 24 before quarter-hour q; those before the calendar are missing.
-pub fn window(readings: &[u8], base: usize, q: usize) -> Tally
-    requires { ⌜ (base ≤ 2000000) × (q ≤ 6144) × (4 * (base + q) ≤ length (now readings)) ⌝ }
-    ensures { λ r. ⌜ Tallied (windowIn (now (readings .entry)) base q) 12 r ⌝ }
+pub fn window(readings: &[u8], origin: usize, q: usize) -> Tally
+    requires { ⌜ (origin ≤ farthestOrigin) × (q ≤ longestCalendar) × (4 * (origin + q) ≤ length (now readings)) ⌝ }
+    ensures { λ r. ⌜ Tallied (windowIn (now (readings .entry)) origin q) 12 r ⌝ }
 {
     if q < 24 {
         return Tally {
@@ -24,32 +26,49 @@ pub fn window(readings: &[u8], base: usize, q: usize) -> Tally
             sum: 0,
         };
     }
-    crate::tally::tally_row(readings, base + (q - 24), 12)
+    crate::tally::tally_run(readings, origin + (q - 24), 12)
 }
 
 // Method 2 looks at the day's window too.
-fn window_good(readings: &[u8], base: usize, q: usize, method: Method) -> bool
-    requires { ⌜ (base ≤ 2000000) × (q ≤ 6144) × (4 * (base + q) ≤ length (now readings)) ⌝ }
-    ensures { λ r. ⌜ r ≡ windowed method (windowIn (now (readings .entry)) base q) ⌝ }
+fn window_good(readings: &[u8], origin: usize, q: usize, method: Method) -> bool
+    requires { ⌜ (origin ≤ farthestOrigin) × (q ≤ longestCalendar) × (4 * (origin + q) ≤ length (now readings)) ⌝ }
+    ensures { λ r. ⌜ r ≡ windowed method (windowIn (now (readings .entry)) origin q) ⌝ }
 {
     match method {
         Method::LastQuarter => true,
         Method::HighXOfY => true,
-        Method::Adjusted => window(readings, base, q).whole,
+        Method::Adjusted => window(readings, origin, q).whole,
     }
 }
 
-// A day before the engagement's, of the point whose readings start at `base`: whole where it is eligible, and then its sum.
+// The quarter-hour of the calendar that stands on a reference day for quarter-hour k of the engagement.
+pub fn reference_at(c: Calendar, e: Engagement, day: u64, k: usize) -> usize
+    requires { ⌜ (day < 64) × (k ≤ longestDay) ⌝ }
+    ensures { λ r. ⌜ r ≡ reference c e day k ⌝ }
+{
+    (quarters::day_start(c, day) as usize) + ((e.first as usize) + k)
+}
+
+// Tallies what stands on a reference day for the engagement's quarter-hours, of the point whose readings start at `origin`: one run of readings.
+fn tally_standing(c: Calendar, readings: &[u8], e: Engagement, origin: usize, day: u64) -> Tally
+    requires { ⌜ (day < 64) × (e .count ≤ longestDay) × (origin ≤ farthestOrigin) × (reference c e day 0 ≤ longestCalendar) × (4 * (origin + reference c e day 0 + e .count) ≤ length (now readings)) ⌝ }
+    ensures { λ r. ⌜ Tallied (standing (now (readings .entry)) c e origin day) (e .count) r ⌝ }
+{
+    let at = origin + reference_at(c, e, day, 0);
+    crate::tally::tally_run(readings, at, e.count as usize)
+}
+
+// A day before the engagement's, of the point whose readings start at `origin`: whole where it is eligible, and then its sum.
 pub fn reference_day(
     c: Calendar,
     calendar: &[u8],
     readings: &[u8],
     point: Point,
     e: Engagement,
-    base: usize,
+    origin: usize,
     day: usize,
 ) -> Tally
-    requires { ⌜ Fits c (now calendar) (now readings) e × (base ≡ quartersOf c * e .point) × (day < e .day) ⌝ }
+    requires { ⌜ Fits c (now calendar) (now readings) e × (origin ≡ originOf c (e .point)) × (day < e .day) ⌝ }
     ensures { λ r. ⌜ (r .sum ≤ 4294967295 * e .count) × ((b : Book) → Shows c (now (calendar .entry)) (now (readings .entry)) point e b → Refers b e day r) ⌝ }
 {
     let own = e.day as usize;
@@ -62,9 +81,9 @@ pub fn reference_day(
             sum: 0,
         };
     }
-    let q = (book::header::day_start(c, day as u64) + (e.first as u64)) as usize;
-    let t = crate::tally::tally_row(readings, base + q, e.count as usize);
-    let good = window_good(readings, base, q, method);
+    let t = tally_standing(c, readings, e, origin, day as u64);
+    let q = reference_at(c, e, day as u64, 0);
+    let good = window_good(readings, origin, q, method);
     Tally {
         whole: t.whole & good,
         sum: t.sum,

@@ -1,15 +1,15 @@
 // Refusals 8 and 9 of an engagement.
-use book::Calendar;
 use book::Engagement;
 use book::Method;
 use book::Point;
+use quarters::Calendar;
 ghost use mathlib.Core.Path.{_≡_};
 ghost use mathlib.Core.Bool.{cond};
 ghost use mathlib.Core.Option.{none, some};
 ghost use Prim.Native.Nat.{_+_, _*_, _≤_, _<_};
 ghost use lib.ListN.{length};
+ghost use Rattle.quarters.specs.Quarters.{longestCalendar, farthestOrigin};
 ghost use Rattle.book.specs.Book.{Book};
-ghost use Rattle.book.specs.Calendars.{dayStart, quartersOf, Ranged};
 ghost use Rattle.volumes.specs.Baseline.{known, complete, eligibleDays, yOf};
 ghost use Rattle.volumes.specs.Settlement.{needed, tooFew, refusalNumber};
 ghost use Rattle.baseline.specs.Shown.{Shows, Fits, beforeIn};
@@ -22,43 +22,26 @@ pub enum Lack {
     Days,
 }
 
-// Where the readings of the engagement's point start.
-pub fn base_of(c: Calendar, e: Engagement) -> usize
-    requires { ⌜ Ranged c × (e .point < 256) ⌝ }
-    ensures { λ r. ⌜ r ≡ quartersOf c * e .point ⌝ }
-{
-    (book::header::quarters_of(c) as usize) * (e.point as usize)
-}
-
-// The quarter-hour of the calendar with which the engagement starts.
-pub fn start_of(c: Calendar, e: Engagement) -> usize
-    requires { ⌜ e .day < 64 ⌝ }
-    ensures { λ r. ⌜ r ≡ dayStart c (e .day) + e .first ⌝ }
-{
-    let day = e.day as u64;
-    (book::header::day_start(c, day) + (e.first as u64)) as usize
-}
-
 // The reading n quarter-hours before quarter-hour q is there.
-fn known_before(readings: &[u8], base: usize, q: usize, n: usize) -> bool
-    requires { ⌜ (base ≤ 2000000) × (q ≤ 6144) × (1 ≤ n) × (4 * (base + q) ≤ length (now readings)) ⌝ }
-    ensures { λ r. ⌜ r ≡ known (beforeIn (now (readings .entry)) base q n) ⌝ }
+fn known_before(readings: &[u8], origin: usize, q: usize, n: usize) -> bool
+    requires { ⌜ (origin ≤ farthestOrigin) × (q ≤ longestCalendar) × (1 ≤ n) × (4 * (origin + q) ≤ length (now readings)) ⌝ }
+    ensures { λ r. ⌜ r ≡ known (beforeIn (now (readings .entry)) origin q n) ⌝ }
 {
     if q < n {
         return false;
     }
-    wire::raised_at(readings, base + (q - n)) != 0
+    wire::raised_at(readings, origin + (q - n)) != 0
 }
 
 // The readings that the method needs besides those of the engagement's quarter-hours are there.
-fn method_whole(readings: &[u8], base: usize, q: usize, notice: usize, method: Method) -> bool
-    requires { ⌜ (base ≤ 2000000) × (q ≤ 6144) × (notice ≤ 96) × (4 * (base + q) ≤ length (now readings)) ⌝ }
-    ensures { λ r. ⌜ r ≡ complete (neededIn method (now (readings .entry)) base q notice) ⌝ }
+fn method_whole(readings: &[u8], origin: usize, q: usize, notice: usize, method: Method) -> bool
+    requires { ⌜ (origin ≤ farthestOrigin) × (q ≤ longestCalendar) × (notice ≤ 96) × (4 * (origin + q) ≤ length (now readings)) ⌝ }
+    ensures { λ r. ⌜ r ≡ complete (neededIn method (now (readings .entry)) origin q notice) ⌝ }
 {
     match method {
-        Method::LastQuarter => known_before(readings, base, q, notice + 1),
+        Method::LastQuarter => known_before(readings, origin, q, notice + 1),
         Method::HighXOfY => true,
-        Method::Adjusted => crate::days::window(readings, base, q).whole,
+        Method::Adjusted => crate::days::window(readings, origin, q).whole,
     }
 }
 
@@ -73,12 +56,12 @@ fn readings_whole(
     requires { ⌜ Fits c (now calendar) (now readings) e ⌝ }
     ensures { λ r. ⌜ ((b : Book) → Shows c (now (calendar .entry)) (now (readings .entry)) point e b → r ≡ complete (needed b e)) ⌝ }
 {
-    let base = base_of(c, e);
-    let q = start_of(c, e);
+    let origin = quarters::origin_of(c, e.point);
+    let q = quarters::in_calendar(c, e.day, e.first);
     let method = point.method;
-    let own = crate::tally::tally_row(readings, base + q, e.count as usize);
+    let own = crate::tally::tally_run(readings, origin + q, e.count as usize);
     let whole = own.whole;
-    whole & method_whole(readings, base, q, e.notice as usize, method)
+    whole & method_whole(readings, origin, q, e.notice as usize, method)
 }
 
 // Whether the method looks at reference days.

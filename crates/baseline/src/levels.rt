@@ -1,49 +1,52 @@
 // Levels: raised baselines, in grains. A raised reading has 2^31 watts more than the reading; a raised baseline has three times as much more, so that no
 // addend makes it less than 0.
-use book::Calendar;
-use book::Method;
+use book::Engagement;
 use grains::Grains;
+use quarters::Calendar;
 ghost use mathlib.Core.Path.{_≡_};
 ghost use mathlib.Core.Bool.{true};
 ghost use Prim.Native.Nat.{_+_, _*_, _≤_};
 ghost use lib.IntN.{pos, _*ℤ_, _-ℤ_};
 ghost use lib.ListN.{length};
+ghost use Rattle.wire.specs.Readings.{raise};
 ghost use Rattle.integers.specs.Z.{Over};
 ghost use Rattle.integers.specs.Sums.{sumZ};
 ghost use Rattle.grains.specs.Grains.{grains, grainsZ, share};
+ghost use Rattle.quarters.specs.Quarters.{longestCalendar, farthestOrigin};
 ghost use Rattle.volumes.specs.Baseline.{watts, known, complete};
 ghost use Rattle.baseline.specs.Shown.{beforeIn, windowIn};
-ghost use Rattle.baseline.specs.Rows.{daysIn, dayRows, Lie};
+ghost use Rattle.baseline.specs.Runs.{daysIn, dayRuns, Lie};
 ghost use Rattle.baseline.specs.Levels.{Means, Adds, Lasts};
 
 // 2^32 watts.
 pub fn lift() -> u64
-    ensures { λ r. ⌜ r ≡ grains 4294967296 ⌝ }
+    ensures { λ r. ⌜ r ≡ grains (2 * raise) ⌝ }
 {
-    2 * Grains::from_watts(2147483648).count
+    2 * Grains::from_watts(wire::RAISE).count
 }
 
 // The level of method 0: the reading n quarter-hours before quarter-hour q.
-pub fn last_level(readings: &[u8], base: usize, q: usize, n: usize) -> u64
-    requires { ⌜ (base ≤ 2000000) × (q ≤ 6144) × (1 ≤ n) × (n ≤ q) × (4 * (base + q) ≤ length (now readings)) ⌝ }
-    ensures { λ r. ⌜ Lasts (beforeIn (now (readings .entry)) base q n) r ⌝ }
+pub fn last_level(readings: &[u8], origin: usize, q: usize, n: usize) -> u64
+    requires { ⌜ (origin ≤ farthestOrigin) × (q ≤ longestCalendar) × (1 ≤ n) × (n ≤ q) × (4 * (origin + q) ≤ length (now readings)) ⌝ }
+    ensures { λ r. ⌜ Lasts (beforeIn (now (readings .entry)) origin q n) r ⌝ }
 {
-    Grains::from_watts(wire::raised_at(readings, base + (q - n))).count + lift()
+    Grains::from_watts(wire::raised_at(readings, origin + (q - n))).count + lift()
 }
 
-// The mean of quarter-hour q of the x days that the keys tell.
+// The mean of what stands for quarter-hour k of the engagement on the x days that the keys tell.
 pub fn mean_level(
     c: Calendar,
     readings: &[u8],
     keys: &[u64],
     x: usize,
-    base: usize,
-    q: usize,
+    origin: usize,
+    e: Engagement,
+    k: usize,
 ) -> u64
-    requires { ⌜ Lie (now readings) (now keys) c base q 0 1 x × (1 ≤ x) ⌝ }
-    ensures { λ r. ⌜ Means (dayRows (now (readings .entry)) c base q 0 1 (daysIn (now (keys .entry)) x)) x r ⌝ }
+    requires { ⌜ Lie (now readings) (now keys) c e origin k 0 1 x × (1 ≤ x) ⌝ }
+    ensures { λ r. ⌜ Means (dayRuns (now (readings .entry)) c e origin k 0 1 (daysIn (now (keys .entry)) x)) x r ⌝ }
 {
-    let t = crate::means::tally_days(c, readings, keys, x, base, q, 0, 1);
+    let t = crate::means::tally_days(c, readings, keys, x, origin, e, k, 0, 1);
     Grains::mean(t.sum, x as u64).count
 }
 
@@ -53,15 +56,15 @@ pub fn addend_level(
     readings: &[u8],
     keys: &[u64],
     x: usize,
-    base: usize,
-    first: usize,
+    origin: usize,
+    e: Engagement,
     q: usize,
 ) -> u64
-    requires { ⌜ Lie (now readings) (now keys) c base first 24 12 x × (1 ≤ x) × (q ≤ 6144) × (4 * (base + q) ≤ length (now readings)) ⌝ }
-    ensures { λ r. ⌜ Adds (windowIn (now (readings .entry)) base q) (dayRows (now (readings .entry)) c base first 24 12 (daysIn (now (keys .entry)) x)) x r ⌝ }
+    requires { ⌜ Lie (now readings) (now keys) c e origin 0 24 12 x × (1 ≤ x) × (q ≤ longestCalendar) × (4 * (origin + q) ≤ length (now readings)) ⌝ }
+    ensures { λ r. ⌜ Adds (windowIn (now (readings .entry)) origin q) (dayRuns (now (readings .entry)) c e origin 0 24 12 (daysIn (now (keys .entry)) x)) x r ⌝ }
 {
-    let own = crate::days::window(readings, base, q);
-    let days = crate::means::tally_days(c, readings, keys, x, base, first, 24, 12);
+    let own = crate::days::window(readings, origin, q);
+    let days = crate::means::tally_days(c, readings, keys, x, origin, e, 0, 24, 12);
     let mean = Grains::mean(own.sum, 12).count;
     let less = Grains::mean(days.sum, 12 * (x as u64)).count;
     mean + lift() - less

@@ -1,6 +1,6 @@
 // Baselines: reference days, their ranking, and what each method makes of them.
-pub mod bases;
 mod days;
+pub mod fill;
 pub mod judge;
 mod levels;
 mod means;

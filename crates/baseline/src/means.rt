@@ -1,30 +1,32 @@
 // Sums over the days that are taken, and the levels that the methods make of them.
 use crate::tally::Tally;
-use book::Calendar;
+use book::Engagement;
+use quarters::Calendar;
 ghost use Prim.Native.Nat.{_*_};
 ghost use Rattle.baseline.specs.Tally.{Tallied};
-ghost use Rattle.baseline.specs.Rows.{daysIn, dayRows, Lie};
+ghost use Rattle.baseline.specs.Runs.{daysIn, dayRuns, Lie};
 
-// Tallies n readings of each of the x days that the keys tell, from `back` before quarter-hour q of the day.
+// Tallies n readings of each of the x days that the keys tell, from `back` before what stands for quarter-hour k of the engagement.
 pub fn tally_days(
     c: Calendar,
     readings: &[u8],
     keys: &[u64],
     x: usize,
-    base: usize,
-    q: usize,
+    origin: usize,
+    e: Engagement,
+    k: usize,
     back: usize,
     n: usize,
 ) -> Tally
-    requires { ⌜ Lie (now readings) (now keys) c base q back n x ⌝ }
-    ensures { λ r. ⌜ Tallied (dayRows (now (readings .entry)) c base q back n (daysIn (now (keys .entry)) x)) (x * n) r ⌝ }
+    requires { ⌜ Lie (now readings) (now keys) c e origin k back n x ⌝ }
+    ensures { λ r. ⌜ Tallied (dayRuns (now (readings .entry)) c e origin k back n (daysIn (now (keys .entry)) x)) (x * n) r ⌝ }
 {
     let mut whole = true;
     let mut sum: u64 = 0;
     let mut j = 0;
     while j < x {
-        let start = book::header::day_start(c, keys[j] % 64) as usize;
-        let t = crate::tally::tally_row(readings, base + (start + q - back), n);
+        let q = crate::days::reference_at(c, e, keys[j] % 64, k);
+        let t = crate::tally::tally_run(readings, origin + (q - back), n);
         whole = whole & t.whole;
         sum += t.sum;
         j += 1;

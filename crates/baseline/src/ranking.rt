@@ -1,12 +1,13 @@
 // A short list that falls: each number in its place among those before it.
 use crate::tally::Tally;
-use book::Calendar;
 use book::Engagement;
 use book::Point;
+use quarters::Calendar;
 ghost use mathlib.Core.Path.{_≡_};
 ghost use mathlib.Core.List.{_++_};
-ghost use Prim.Native.Nat.{_+_, _≤_, _<_, max, min};
+ghost use Prim.Native.Nat.{_+_, _*_, _≤_, _<_, max, min};
 ghost use lib.ListN.{length, take, drop};
+ghost use Rattle.quarters.specs.Quarters.{longestDay};
 ghost use Rattle.book.specs.Book.{Book};
 ghost use Rattle.baseline.specs.Ranking.{inserted};
 ghost use Rattle.baseline.specs.Ranks.{Considered, RankedTo};
@@ -42,7 +43,7 @@ fn insert(keys: &mut [u64], n: usize, key: u64)
 
 // A whole day goes into its place among the n keys; answers how many there are then.
 fn consider(keys: &mut [u64], n: usize, t: Tally, day: usize) -> usize
-    requires { ⌜ (n < length (now keys)) × (t .sum ≤ 412316860320) × (day < 64) ⌝ }
+    requires { ⌜ (n < length (now keys)) × (t .sum ≤ 4294967295 * longestDay) × (day < 64) ⌝ }
     ensures { λ r. ⌜ Considered (now (keys .entry)) (now (keys .exit)) n t day r ⌝ }
 {
     let whole = t.whole;
@@ -66,7 +67,7 @@ pub fn rank_days(
     requires { ⌜ Fits c (now calendar) (now readings) e × (y ≤ length (now keys)) ⌝ }
     ensures { λ r. ⌜ ((b : Book) → Shows c (now (calendar .entry)) (now (readings .entry)) point e b → RankedTo b e y (now (keys .entry)) (now (keys .exit)) r) ⌝ }
 {
-    let base = crate::judge::base_of(c, e);
+    let origin = quarters::origin_of(c, e.point);
     let mut day = e.day as usize;
     let mut found = 0;
     while found < y {
@@ -74,7 +75,7 @@ pub fn rank_days(
             return found;
         }
         day -= 1;
-        let t = crate::days::reference_day(c, calendar, readings, point, e, base, day);
+        let t = crate::days::reference_day(c, calendar, readings, point, e, origin, day);
         found = consider(keys, found, t, day);
     }
     found

@@ -1,7 +1,8 @@
-// The readings of some quarter-hours in a row: whether all are there, and their sum.
+// A run of readings, one after another: whether all are there, and their sum.
 ghost use Prim.Native.Nat.{_+_, _*_, _≤_};
 ghost use lib.ListN.{length};
-ghost use Rattle.baseline.specs.Tally.{inRow, Tallied};
+ghost use Rattle.quarters.specs.Quarters.{longestDay};
+ghost use Rattle.baseline.specs.Tally.{inRun, Tallied};
 
 // The sum is that of the raised readings.
 pub struct Tally {
@@ -10,9 +11,9 @@ pub struct Tally {
 }
 
 // Tallies n readings from reading `at` on.
-pub fn tally_row(readings: &[u8], at: usize, n: usize) -> Tally
-    requires { ⌜ (4 * (at + n) ≤ length (now readings)) × (n ≤ 96) ⌝ }
-    ensures { λ r. ⌜ Tallied (inRow (now (readings .entry)) at n) n r ⌝ }
+pub fn tally_run(readings: &[u8], at: usize, n: usize) -> Tally
+    requires { ⌜ (4 * (at + n) ≤ length (now readings)) × (n ≤ longestDay) ⌝ }
+    ensures { λ r. ⌜ Tallied (inRun (now (readings .entry)) at n) n r ⌝ }
 {
     let mut whole = true;
     let mut sum: u64 = 0;

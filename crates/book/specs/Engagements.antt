@@ -4,8 +4,8 @@ use mathlib.Core.List.{List}
 use Prim.Native.Nat.{ℕ, zero, suc, _+_, _^_}
 use lib.Dec.{eqb, leb, ltb}
 use Rattle.wire.specs.Numbers.{numberAt}
-use Rattle.book.specs.declared.Calendar.{Calendar}
-use Rattle.book.specs.Calendars.{daysOf, quarters}
+use Rattle.quarters.specs.declared.Calendar.{Calendar}
+use Rattle.quarters.specs.Quarters.{daysOf, quarters}
 use Rattle.book.specs.Header.{between, engagementWidth, rowAt}
 use Rattle.book.specs.declared.Direction.{Direction}
 use Rattle.book.specs.declared.Direction.the-variants.{Up, Down}

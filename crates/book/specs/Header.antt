@@ -5,8 +5,8 @@ use Prim.Native.Nat.{ℕ, suc, _+_, _*_}
 use lib.Dec.{eqb, leb}
 use lib.ListN.{length, take, drop}
 use Rattle.wire.specs.Numbers.{numberAt}
-use Rattle.book.specs.declared.Calendar.{Calendar}
-use Rattle.book.specs.Calendars.{daysOf, quartersOf}
+use Rattle.quarters.specs.declared.Calendar.{Calendar}
+use Rattle.quarters.specs.Quarters.{daysOf, quartersOf}
 
 -- "Header: version u16 = 1; year u16 ..; month u8; lead days L u8 ..; points P u16 ..; engagements E u16 ..; six zero bytes."
 abbrev pub version : List ℕ → ℕ

@@ -11,8 +11,8 @@ use borrow.Author.Tests.{eqb-true, leb-true}
 use Rattle.integers.specs.Tests.{both}
 use Rattle.wire.specs.Numbers.{numberAt}
 use Rattle.wire.specs.NumbersLaws.{in-part}
-use Rattle.book.specs.declared.Calendar.{Calendar}
-use Rattle.book.specs.Calendars.{daysOf, quartersOf, Ranged}
+use Rattle.quarters.specs.declared.Calendar.{Calendar}
+use Rattle.quarters.specs.Quarters.{daysOf, quartersOf, Ranged}
 use Rattle.book.specs.Header.{version, calendarOf, pointCount, engagementCount, between, versionTaken, headerFields, headerGood, pointWidth, engagementWidth, rowAt, offsetOf, lengthOf, isPair, sizes, adjoining, sectionOf}
 
 -- the part that ends a row later is the row

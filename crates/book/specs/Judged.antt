@@ -6,8 +6,8 @@ use Prim.Native.Nat.{ℕ}
 use Rattle.calendar.specs.Dates.{hasClockChange}
 use Rattle.integers.specs.First.{first}
 use Rattle.refusals.specs.Refusals.{Refusal, unless, unlessFound}
-use Rattle.book.specs.declared.Calendar.{Calendar}
-use Rattle.book.specs.Calendars.{daysOf}
+use Rattle.quarters.specs.declared.Calendar.{Calendar}
+use Rattle.quarters.specs.Quarters.{daysOf}
 use Rattle.book.specs.Header.{calendarOf, pointCount, engagementCount, headerGood, layoutGood, calendarSection, pairSection, registerSection, readingSection, engagementSection}
 use Rattle.book.specs.Tables.{calendarGood, pairsGood}
 use Rattle.book.specs.Register.{badPoint}

@@ -1,5 +1,3 @@
-pub mod Calendars
-pub mod CalendarsLaws
 pub mod Header
 pub mod HeaderLaws
 pub mod Tables

@@ -9,12 +9,12 @@ use Rattle.integers.specs.First.{first}
 use Rattle.wire.specs.Readings.{readingAt}
 use Rattle.wire.specs.declared.Reading.{Reading}
 use Rattle.wire.specs.declared.Reading.the-variants.{Watts, Missing}
-use Rattle.book.specs.declared.Calendar.{Calendar}
-use Rattle.book.specs.Calendars.{quartersOf}
+use Rattle.quarters.specs.declared.Calendar.{Calendar}
+use Rattle.quarters.specs.Quarters.{quartersOf, originOf}
 
 -- "by point, by day, 96 signed 32-bit watts": of point p at quarter-hour k of the calendar
 abbrev pub meterAt : Calendar → List ℕ → ℕ → ℕ → Reading
-meterAt c readings p k = readingAt readings (quartersOf c * p + k)
+meterAt c readings p k = readingAt readings (originOf c p + k)
 
 -- "each from -10^9 to 10^9, off-take positive, or -2^31 for missing, which any may be"
 unfoldable pub readingGood : Reading → Bool

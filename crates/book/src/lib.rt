@@ -5,13 +5,6 @@ pub mod register;
 pub mod sections;
 pub mod tables;
 
-// The month, and the lead days before it.
-pub struct Calendar {
-    pub year: u64,
-    pub month: u64,
-    pub lead: u64,
-}
-
 // Why an activation does or doesn't pass through the supplier.
 pub enum Situation {
     Transfer,

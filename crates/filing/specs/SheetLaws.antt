@@ -11,7 +11,6 @@ use Rattle.refusals.specs.Refusals.{Refusal, orElse}
 use Rattle.book.specs.Header.{registerSection}
 use Rattle.book.specs.Book.{bookOf}
 use Rattle.book.specs.Judged.{refusalOf}
-use Rattle.volumes.specs.Quarters.{monthQuarters}
 use Rattle.volumes.specs.Settlement.{bookRefusal}
 use Rattle.volumes.specs.Sheets.{parties, sheet}
 use Rattle.volumes.specs.SheetsLaws.{sheet-length}
@@ -20,6 +19,7 @@ use Rattle.sheets.specs.PartiesLaws.{parties-are}
 use Rattle.reports.specs.declared.SheetAnswer.the-variants.{Sheet, Refused}
 use Rattle.refusals.specs.Buffers.{over, afterwards}
 use Rattle.reports.specs.Calls.{stands, sheetRefusal, sheetSays, sheetAnswer, SheetCalled}
+use Rattle.quarters.specs.Quarters.{monthQuarters}
 
 -- a party of the register is one of the book
 pub stands-in : (bytes : List ℕ) (party : ℕ) → refusalOf bytes ≡ none → stands party (partiesIn (registerSection bytes)) ≡ stands party (parties (bookOf bytes))

@@ -17,6 +17,7 @@ ghost use mathlib.Core.Path.{_≡_};
 ghost use mathlib.Core.Option.{none};
 ghost use Prim.Native.Nat.{_*_, _≤_};
 ghost use lib.ListN.{length};
+ghost use Rattle.quarters.specs.Quarters.{longestMonth};
 ghost use Rattle.book.specs.Book.{bookOf};
 ghost use Rattle.volumes.specs.Settlement.{rowWidth, rowCount, bookRefusal};
 ghost use Rattle.settlement.specs.Verdicts.{refusalIn};
@@ -53,7 +54,7 @@ fn write_file(
     file: &mut [u8],
     rows: &mut [u64],
 ) -> FileAnswer
-    requires { ⌜ DeliveredIn (now book) (now volumes) × (rowWidth * rowCount (bookOf (now book)) ≤ length (now lent)) × (71424 ≤ length (now rows)) ⌝ }
+    requires { ⌜ DeliveredIn (now book) (now volumes) × (rowWidth * rowCount (bookOf (now book)) ≤ length (now lent)) × (24 * longestMonth ≤ length (now rows)) ⌝ }
     ensures { λ r. ⌜ FileFilled (bookOf (now (book .entry))) (fileText (bookOf (now (book .entry))) (role .kind) (role .receiver) (now (id .entry)) (now (moment .entry))) (now (lent .entry)) (now (lent .exit)) (now (file .entry)) (now (file .exit)) r ⌝ }
 {
     let t = measure_file(file, book, volumes, role, id, moment, rows);
@@ -68,7 +69,7 @@ fn write_file(
     FileAnswer::File(count, n)
 }
 
-// Fills the rows and the file of an accepted book. It has 512 engagements of 96 quarter-hours at most, and a partner 4 times 2,976 rows of six numbers.
+// Fills the rows and the file of an accepted book. A partner has four series of a longest month at most, six numbers a row.
 fn fill_file(
     book: &[u8],
     role: Role,
@@ -80,9 +81,9 @@ fn fill_file(
     requires { ⌜ (bookRefusal (now book) ≡ none) × (rowWidth * rowCount (bookOf (now book)) ≤ length (now rows)) ⌝ }
     ensures { λ r. ⌜ FileFilled (bookOf (now (book .entry))) (fileText (bookOf (now (book .entry))) (role .kind) (role .receiver) (now (id .entry)) (now (moment .entry))) (now (rows .entry)) (now (rows .exit)) (now (file .entry)) (now (file .exit)) r ⌝ }
 {
-    let mut volumes = [0u64; 49152];
+    let mut volumes = [0u64; quarters::MOST_ROWS];
     fill_volumes(book, &mut volumes);
-    let mut numbers = [0u64; 71424];
+    let mut numbers = [0u64; 24 * quarters::LONGEST_MONTH];
     write_file(book, &volumes, role, id, moment, rows, file, &mut numbers)
 }
 

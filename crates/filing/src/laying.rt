@@ -10,10 +10,11 @@ use series::Role;
 ghost use mathlib.Core.Path.{_≡_};
 ghost use mathlib.Core.Bool.{true, false, cond};
 ghost use mathlib.Core.List.{flatMap, List·Memᴰ};
-ghost use Prim.Native.Nat.{_≤_};
+ghost use Prim.Native.Nat.{_*_, _≤_};
 ghost use lib.Dec.{ltb};
 ghost use lib.ListN.{length};
 ghost use Rattle.formats.specs.declared.Mark.the-variants.{At};
+ghost use Rattle.quarters.specs.Quarters.{longestMonth};
 ghost use Rattle.book.specs.Book.{bookOf};
 ghost use Rattle.message.specs.Bytes.{partnerBytes};
 ghost use Rattle.emitter.specs.Laid.{Laid, Stands};
@@ -48,7 +49,7 @@ pub fn emit_partner(
     rows: &mut [u64],
     live: bool,
 ) -> Counted
-    requires { ⌜ DeliveredIn (now book) (now volumes) × (71424 ≤ length (now rows)) × List·Memᴰ partner (partnerNumbers (bookOf (now book)) (role .kind) (role .receiver)) × Stands (length (now out)) m ⌝ }
+    requires { ⌜ DeliveredIn (now book) (now volumes) × (24 * longestMonth ≤ length (now rows)) × List·Memᴰ partner (partnerNumbers (bookOf (now book)) (role .kind) (role .receiver)) × Stands (length (now out)) m ⌝ }
     ensures { λ r. ⌜ Laid live (now (out .entry)) m (flatMap (partnerBytes (role .kind)) (partnerIf (bookOf (now (book .entry))) (role .kind) (role .receiver) partner)) (now (out .exit)) (r .mark) × (r .count ≡ length (partnerIf (bookOf (now (book .entry))) (role .kind) (role .receiver) partner)) × (r .count ≤ 1) ⌝ }
 {
     let c = book::header::calendar_of(book);
@@ -75,7 +76,7 @@ pub fn emit_partners(
     rows: &mut [u64],
     live: bool,
 ) -> Counted
-    requires { ⌜ DeliveredIn (now book) (now volumes) × (71424 ≤ length (now rows)) × Stands (length (now out)) start ⌝ }
+    requires { ⌜ DeliveredIn (now book) (now volumes) × (24 * longestMonth ≤ length (now rows)) × Stands (length (now out)) start ⌝ }
     ensures { λ r. ⌜ Laid live (now (out .entry)) start (flatMap (partnerBytes (role .kind)) (partnersOf (bookOf (now (book .entry))) (role .kind) (role .receiver))) (now (out .exit)) (r .mark) × (r .count ≡ length (partnersOf (bookOf (now (book .entry))) (role .kind) (role .receiver))) ⌝ }
 {
     let register = settlement::sections::section(book, 2);
@@ -103,7 +104,7 @@ pub fn measure_file(
     moment: &[u8],
     rows: &mut [u64],
 ) -> Counted
-    requires { ⌜ DeliveredIn (now book) (now volumes) × (71424 ≤ length (now rows)) ⌝ }
+    requires { ⌜ DeliveredIn (now book) (now volumes) × (24 * longestMonth ≤ length (now rows)) ⌝ }
     ensures { λ r. ⌜ Laid false (now (out .entry)) (At 0) (fileText (bookOf (now (book .entry))) (role .kind) (role .receiver) (now (id .entry)) (now (moment .entry))) (now (out .exit)) (r .mark) × (r .count ≡ length (partnersOf (bookOf (now (book .entry))) (role .kind) (role .receiver))) ⌝ }
 {
     let kind = role.kind;
@@ -127,7 +128,7 @@ pub fn write_measured(
     count: u64,
     rows: &mut [u64],
 ) -> Mark
-    requires { ⌜ DeliveredIn (now book) (now volumes) × (71424 ≤ length (now rows)) × (count ≡ length (partnersOf (bookOf (now book)) (role .kind) (role .receiver))) ⌝ }
+    requires { ⌜ DeliveredIn (now book) (now volumes) × (24 * longestMonth ≤ length (now rows)) × (count ≡ length (partnersOf (bookOf (now book)) (role .kind) (role .receiver))) ⌝ }
     ensures { λ r. ⌜ Laid true (now (out .entry)) (At 0) (fileText (bookOf (now (book .entry))) (role .kind) (role .receiver) (now (id .entry)) (now (moment .entry))) (now (out .exit)) r ⌝ }
 {
     let kind = role.kind;

@@ -1,7 +1,7 @@
 -- Where the sections of a book start, as numbers that code keeps.
 use Prim.Native.Nat.{ℕ, _+_, _*_}
-use Rattle.book.specs.declared.Calendar.{Calendar}
-use Rattle.book.specs.Calendars.{daysOf, quartersOf}
+use Rattle.quarters.specs.declared.Calendar.{Calendar}
+use Rattle.quarters.specs.Quarters.{daysOf, quartersOf}
 use Rattle.book.specs.Header.{pointWidth, engagementWidth}
 use Rattle.judging.specs.declared.header.Places.{Places}
 

@@ -1,9 +1,9 @@
 // Refusals 1 and 2: the header, and the sections' places.
-use book::Calendar;
+use quarters::Calendar;
 ghost use mathlib.Core.Path.{_≡_};
 ghost use Prim.Native.Nat.{_+_, _*_, _≤_};
 ghost use lib.ListN.{length};
-ghost use Rattle.book.specs.Calendars.{quarters, Ranged};
+ghost use Rattle.quarters.specs.Quarters.{quarters, Ranged};
 ghost use Rattle.book.specs.Header.{headerFields, headerGood, isPair, sizes, adjoining};
 ghost use Rattle.judging.specs.HeaderInner.{placesOf};
 
@@ -57,8 +57,8 @@ pub fn layout_at(c: Calendar, points: usize, rows: usize) -> Places
     requires { ⌜ Ranged c × (points ≤ 256) × (rows ≤ 512) ⌝ }
     ensures { λ r. ⌜ r ≡ placesOf c points rows ⌝ }
 {
-    let days = book::header::days_of(c) as usize;
-    let quarters = book::header::quarters_of(c) as usize;
+    let days = quarters::days_of(c) as usize;
+    let quarters = quarters::quarters_of(c) as usize;
     let pairs = 56 + days;
     let register = pairs + 8;
     let readings = register + 64 * points;
@@ -78,8 +78,8 @@ pub fn layout_good(book: &[u8], c: Calendar, points: usize, rows: usize) -> bool
     ensures { λ r. ⌜ r ≡ adjoining (now (book .entry)) 0 56 (sizes c points rows) ⌝ }
 {
     let p = layout_at(c, points, rows);
-    let days = book::header::days_of(c) as usize;
-    let readings = 4 * (book::header::quarters_of(c) as usize) * points;
+    let days = quarters::days_of(c) as usize;
+    let readings = 4 * (quarters::quarters_of(c) as usize) * points;
     let late = pair_is(book, 3, p.readings, readings)
         & (pair_is(book, 4, p.engagements, 16 * rows) & (book.len() == p.end));
     pair_is(book, 0, 56, days)

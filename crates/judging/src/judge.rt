@@ -1,12 +1,12 @@
 // Refusals 1 to 7, in their order.
 use crate::Judged;
-use book::Calendar;
+use quarters::Calendar;
 use searches::Found;
 ghost use mathlib.Core.Path.{_≡_};
 ghost use mathlib.Core.Bool.{true};
 ghost use Prim.Native.Nat.{_*_, _≤_};
 ghost use lib.ListN.{length};
-ghost use Rattle.book.specs.Calendars.{quartersOf, Ranged};
+ghost use Rattle.quarters.specs.Quarters.{quartersOf, Ranged};
 ghost use Rattle.book.specs.Header.{sizes, adjoining, calendarSection, pairSection, registerSection, readingSection, engagementSection};
 ghost use Rattle.book.specs.Judged.{rowsRefusal, sectionsRefusal, refusalOf};
 ghost use Rattle.judging.specs.JudgedInner.{sentBack};
@@ -23,11 +23,11 @@ fn judge_rows(
     requires { ⌜ Ranged c × (points ≤ 256) × (64 * points ≤ length (now register)) × (4 * quartersOf c * points ≤ length (now readings)) × (16 * rows ≤ length (now engagements)) ⌝ }
     ensures { λ r. ⌜ sentBack r ≡ rowsRefusal c points rows (now (register .entry)) (now (readings .entry)) (now (engagements .entry)) ⌝ }
 {
-    let days = book::header::days_of(c) as u32;
+    let days = quarters::days_of(c) as u32;
     if let Found::At(row) = searches::register::judge_register(register, points, days) {
         return Judged::Register(row);
     }
-    let quarters = book::header::quarters_of(c) as usize;
+    let quarters = quarters::quarters_of(c) as usize;
     if let Found::At(i) = searches::metering::judge_readings(readings, quarters * points) {
         let point = i / quarters;
         return Judged::Readings(point);

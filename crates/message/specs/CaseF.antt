@@ -16,6 +16,7 @@ use Rattle.formats.specs.Format.{got, readAll}
 use Rattle.formats.specs.FormatLaws.{there-and-back}
 use Rattle.formats.specs.Name.{each}
 use Rattle.formats.specs.Words.{wordAt}
+use Rattle.quarters.specs.Quarters.{quartersInMonth}
 use Rattle.calendar.specs.Dates.{leap, monthLength, marchSunday, octoberSunday, dayNumber, offsetHours, nextYear, nextMonth}
 use Rattle.calendar.specs.DatesLaws.{last-sunday-is, month-length}
 use Rattle.moments.specs.Moments.{momentBytes, dateBytes, timeBytes, tailBytes, periodStart, periodEnd, realDate, realTime, real, valueAt, parts, momentOf}
@@ -97,7 +98,7 @@ renders = ap around period
 
 -- it is valid
 volume : IsVolume series
-unfolding series observations All rises lastPosition monthLength
+unfolding series observations All rises lastPosition quartersInMonth monthLength
 volume =
     record {
       delivery = omega arith;

@@ -13,8 +13,8 @@ use Rattle.text.specs.Tag.{begins}
 use Rattle.formats.specs.Format.{Format}
 use Rattle.formats.specs.Words.{Apart, apart-two, wordAt, words}
 use Rattle.formats.specs.Combine.{strip, pre, post, seq, seqBy, only, Recast, recast}
-use Rattle.calendar.specs.Dates.{monthLength}
-use Rattle.calendar.specs.DatesLaws.{month-length, no-month}
+use Rattle.quarters.specs.Quarters.{longestMonth}
+use Rattle.quarters.specs.QuartersLaws.{month-most}
 use Rattle.kinds.specs.declared.Kind.{Kind}
 use Rattle.kinds.specs.declared.Kind.the-variants.{Toe03}
 use Rattle.message.specs.Contents.{Observation, TimeSeries}
@@ -32,19 +32,9 @@ pub apart-deliveries : Apart deliveries
 unfolding deliveries bytes strip begins
 apart-deliveries = apart-two (bytes "DeliveryUp") (bytes "DeliveryDown") (λ rest. refl)
 
--- no month has more than 31 days
-pub days-most : (year month : ℕ) → monthLength year month ≤ 31
-unfolding monthLength
-days-most year zero = omega arith
-days-most year (suc m) = go (leb (suc m) 12) refl
-  where
-    go : (b : Bool) → leb (suc m) 12 ≡ b → monthLength year (suc m) ≤ 31
-    go true e = month-length year (suc m) (omega arith) (leb-true (suc m) 12 e) .most
-    go false e = omega (arith, no-month year (suc m) (leb-false (suc m) 12 e))
-
-pub position-small : (year month : ℕ) → lastPosition year month ≤ 2976
+pub position-small : (year month : ℕ) → lastPosition year month ≤ longestMonth
 unfolding lastPosition
-position-small year month = omega (arith, days-most year month)
+position-small year month = month-most year month
 
 pub position-fits : (year month : ℕ) → lastPosition year month ≤ most
 position-fits year month = omega (arith, position-small year month)

@@ -14,6 +14,7 @@ use Rattle.text.specs.Ascii.{bytes}
 use Rattle.text.specs.Decimal.{count, fixed, plain}
 use Rattle.text.specs.DecimalLaws.{above-none, below-within, length-fixed, length-plain, plain-has}
 use Rattle.formats.specs.Words.{wordAt}
+use Rattle.quarters.specs.Quarters.{longestMonth}
 use Rattle.moments.specs.Moments.{periodStart, periodEnd}
 use Rattle.moments.specs.MomentsLaws.{length-moment}
 use Rattle.moments.specs.Ids.{isTransactionId}
@@ -54,7 +55,7 @@ length-observation : (o : Observation) → length (observationBytes o) ≡ 73 + 
 unfolding observationBytes quantityBytes opening ending closing bytes
 length-observation o = simp (length-append, length-fixed) (omega arith)
 
-observation-most : (last : ℕ) (o : Observation) → last ≤ 2976 → IsObservation last o → length (observationBytes o) ≤ 86
+observation-most : (last : ℕ) (o : Observation) → last ≤ longestMonth → IsObservation last o → length (observationBytes o) ≤ 86
 observation-most last o h v =
     omega (arith, length-observation o, few-digits 4 (o .position) (omega arith) (omega (arith, v .within)), few-digits 9 (o .watts / 1000) (omega arith) (omega (arith, v .below)))
 
@@ -63,7 +64,7 @@ unfolding flatMap
 observations-least [] = omega arith
 observations-least (o ∷ l) = omega (arith, length-append (observationBytes o) (flatMap observationBytes l), length-observation o, observations-least l)
 
-observations-most : (last : ℕ) (l : List Observation) → last ≤ 2976 → All (IsObservation last) l → length (flatMap observationBytes l) ≤ 86 * length l
+observations-most : (last : ℕ) (l : List Observation) → last ≤ longestMonth → All (IsObservation last) l → length (flatMap observationBytes l) ≤ 86 * length l
 unfolding flatMap All
 observations-most last [] h v = omega arith
 observations-most last (o ∷ l) h v = omega (arith, length-append (observationBytes o) (flatMap observationBytes l), observation-most last o h (v .0), observations-most last l h (v .1))

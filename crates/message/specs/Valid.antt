@@ -6,7 +6,7 @@ use Prim.Native.Nat.{ℕ, _*_, _^_, _≤_, _<_}
 use lib.ListN.{length}
 use Rattle.integers.specs.Rises.{rises}
 use Rattle.integers.specs.All.{All}
-use Rattle.calendar.specs.Dates.{monthLength}
+use Rattle.quarters.specs.Quarters.{quartersInMonth}
 use Rattle.moments.specs.declared.MomentRead.{MomentRead}
 use Rattle.moments.specs.declared.MomentRead.the-variants.{Real, Malformed}
 use Rattle.moments.specs.Moments.{momentOf}
@@ -22,7 +22,7 @@ most = 18446744073709551615
 
 -- "Positions go up to 96 times the days of the month"
 unfoldable pub lastPosition : ℕ → ℕ → ℕ
-lastPosition year month = 96 * monthLength year month
+lastPosition year month = quartersInMonth year month
 
 -- "Quantity is kilowatts with three decimals, above 0 and below 10^9"
 pub record IsObservation (last : ℕ) (o : Observation) : Type 0 where

@@ -38,7 +38,7 @@ pub enum WriteAnswer {
 pub fn last_position(year: u64, month: u64) -> u64
     ensures { λ r. ⌜ r ≡ lastPosition year month ⌝ }
 {
-    96 * calendar::dates::month_length(year, month)
+    quarters::quarters_in_month(year, month)
 }
 
 // A moment's bytes.

@@ -9,11 +9,11 @@ use borrow.Author.Tests.{lt-ltb}
 use Rattle.integers.specs.Ranges.{range, range-more}
 use Rattle.calendar.specs.Dates.{calendarDays}
 use Rattle.calendar.specs.DatesLaws.{month-length}
-use Rattle.book.specs.declared.Calendar.{Calendar}
-use Rattle.book.specs.Calendars.{dayStart, Ranged}
+use Rattle.quarters.specs.declared.Calendar.{Calendar}
+use Rattle.quarters.specs.Quarters.{Ranged, monthQuarters, longestMonth}
+use Rattle.quarters.specs.QuartersLaws.{month-quarters-most}
 use Rattle.book.specs.Header.{calendarOf}
 use Rattle.book.specs.Book.{Book, bookOf}
-use Rattle.volumes.specs.Quarters.{monthQuarters}
 use Rattle.volumes.specs.QuartersLaws.{map-range-cong}
 use Rattle.volumes.specs.SettlementLaws.{passing}
 use Rattle.volumes.specs.declared.Series.{Series}
@@ -67,11 +67,6 @@ observations-are book kind receiver s before l n month e =
 
 -- ---- the month
 
--- no month has more positions
-pub month-most : (c : Calendar) → Ranged c → monthQuarters c ≤ 2976
-unfolding monthQuarters dayStart calendarDays
-month-most c h = omega (arith, month-length (c .year) (c .month) (h .january) (h .december))
-
 pub period-of : (c : Calendar) → Ranged c → IsPeriod (c .year) (c .month)
 period-of c h = record { from = h .from; to = h .to; january = h .january; december = h .december }
 
@@ -80,10 +75,10 @@ pub record Dated (bytes : List ℕ) : Type 0 where
   pub long : 56 ≤ length bytes
   pub ranged : Ranged (calendarOf bytes)
   pub own : calendarOf bytes ≡ bookOf bytes .calendar
-  pub few : monthQuarters (bookOf bytes .calendar) ≤ 2976
+  pub few : monthQuarters (bookOf bytes .calendar) ≤ longestMonth
 
 pub dated : (bytes volumes : List ℕ) → DeliveredIn bytes volumes → Dated bytes
 dated bytes volumes h =
     let p = parts-of bytes volumes h in
     let r = rw (p .when) at (p .sound .ranged) in
-    record { long = bytes-long bytes (passing bytes (h .accepted) .passed); ranged = r; own = sym (p .when); few = rw (p .when) (month-most (calendarOf bytes) r) }
+    record { long = bytes-long bytes (passing bytes (h .accepted) .passed); ranged = r; own = sym (p .when); few = month-quarters-most (bookOf bytes .calendar) }

@@ -7,12 +7,12 @@ use lib.Seq.{sets}
 use Rattle.book.specs.declared.Supply.{Supply}
 use Rattle.book.specs.declared.Direction.{Direction}
 use Rattle.book.specs.Book.{Book}
-use Rattle.volumes.specs.Quarters.{monthQuarters}
 use Rattle.volumes.specs.declared.Series.{Series}
 use Rattle.volumes.specs.Series.{Kind, grainsAt, seriesOf}
 use Rattle.message.specs.Contents.{Observation}
 use Rattle.message.specs.Rows.{Row, numbers}
 use Rattle.reports.specs.FileRows.{supplyNumber, deliveryNumber, directions, Volumes, observationsBy}
+use Rattle.quarters.specs.Quarters.{monthQuarters}
 
 -- the row of a series' observation, and of several
 abbrev pub rowOf : Series → Observation → Row

@@ -28,7 +28,6 @@ use Rattle.book.specs.declared.Supply.the-variants.{OffTake, Injection}
 use Rattle.book.specs.declared.Direction.{Direction}
 use Rattle.book.specs.declared.Direction.the-variants.{Up, Down}
 use Rattle.book.specs.Book.{Book}
-use Rattle.volumes.specs.Quarters.{monthQuarters}
 use Rattle.volumes.specs.declared.Series.{Series}
 use Rattle.volumes.specs.Series.{Kind, grainsAt, seriesOf}
 use Rattle.volumes.specs.Sound.{Sound}
@@ -53,6 +52,7 @@ use Rattle.partners.specs.ObservationsLaws.{no-observation, one-observat
 use Rattle.reports.specs.Registered.{Registered}
 use Rattle.reports.specs.FormLaws.{partners-valid}
 use Rattle.partners.specs.PartnerRows.{rowOf, rowsBy, seriesRowsOf, partnerRowsOf, Filled, seriesRowsBy, partnerRowsBy}
+use Rattle.quarters.specs.Quarters.{monthQuarters}
 
 -- ---- lists
 

@@ -3,12 +3,12 @@ use book::Direction;
 use book::Supply;
 use series::Role;
 use series::sums::series_watts;
-use sheets::cells::month_quarters;
 use volumes::Series;
 ghost use mathlib.Core.Path.{_≡_};
 ghost use mathlib.Core.List.{_∷_, []};
 ghost use Prim.Native.Nat.{_+_, _*_, _≤_};
 ghost use lib.ListN.{length};
+ghost use Rattle.quarters.specs.Quarters.{longestMonth};
 ghost use Rattle.book.specs.Book.{bookOf};
 ghost use Rattle.message.specs.ObservationForm.{observed};
 ghost use Rattle.reports.specs.FileRows.{supplyNumber, deliveryNumber};
@@ -88,17 +88,17 @@ pub fn fill_series(
     rows: &mut [u64],
     at: usize,
 ) -> usize
-    requires { ⌜ DeliveredIn (now book) (now volumes) × (at + 17856 ≤ length (now rows)) ⌝ }
-    ensures { λ r. ⌜ Filled (seriesRowsOf (bookOf (now (book .entry))) (role .kind) (role .receiver) s) (now (rows .entry)) at (now (rows .exit)) r × (r ≤ at + 17856) ⌝ }
+    requires { ⌜ DeliveredIn (now book) (now volumes) × (at + 6 * longestMonth ≤ length (now rows)) ⌝ }
+    ensures { λ r. ⌜ Filled (seriesRowsOf (bookOf (now (book .entry))) (role .kind) (role .receiver) s) (now (rows .entry)) at (now (rows .exit)) r × (r ≤ at + 6 * longestMonth) ⌝ }
 {
-    let mut watts = [0u64; 2976];
+    let mut watts = [0u64; quarters::LONGEST_MONTH];
     series_watts(book, volumes, role, s, &mut watts);
     let c = book::header::calendar_of(book);
-    let n = month_quarters(c);
+    let n = quarters::month_quarters(c);
     push_watts(rows, at, s, &watts, n)
 }
 
-// The rows of a partner, 4 times 2,976 at most: the numbers that they take.
+// The rows of a partner, four series of a longest month at most: the numbers that they take.
 pub fn fill_partner(
     book: &[u8],
     volumes: &[u64],
@@ -106,8 +106,8 @@ pub fn fill_partner(
     partner: u64,
     rows: &mut [u64],
 ) -> usize
-    requires { ⌜ DeliveredIn (now book) (now volumes) × (71424 ≤ length (now rows)) ⌝ }
-    ensures { λ r. ⌜ Filled (partnerRowsOf (bookOf (now (book .entry))) (role .kind) (role .receiver) partner) (now (rows .entry)) 0 (now (rows .exit)) r × (r ≤ 71424) ⌝ }
+    requires { ⌜ DeliveredIn (now book) (now volumes) × (24 * longestMonth ≤ length (now rows)) ⌝ }
+    ensures { λ r. ⌜ Filled (partnerRowsOf (bookOf (now (book .entry))) (role .kind) (role .receiver) partner) (now (rows .entry)) 0 (now (rows .exit)) r × (r ≤ 24 * longestMonth) ⌝ }
 {
     let off = Supply::OffTake;
     let inj = Supply::Injection;

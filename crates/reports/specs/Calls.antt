@@ -10,7 +10,6 @@ use Rattle.moments.specs.Ids.{isTransactionId}
 use Rattle.book.specs.Book.{Book, bookOf}
 use Rattle.refusals.specs.Refusals.{Refusal, refused, unless, orElse, short}
 use Rattle.refusals.specs.Buffers.{afterwards}
-use Rattle.volumes.specs.Quarters.{monthQuarters}
 use Rattle.volumes.specs.Settlement.{rowWidth, rows, rowCount, bookRefusal}
 use Rattle.volumes.specs.Sheets.{parties, sheet}
 use Rattle.volumes.specs.Series.{Kind}
@@ -23,6 +22,7 @@ use Rattle.reports.specs.declared.SheetAnswer.{SheetAnswer}
 use Rattle.reports.specs.declared.SheetAnswer.the-variants.{Sheet, Refused as SheetRefused}
 use Rattle.reports.specs.declared.FileAnswer.{FileAnswer}
 use Rattle.reports.specs.declared.FileAnswer.the-variants.{File, Refused as FileRefused}
+use Rattle.quarters.specs.Quarters.{monthQuarters}
 
 -- ---- a party's sheet
 

@@ -12,7 +12,6 @@ use Rattle.integers.specs.Tests.{both}
 use Rattle.moments.specs.Ids.{isTransactionId}
 use Rattle.book.specs.Book.{Book, bookOf}
 use Rattle.refusals.specs.Refusals.{Refusal, unless, orElse, short}
-use Rattle.volumes.specs.Quarters.{monthQuarters}
 use Rattle.volumes.specs.Settlement.{rowWidth, rowCount, bookRefusal}
 use Rattle.refusals.specs.RefusalsLaws.{never, not-refused, not-later}
 use Rattle.volumes.specs.Sheets.{parties}
@@ -28,6 +27,7 @@ use Rattle.reports.specs.Calls.{stands, sheetRefusal, sheetSays, sheetAn
 use Rattle.reports.specs.declared.SheetAnswer.the-variants.{Sheet}
 use Rattle.reports.specs.declared.FileAnswer.the-variants.{File}
 use Rattle.reports.specs.Demand3.{isSheet, isFile, written}
+use Rattle.quarters.specs.Quarters.{monthQuarters}
 
 pub stands-mem : (x : ℕ) (l : List ℕ) → stands x l ≡ true → List·Memᴰ x l
 unfolding stands

@@ -19,7 +19,7 @@ use Rattle.book.specs.declared.Supply.the-variants.{OffTake, Injection}
 use Rattle.book.specs.declared.Direction.{Direction}
 use Rattle.book.specs.declared.Direction.the-variants.{Up, Down}
 use Rattle.book.specs.Book.{Book}
-use Rattle.volumes.specs.Quarters.{monthQuarters}
+use Rattle.quarters.specs.Quarters.{monthQuarters}
 use Rattle.volumes.specs.Series.{Kind, Toe01, Toe02, grainsAt, seriesWatts, seriesOf}
 use Rattle.volumes.specs.SeriesLaws.{series-prefix, pair-watts}
 use Rattle.message.specs.Contents.{Observation, TimeSeries, Partner}

@@ -16,7 +16,7 @@ use Rattle.moments.specs.Ids.{isTransactionId}
 use Rattle.book.specs.declared.Supply.{Supply}
 use Rattle.book.specs.declared.Direction.{Direction}
 use Rattle.book.specs.Book.{bookOf}
-use Rattle.volumes.specs.Quarters.{monthQuarters}
+use Rattle.quarters.specs.Quarters.{monthQuarters}
 use Rattle.volumes.specs.Settlement.{rowWidth, rowCount, Accepted}
 use Rattle.volumes.specs.Sheets.{parties, sheet, requestedVolume}
 use Rattle.volumes.specs.Series.{Kind, Toe01, Toe02, grainsAt, seriesOf}

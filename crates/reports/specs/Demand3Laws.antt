@@ -17,7 +17,7 @@ use Rattle.integers.specs.Keep.{keep}
 use Rattle.integers.specs.KeepLaws.{keep-sum, mem-keep}
 use Rattle.formats.specs.Format.{got}
 use Rattle.book.specs.Book.{bookOf}
-use Rattle.volumes.specs.Quarters.{monthQuarters}
+use Rattle.quarters.specs.Quarters.{monthQuarters}
 use Rattle.volumes.specs.Settlement.{bookRefusal}
 use Rattle.volumes.specs.SettlementLaws.{accepted, passing}
 use Rattle.volumes.specs.Sheets.{parties, sheetAt, sheet}

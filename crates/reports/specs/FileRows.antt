@@ -14,12 +14,12 @@ use Rattle.book.specs.declared.Direction.{Direction}
 use Rattle.book.specs.declared.Direction.the-variants.{Up, Down}
 use Rattle.book.specs.declared.Point.{Point}
 use Rattle.book.specs.Book.{Book}
-use Rattle.volumes.specs.Quarters.{monthQuarters}
 use Rattle.volumes.specs.declared.Series.{Series}
 use Rattle.volumes.specs.Series.{Kind, takes, receiverOf, partnerOf, grainsAt, seriesOf}
 use Rattle.message.specs.Contents.{Observation, TimeSeries, Partner, File}
 use Rattle.message.specs.Bytes.{fileBytes}
 use Rattle.message.specs.Rows.{Row, rowsOf, Message}
+use Rattle.quarters.specs.Quarters.{monthQuarters}
 
 -- "supply direction (0 off-take, 1 injection)", "direction (0 up, 1 down)": as numbers of a row
 unfoldable pub supplyNumber : Supply → ℕ

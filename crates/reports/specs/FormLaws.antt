@@ -19,16 +19,16 @@ use Rattle.integers.specs.AscendingLaws.{ascending-rises, ascending-once, ascen
 use Rattle.calendar.specs.Dates.{calendarDays}
 use Rattle.calendar.specs.DatesLaws.{month-length}
 use Rattle.moments.specs.Ids.{isTransactionId}
-use Rattle.book.specs.declared.Calendar.{Calendar}
+use Rattle.quarters.specs.declared.Calendar.{Calendar}
 use Rattle.book.specs.declared.Supply.{Supply}
 use Rattle.book.specs.declared.Supply.the-variants.{OffTake, Injection}
 use Rattle.book.specs.declared.Direction.{Direction}
 use Rattle.book.specs.declared.Direction.the-variants.{Up, Down}
 use Rattle.book.specs.declared.Point.{Point}
 use Rattle.book.specs.declared.Engagement.{Engagement}
-use Rattle.book.specs.Calendars.{dayStart}
+use Rattle.quarters.specs.Quarters.{monthQuarters, longestMonth}
+use Rattle.quarters.specs.QuartersLaws.{month-quarters, month-quarters-most}
 use Rattle.book.specs.Book.{Book}
-use Rattle.volumes.specs.Quarters.{monthQuarters}
 use Rattle.volumes.specs.Sheets.{covers, quarterAt}
 use Rattle.volumes.specs.declared.Series.{Series}
 use Rattle.volumes.specs.Series.{Kind, Toe01, Toe02, Toe03, receiverOf, partnerOf, isEngagement, grainsOf, grainsAt, seriesWatts, seriesOf}
@@ -92,8 +92,8 @@ watts-below book sound kind receiver s (suc p) = omega (arith, grains-below book
 -- ---- positions
 
 month-positions : (c : Calendar) → monthQuarters c ≡ lastPosition (c .year) (c .month)
-unfolding monthQuarters dayStart calendarDays lastPosition
-month-positions c = omega arith
+unfolding lastPosition
+month-positions c = month-quarters c
 
 partner-fits : (kind : Kind) (point : Point) → NumbersFit point → partnerOf kind point < 10 ^ digits kind
 unfolding partnerOf digits
@@ -130,10 +130,10 @@ module _ (book : Book) (sound : Sound book) (registered : Registered book) (kind
             below = omega (arith, ap (λ (x : Observation). x .watts) e, watts-below book sound kind receiver s p);
           }
 
-  observations-few : (s : Series) → length (observationsOf book kind receiver s) ≤ 2976
-  unfolding observationsOf observationsBy positions lastPosition observationAt observationBy seriesWatts
+  observations-few : (s : Series) → length (observationsOf book kind receiver s) ≤ longestMonth
+  unfolding observationsOf observationsBy positions observationAt observationBy seriesWatts
   observations-few s =
-      omega (arith, keep-length isWritten (map (observationAt book kind receiver s) (positions book)), length-map (positions book) (observationAt book kind receiver s), length-range 1 (monthQuarters (book .calendar)), month-positions (book .calendar), month-length (book .calendar .year) (book .calendar .month) (sound .ranged .january) (sound .ranged .december))
+      omega (arith, keep-length isWritten (map (observationAt book kind receiver s) (positions book)), length-map (positions book) (observationAt book kind receiver s), length-range 1 (monthQuarters (book .calendar)), month-quarters-most (book .calendar))
 
   observations-rise : (s : Series) → rises 1 (map position (observationsOf book kind receiver s)) ≡ true
   unfolding observationsOf observationsBy positions observationAt observationBy seriesWatts

@@ -20,10 +20,10 @@ use Rattle.integers.specs.Keep.{keep}
 use Rattle.wire.specs.Numbers.{little}
 use Rattle.wire.specs.Readings.{readingOf}
 use Rattle.calendar.specs.Dates.{leap, monthLength, calendarDays}
-use Rattle.book.specs.declared.Calendar.{Calendar}
+use Rattle.quarters.specs.declared.Calendar.{Calendar}
 use Rattle.book.specs.declared.Supply.the-variants.{OffTake}
 use Rattle.book.specs.declared.Direction.the-variants.{Up}
-use Rattle.book.specs.Calendars.{daysOf, quarters, dayStart, quartersOf}
+use Rattle.quarters.specs.Quarters.{daysOf, quarters, dayStart, quartersOf, position, monthQuarters}
 use Rattle.book.specs.Header.{calendarOf, pointCount, engagementCount, headerGood, headerFields, layoutGood, calendarSection, pairSection, registerSection, readingSection, engagementSection}
 use Rattle.book.specs.Tables.{categoryAt, xAt, yAt, calendarGood, pairsGood}
 use Rattle.book.specs.Register.{pointAt, badPoint, numbersGood, bytesGood}
@@ -31,7 +31,7 @@ use Rattle.book.specs.Metering.{meterAt, readingGood, badReading}
 use Rattle.book.specs.Engagements.{engagementAt, badEngagement, placeGood, termsGood}
 use Rattle.book.specs.Judged.{clockChangeIn, refusalOf}
 use Rattle.book.specs.Book.{Book, bookOf}
-use Rattle.volumes.specs.Quarters.{quarterHours, start, referenceQuarter, reference, position, monthQuarters}
+use Rattle.volumes.specs.Quarters.{quarterHours, start, referenceQuarter, reference}
 use Rattle.volumes.specs.Ranking.{insert, ranked}
 use Rattle.volumes.specs.Baseline.{pointOf, watts, known, complete, mean, ownReading, dayReading, dayReadings, dayWindow, windowed, allowed, eligible, before, eligibleDays, latest, daySum, taken, high, baselineBy, baseline}
 use Rattle.refusals.specs.Refusals.{orElse}

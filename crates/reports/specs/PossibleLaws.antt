@@ -15,7 +15,7 @@ use Rattle.integers.specs.Ascending.{ascending}
 use Rattle.integers.specs.AscendingLaws.{ascending-once}
 use Rattle.moments.specs.Ids.{isTransactionId}
 use Rattle.book.specs.Book.{bookOf}
-use Rattle.volumes.specs.Quarters.{monthQuarters}
+use Rattle.quarters.specs.Quarters.{monthQuarters}
 use Rattle.volumes.specs.Settlement.{rowWidth, rows, rowCount, Accepted}
 use Rattle.volumes.specs.Sheets.{parties, sheet}
 use Rattle.volumes.specs.Series.{Kind, Toe01, Toe02, Toe03}

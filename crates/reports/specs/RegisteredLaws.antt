@@ -10,7 +10,7 @@ use borrow.Author.Tests.{eqb-true, eq-eqb, ltb-true, ltb-false, not-false}
 use Rattle.integers.specs.Tests.{both, neither}
 use Rattle.integers.specs.First.{anyBelow, any-of}
 use Rattle.integers.specs.Ranges.{range}
-use Rattle.book.specs.Calendars.{daysOf}
+use Rattle.quarters.specs.Quarters.{daysOf}
 use Rattle.book.specs.Header.{calendarOf, pointCount, registerSection}
 use Rattle.book.specs.HeaderLaws.{headed}
 use Rattle.book.specs.Register.{pointAt, registerRow, deliveryIn, accessIn, supplierIn, fspIn, maskIn, upwardIn, downwardIn, supplyIn, supplyOf, numbersGood, bytesGood, notAbove, differs, badPoint}

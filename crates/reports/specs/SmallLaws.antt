@@ -21,7 +21,7 @@ use Rattle.calendar.specs.Dates.{leap, monthLength, calendarDays, hasClockChang
 use Rattle.calendar.specs.DatesLaws.{has-clock-change, last-sunday-is}
 use Rattle.book.specs.declared.Supply.the-variants.{OffTake}
 use Rattle.book.specs.declared.Direction.the-variants.{Up}
-use Rattle.book.specs.Calendars.{daysOf, quarters, dayStart, quartersOf}
+use Rattle.quarters.specs.Quarters.{daysOf, quarters, dayStart, quartersOf, position, monthQuarters}
 use Rattle.book.specs.Header.{calendarOf, pointCount, engagementCount, headerGood, headerFields, layoutGood, calendarSection, pairSection, registerSection, readingSection, engagementSection}
 use Rattle.book.specs.Tables.{categoryAt, xAt, yAt, calendarGood, pairsGood}
 use Rattle.book.specs.Register.{pointAt, badPoint, numbersGood, bytesGood}
@@ -29,7 +29,7 @@ use Rattle.book.specs.Metering.{meterAt, readingGood, badReading, firstBadReadi
 use Rattle.book.specs.Engagements.{engagementAt, badEngagement, placeGood, termsGood}
 use Rattle.book.specs.Judged.{clockChangeIn, rowsRefusal, sectionsRefusal, refusalOf}
 use Rattle.book.specs.Book.{Book, bookOf}
-use Rattle.volumes.specs.Quarters.{quarterHours, start, position, monthQuarters}
+use Rattle.volumes.specs.Quarters.{quarterHours, start}
 use Rattle.volumes.specs.Baseline.{pointOf, watts, known, complete, readingBefore, ownReading, lastReading, baselineBy, baseline}
 use Rattle.refusals.specs.Refusals.{orElse}
 use Rattle.volumes.specs.Settlement.{neededBy, needed, tooFew, refusalNumber, rowRefusal, refusalFrom, settlementRefusal, limited, deliveredBy, delivered, rowWidth, rowCount, bookRefusal, Accepted}

@@ -7,13 +7,13 @@ use lib.Dec.{eqb, leb}
 use lib.IntN.{ℤ, pos, negsuc}
 use borrow.Author.Tests.{eqb-true, eqb-false, eq-eqb, ne-eqb, leb-true, leb-false, lt-ltb, le-ltb}
 use Rattle.integers.specs.Z.{Within}
-use Rattle.wire.specs.Readings.{readingOf, missingIf, raised}
+use Rattle.wire.specs.Readings.{readingOf, missingIf, raised, raise}
 use Rattle.wire.specs.ReadingsLaws.{raised-over}
 use Rattle.wire.specs.declared.Reading.the-variants.{Watts}
 use Rattle.book.specs.Metering.{readingGood}
 use Rattle.searches.specs.MeteringInner.{isOutside}
 
-pub outside-is : (z : ℤ) (r : ℕ) → Within z 2147483648 → r ≡ raised (readingOf z) → isOutside r ≡ not (readingGood (readingOf z))
+pub outside-is : (z : ℤ) (r : ℕ) → Within z raise → r ≡ raised (readingOf z) → isOutside r ≡ not (readingGood (readingOf z))
 unfolding readingGood readingOf
 outside-is (pos w) r h e = go (leb w 1000000000) refl
   where

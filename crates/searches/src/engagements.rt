@@ -1,12 +1,12 @@
 // Refusal 7: the engagements' rows.
 use crate::Found;
-use book::Calendar;
+use quarters::Calendar;
 ghost use mathlib.Core.Path.{_≡_};
 ghost use mathlib.Core.Bool.{not, _||_};
 ghost use Prim.Native.Nat.{_+_, _*_, _≤_};
 ghost use lib.ListN.{length};
 ghost use Rattle.integers.specs.First.{first};
-ghost use Rattle.book.specs.Calendars.{Ranged};
+ghost use Rattle.quarters.specs.Quarters.{Ranged};
 ghost use Rattle.searches.specs.FoundInner.{foundAt};
 ghost use Rattle.book.specs.Engagements.{placeGood, termsGood, rises, overlaps, outOfOrder, badEngagement};
 
@@ -19,10 +19,10 @@ fn place_good(row: &[u8], c: Calendar, points: usize) -> bool
     let day = wire::u8_at(row, 2) as u64;
     let first = wire::u8_at(row, 3) as u64;
     let count = wire::u8_at(row, 4) as u64;
-    let quarters = book::header::quarters(c, day);
+    let quarters = quarters::quarters(c, day);
     (point < points)
         & ((c.lead <= day)
-            & ((day < book::header::days_of(c))
+            & ((day < quarters::days_of(c))
                 & ((first < quarters) & ((1 <= count) & (first + count <= quarters)))))
 }
 

@@ -6,7 +6,7 @@ use Prim.Native.Nat.{ℕ, zero, suc, pred, _+_, _*_, _^_, _≤_, _<_}
 use lib.ListN.{length, getD, take, drop, set}
 use Rattle.integers.specs.Ranges.{range}
 use Rattle.integers.specs.Sums.{sumOf}
-use Rattle.book.specs.declared.Calendar.{Calendar}
+use Rattle.quarters.specs.declared.Calendar.{Calendar}
 use Rattle.book.specs.Register.{pointAt}
 use Rattle.book.specs.Engagements.{engagementAt}
 use Rattle.book.specs.Book.{Book, bookOf}

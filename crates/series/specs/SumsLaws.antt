@@ -20,12 +20,12 @@ use Rattle.book.specs.declared.Supply.{Supply}
 use Rattle.book.specs.declared.Supply.the-variants.{OffTake, Injection}
 use Rattle.book.specs.declared.Direction.{Direction}
 use Rattle.book.specs.declared.Direction.the-variants.{Up, Down}
-use Rattle.book.specs.declared.Calendar.{Calendar}
+use Rattle.quarters.specs.declared.Calendar.{Calendar}
 use Rattle.book.specs.declared.Engagement.{Engagement}
 use Rattle.book.specs.Engagements.{engagementAt}
 use Rattle.book.specs.Header.{calendarOf, registerSection, engagementSection}
 use Rattle.book.specs.Book.{Book, bookOf}
-use Rattle.volumes.specs.Quarters.{monthQuarters}
+use Rattle.quarters.specs.Quarters.{monthQuarters}
 use Rattle.volumes.specs.QuartersLaws.{map-range-cong, position-inside}
 use Rattle.volumes.specs.Settlement.{delivered, rows, rowCount}
 use Rattle.volumes.specs.SettlementLaws.{passing}
@@ -40,7 +40,7 @@ use Rattle.settlement.specs.Sections.{engagementCountIn, engagementsIn, rowCoun
 use Rattle.settlement.specs.SectionsLaws.{rows-counted, same-book, opened}
 use Rattle.settlement.specs.EngagedLaws.{engaged}
 use Rattle.settlement.specs.PartsLaws.{rowCountTo, count-more, count-most}
-use Rattle.baseline.specs.BasesLaws.{next-cell}
+use Rattle.baseline.specs.FillsLaws.{next-cell}
 use Rattle.series.specs.Sums.{byPosition, cellAt, grainsTo, added, VolumesAddable, Parts, DeliveredIn}
 use Rattle.series.specs.Volumes.{bookVolumes}
 use Rattle.series.specs.VolumesLaws.{volumes-length, volume-of}

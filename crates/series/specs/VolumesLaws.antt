@@ -15,6 +15,7 @@ use mir.Val.{Fits, SFits}
 use Rattle.integers.specs.Ranges.{range, length-range, range-more, getD-made}
 use Rattle.integers.specs.Sums.{sumOf}
 use Rattle.integers.specs.Z.{up, dn, inside}
+use Rattle.quarters.specs.Quarters.{mostRows}
 use Rattle.book.specs.declared.Engagement.{Engagement}
 use Rattle.book.specs.Book.{Book, bookOf}
 use Rattle.volumes.specs.Quarters.{quarterHours}
@@ -97,8 +98,7 @@ pub volumes-all : (bytes engagements : List ℕ) (i : ℕ) → engagementCountIn
 unfolding bookVolumes bookWith
 volumes-all bytes engagements i h = parts-all (volumesOf (bookWith bytes engagements)) engagements i h
 
--- an accepted book has 512 engagements of 96 quarter-hours at most
-pub volumes-most : (bytes : List ℕ) → bookRefusal bytes ≡ none → rowCount (bookOf bytes) ≤ 49152
+pub volumes-most : (bytes : List ℕ) → bookRefusal bytes ≡ none → rowCount (bookOf bytes) ≤ mostRows
 volumes-most bytes h = omega (arith, rows-few (bookOf bytes) (sound bytes (passing bytes h .passed)))
 
 -- stored, they stand in the first places

@@ -1,5 +1,5 @@
 // The delivered volumes of a book, in the order of its settlement rows.
-use book::Calendar;
+use quarters::Calendar;
 use settlement::rows::ROW_WIDTH;
 ghost use mathlib.Core.Path.{_≡_};
 ghost use mathlib.Core.List.{map};
@@ -37,7 +37,7 @@ fn store_volumes(volumes: &mut [u64], at: usize, rows: &[i64], n: usize)
     }
 }
 
-// The volumes of engagement i, from `at` on; the place after them. 384 numbers hold the rows of a day.
+// The volumes of engagement i, from `at` on; the place after them. A longest day has no more rows.
 fn fill_engagement(
     c: Calendar,
     book: &[u8],
@@ -49,8 +49,8 @@ fn fill_engagement(
     requires { ⌜ Opened (now book) (now engagements) × (c ≡ calendarOf (now book)) × (i < engagementCountIn (now engagements)) × (refusalNumber (bookWith (now book) (now engagements)) (engagementAt (now engagements) i) ≡ none) × (at + engagementAt (now engagements) i .count ≤ length (now volumes)) ⌝ }
     ensures { λ r. ⌜ (r ≡ at + engagementAt (now (engagements .entry)) i .count) × (now (volumes .exit) ≡ sets (now (volumes .entry)) at (volumesOf (bookWith (now (book .entry)) (now (engagements .entry))) (engagementAt (now (engagements .entry)) i))) ⌝ }
 {
-    let mut rows = [0i64; 384];
-    settlement::settle::fill_row(c, book, engagements, i, &mut rows, 0);
+    let mut rows = [0i64; settlement::rows::ROW_WIDTH * quarters::LONGEST_DAY];
+    settlement::settle::settle_engagement_at(c, book, engagements, i, &mut rows, 0);
     let e = book::engagements::engagement_at(engagements, i);
     let n = e.count as usize;
     store_volumes(volumes, at, &rows, n);

@@ -1,6 +1,6 @@
 // The watts of a series by position, from a book's delivered volumes.
 use crate::Role;
-use book::Calendar;
+use quarters::Calendar;
 use book::Direction;
 use book::Engagement;
 use book::Point;
@@ -8,8 +8,6 @@ use book::Supply;
 use book::Takers;
 use grains::Grains;
 use kinds::Kind;
-use sheets::cells::first_cell;
-use sheets::cells::month_quarters;
 use volumes::Series;
 ghost use mathlib.Core.Path.{_≡_};
 ghost use mathlib.Core.Bool.{cond};
@@ -23,10 +21,10 @@ ghost use Rattle.book.specs.declared.Direction.the-variants.{Up};
 ghost use Rattle.book.specs.declared.Takers.the-variants.{Aggregated};
 ghost use Rattle.book.specs.Register.{pointAt};
 ghost use Rattle.book.specs.Book.{Book, bookOf};
-ghost use Rattle.volumes.specs.Quarters.{monthQuarters};
+ghost use Rattle.quarters.specs.Quarters.{monthQuarters};
 ghost use Rattle.volumes.specs.Baseline.{pointOf};
 ghost use Rattle.volumes.specs.Series.{takenBy, Told, receiverOf, partnerOf, sameSupply, sameDirection, isPoint, isEngagement, grainsAt, seriesWatts};
-ghost use Rattle.series.specs.Sums.{byPosition, cellAt, added, Addable, Parts, Parted, DeliveredIn};
+ghost use Rattle.series.specs.Sums.{byPosition, cellAt, added, VolumesAddable, Parts, Parted, DeliveredIn};
 
 // Whether a kind's files are aggregated: those take transfer points, and the individual ones pass-through points.
 fn is_aggregated(kind: Kind) -> bool
@@ -193,7 +191,7 @@ fn add_engagements(
     while i < n {
         let e = book::engagements::engagement_at(engagements, i);
         let own = series_rows(register, e, role, s);
-        let first = first_cell(c, e);
+        let first = quarters::cell_of(c, e.day, e.first);
         add_volumes(grains, first, volumes, at, own);
         at += e.count as usize;
         i += 1;
@@ -208,7 +206,7 @@ pub fn fill_grains(book: &[u8], volumes: &[u64], role: Role, s: Series, grains: 
     let register = settlement::sections::section(book, 2);
     let engagements = settlement::sections::section(book, 4);
     let c = book::header::calendar_of(book);
-    clear(grains, month_quarters(c));
+    clear(grains, quarters::month_quarters(c));
     add_engagements(c, register, engagements, volumes, role, s, grains);
 }
 
@@ -235,5 +233,5 @@ pub fn series_watts(book: &[u8], volumes: &[u64], role: Role, s: Series, watts: 
 {
     fill_grains(book, volumes, role, s, watts);
     let c = book::header::calendar_of(book);
-    fill_watts(watts, month_quarters(c));
+    fill_watts(watts, quarters::month_quarters(c));
 }

@@ -10,9 +10,9 @@ use lib.Dec.{ltb}
 use lib.ListN.{length, getD, length-map, List·getD-eq-default}
 use borrow.Author.Tests.{ltb-true, ltb-false}
 use Rattle.integers.specs.Ranges.{length-range, getD-made, getD-mem}
-use Rattle.book.specs.declared.Calendar.{Calendar}
+use Rattle.quarters.specs.declared.Calendar.{Calendar}
 use Rattle.book.specs.declared.Engagement.{Engagement}
-use Rattle.book.specs.Calendars.{quartersOf}
+use Rattle.quarters.specs.Quarters.{quartersOf}
 use Rattle.book.specs.Header.{calendarOf, pointCount, sectionOf, calendarSection, pairSection, registerSection, readingSection}
 use Rattle.book.specs.HeaderLaws.{headed}
 use Rattle.book.specs.Tables.{categoryAt, xAt, yAt}

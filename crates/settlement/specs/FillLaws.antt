@@ -7,10 +7,10 @@ use native.Mathlib.Omega.{arith}
 use Rattle.integers.specs.Tests.{both}
 use Rattle.integers.specs.Ranges.{range}
 use Rattle.wire.specs.Readings.{readingAt}
-use Rattle.book.specs.declared.Calendar.{Calendar}
+use Rattle.quarters.specs.declared.Calendar.{Calendar}
 use Rattle.book.specs.declared.Engagement.{Engagement}
 use Rattle.book.specs.declared.Point.{Point}
-use Rattle.book.specs.Calendars.{dayStart, quartersOf}
+use Rattle.quarters.specs.Quarters.{originOf}
 use Rattle.book.specs.Book.{Book}
 use Rattle.volumes.specs.Quarters.{start, quarterHours}
 use Rattle.volumes.specs.Baseline.{pointOf, complete, ownReading}
@@ -24,14 +24,14 @@ use Rattle.settlement.specs.Rows.{readingsFrom, rowsFrom}
 use Rattle.settlement.specs.RowsLaws.{rows-from}
 
 module _ {c : Calendar} {calendar readings : List ℕ} {point : Point} {e : Engagement} {x y : ℕ} {book : Book} (s : Unrefused c calendar readings point e x y book) where
-  pub own-at : (first : ℕ) → first ≡ quartersOf c * e .point + (dayStart c (e .day) + e .first) → (k : ℕ) → readingAt readings (first + k) ≡ ownReading book e k
+  pub own-at : (first : ℕ) → first ≡ originOf c (e .point) + start c e → (k : ℕ) → readingAt readings (first + k) ≡ ownReading book e k
   unfolding ownReading
   own-at first f k =
       let q = start-at (s .shows) in
-      let place : first + k ≡ quartersOf c * e .point + (start (book .calendar) e + k) = omega arith in
+      let place : first + k ≡ originOf c (e .point) + (start (book .calendar) e + k) = omega arith in
       ap (readingAt readings) place ∙ sym (s .shows .reading (e .point) (start (book .calendar) e + k))
 
-  pub own-whole : (first : ℕ) → first ≡ quartersOf c * e .point + (dayStart c (e .day) + e .first) → complete (readingsFrom e readings first) ≡ true
+  pub own-whole : (first : ℕ) → first ≡ originOf c (e .point) + start c e → complete (readingsFrom e readings first) ≡ true
   unfolding needed quarterHours
   own-whole first f =
       let own = map (ownReading book e) (range 0 (e .count)) in
@@ -39,7 +39,7 @@ module _ {c : Calendar} {calendar readings : List ℕ} {point : Point} {e : Enga
       ap complete (map-range-cong (λ k. readingAt readings (first + k)) (ownReading book e) 0 (e .count) (λ k _ _. own-at first f k))
       ∙ both (complete own) (complete other) (sym (complete-append own other) ∙ settles book e (s .good) .known) .0
 
-  pub rows-are : {before : List ℕ} (bases : List ℕ) (first : ℕ) → Filled c calendar readings point e x y before bases → first ≡ quartersOf c * e .point + (dayStart c (e .day) + e .first) → rowsFrom e point bases readings first ≡ rowsOf book e
-  rows-are bases first f g =
-      ap (λ (p : Point). rowsFrom e p bases readings first) (sym (s .shows .owner))
-      ∙ rows-from book e bases readings first (f .levels book s) (λ k h. own-at first g k)
+  pub rows-are : {before : List ℕ} (levels : List ℕ) (first : ℕ) → Filled c calendar readings point e x y before levels → first ≡ originOf c (e .point) + start c e → rowsFrom e point levels readings first ≡ rowsOf book e
+  rows-are levels first f g =
+      ap (λ (p : Point). rowsFrom e p levels readings first) (sym (s .shows .owner))
+      ∙ rows-from book e levels readings first (f .levels book s) (λ k h. own-at first g k)

@@ -13,7 +13,7 @@ use Rattle.integers.specs.Ranges.{range}
 use Rattle.integers.specs.Z.{up, Over, over-sub, is-sub, mul, neg, dif}
 use Rattle.wire.specs.declared.Reading.{Reading}
 use Rattle.wire.specs.declared.Reading.the-variants.{Watts}
-use Rattle.wire.specs.Readings.{wattsAt, readingOf, readingAt, missingIf, Raised}
+use Rattle.wire.specs.Readings.{wattsAt, readingOf, readingAt, missingIf, Raised, raise}
 use Rattle.wire.specs.ReadingsLaws.{raised-over}
 use Rattle.grains.specs.Grains.{perWatt, grains, grainsZ}
 use Rattle.volumes.specs.Baseline.{watts, known, complete}
@@ -22,42 +22,42 @@ use Rattle.volumes.specs.WidthsLaws.{most}
 use Rattle.settlement.specs.Raised.{bias, greatest, baselineOf, wattsOf}
 
 -- a baseline, raised
-pub over-base : (base : ℕ) → Over bias (baselineOf base) base
+pub over-level : (level : ℕ) → Over bias (baselineOf level) level
 unfolding baselineOf
-over-base base = over-sub base bias
+over-level level = over-sub level bias
 
-pub is-base : {z : ℤ} {base : ℕ} → Over bias z base → z ≡ baselineOf base
+pub is-level : {z : ℤ} {level : ℕ} → Over bias z level → z ≡ baselineOf level
 unfolding baselineOf
-is-base h = is-sub h
+is-level h = is-sub h
 
-pub base-is : (base : ℕ) → pos base -ℤ pos bias ≡ baselineOf base
-base-is base = is-base (record { law = omega (arith, dif (pos base) (pos bias)) })
+pub level-is : (level : ℕ) → pos level -ℤ pos bias ≡ baselineOf level
+level-is level = is-level (record { law = omega (arith, dif (pos level) (pos bias)) })
 
 -- that of an accepted book is not too great
-pub base-most : {z : ℤ} {base : ℕ} → Bounded (3 * most) z → Over bias z base → base ≤ greatest
-base-most h o = omega arith
+pub level-most : {z : ℤ} {level : ℕ} → Bounded (3 * most) z → Over bias z level → level ≤ greatest
+level-most h o = omega arith
 
 -- a reading, raised
-pub over-watts : (raised : ℕ) → Over 2147483648 (wattsOf raised) raised
+pub over-watts : (raised : ℕ) → Over raise (wattsOf raised) raised
 unfolding wattsOf
-over-watts raised = over-sub raised 2147483648
+over-watts raised = over-sub raised raise
 
-pub is-watts : {w : ℤ} {raised : ℕ} → Over 2147483648 w raised → w ≡ wattsOf raised
+pub is-watts : {w : ℤ} {raised : ℕ} → Over raise w raised → w ≡ wattsOf raised
 unfolding wattsOf
 is-watts h = is-sub h
 
 -- what the baseline is above the reading, and the reading above the baseline, 2^32 watts giving the reading the baseline's bias
-pub above-up : (base raised : ℕ) → up (baselineOf base -ℤ grainsZ (wattsOf raised)) ≡ base - grains (raised + 4294967296)
-above-up base raised =
-    let z = baselineOf base in
+pub above-up : (level raised : ℕ) → up (baselineOf level -ℤ grainsZ (wattsOf raised)) ≡ level - grains (raised + 2 * raise)
+above-up level raised =
+    let z = baselineOf level in
     let w = wattsOf raised in
-    omega (arith, over-base base, over-watts raised, mul w perWatt, dif z (grainsZ w))
+    omega (arith, over-level level, over-watts raised, mul w perWatt, dif z (grainsZ w))
 
-pub above-down : (base raised : ℕ) → up (negℤ (baselineOf base -ℤ grainsZ (wattsOf raised))) ≡ grains (raised + 4294967296) - base
-above-down base raised =
-    let z = baselineOf base in
+pub above-down : (level raised : ℕ) → up (negℤ (baselineOf level -ℤ grainsZ (wattsOf raised))) ≡ grains (raised + 2 * raise) - level
+above-down level raised =
+    let z = baselineOf level in
     let w = wattsOf raised in
-    omega (arith, over-base base, over-watts raised, mul w perWatt, dif z (grainsZ w), neg (z -ℤ grainsZ w))
+    omega (arith, over-level level, over-watts raised, mul w perWatt, dif z (grainsZ w), neg (z -ℤ grainsZ w))
 
 -- a reading that is not missing has the watts of the raised one
 known-watts : (z : ℤ) → known (readingOf z) ≡ true → watts (readingOf z) ≡ z

@@ -16,7 +16,7 @@ use Rattle.book.specs.declared.Direction.{Direction}
 use Rattle.book.specs.declared.Direction.the-variants.{Up, Down}
 use Rattle.book.specs.declared.Point.{Point}
 use Rattle.book.specs.declared.Engagement.{Engagement}
-use Rattle.book.specs.Calendars.{quartersOf}
+use Rattle.quarters.specs.Quarters.{originOf}
 use Rattle.book.specs.Header.{calendarOf, readingSection}
 use Rattle.book.specs.Book.{Book, bookOf}
 use Rattle.volumes.specs.Quarters.{quarterHours, start}
@@ -26,7 +26,7 @@ use Rattle.volumes.specs.BaselineLaws.{complete-append}
 use Rattle.volumes.specs.Settlement.{neededBy, needed, requestedAt, limited, deliveredBy, delivered, signed, sourceCorrection, fspCorrection, corrections, rowWidth, row, rowsOf}
 use Rattle.volumes.specs.SettlementLaws.{Settles}
 use Rattle.settlement.specs.Raised.{bias}
-use Rattle.settlement.specs.RaisedLaws.{is-base}
+use Rattle.settlement.specs.RaisedLaws.{is-level}
 use Rattle.settlement.specs.Rows.{rowFrom, firstReading, readingsFrom, rowAt, rowsFrom, largest}
 use Rattle.settlement.specs.StoresLaws.{flatMap-range-cong}
 
@@ -34,29 +34,29 @@ pub row-from : (book : Book) (e : Engagement) (k : ℕ) → row book e k ≡ row
 unfolding row corrections sourceCorrection fspCorrection delivered rowFrom
 row-from book e k = refl
 
-pub from-length : (direction : Direction) (point : Point) (requested : ℕ) (base read : ℤ) → length (rowFrom direction point requested base read) ≡ rowWidth
+pub from-length : (direction : Direction) (point : Point) (requested : ℕ) (amount read : ℤ) → length (rowFrom direction point requested amount read) ≡ rowWidth
 unfolding rowFrom
-from-length direction point requested base read = refl
+from-length direction point requested amount read = refl
 
 -- where the raised baselines are the book's, and the readings
-pub rows-from : (book : Book) (e : Engagement) (bases readings : List ℕ) (first : ℕ)
-    → ((k : ℕ) → k < e .count → Over bias (baseline book e k) (getD bases k 0))
+pub rows-from : (book : Book) (e : Engagement) (levels readings : List ℕ) (first : ℕ)
+    → ((k : ℕ) → k < e .count → Over bias (baseline book e k) (getD levels k 0))
     → ((k : ℕ) → k < e .count → readingAt readings (first + k) ≡ ownReading book e k)
-    → rowsFrom e (pointOf book e) bases readings first ≡ rowsOf book e
+    → rowsFrom e (pointOf book e) levels readings first ≡ rowsOf book e
 unfolding rowsFrom rowsOf quarterHours requestedAt
-rows-from book e bases readings first b w =
+rows-from book e levels readings first b w =
     flatMap-range-cong
-    (rowAt (e .direction) (pointOf book e) (e .requested) bases readings first)
+    (rowAt (e .direction) (pointOf book e) (e .requested) levels readings first)
     (row book e)
     0
     (e .count)
-    (λ k _ h. let i : k < e .count = omega arith in rw (w k i, ← is-base (b k i)) (sym (row-from book e k)))
+    (λ k _ h. let i : k < e .count = omega arith in rw (w k i, ← is-level (b k i)) (sym (row-from book e k)))
 
 -- the readings of a book's bytes are its own, and none is missing where the engagement is not refused
 pub own-reading : (bytes : List ℕ) (e : Engagement) (k : ℕ) → readingAt (readingSection bytes) (firstReading (calendarOf bytes) e + k) ≡ ownReading (bookOf bytes) e k
 unfolding ownReading bookOf
 own-reading bytes e k =
-    ap (readingAt (readingSection bytes)) (add-assoc (quartersOf (calendarOf bytes) * e .point) (start (calendarOf bytes) e) k)
+    ap (readingAt (readingSection bytes)) (add-assoc (originOf (calendarOf bytes) (e .point)) (start (calendarOf bytes) e) k)
 
 pub own-complete : (bytes : List ℕ) (e : Engagement) → Settles (bookOf bytes) e → complete (readingsFrom e (readingSection bytes) (firstReading (calendarOf bytes) e)) ≡ true
 unfolding needed quarterHours
@@ -72,10 +72,10 @@ pub turned : (a b : ℤ) → negℤ (a -ℤ b) ≡ b -ℤ a
 turned a b = eqZ (negℤ (a -ℤ b)) (b -ℤ a) (omega (arith, neg (a -ℤ b), dif a b, dif b a))
 
 -- the delivered volume is one difference, negated downward and limited to the direction's largest watts
-pub delivered-by : (direction : Direction) (point : Point) (base read : ℤ) → deliveredBy direction point base read ≡ limited (signed direction (base -ℤ read)) (largest direction point)
+pub delivered-by : (direction : Direction) (point : Point) (amount read : ℤ) → deliveredBy direction point amount read ≡ limited (signed direction (amount -ℤ read)) (largest direction point)
 unfolding deliveredBy signed largest
-delivered-by Up point base read = refl
-delivered-by Down point base read = rw turned
+delivered-by Up point amount read = refl
+delivered-by Down point amount read = rw turned
 
 -- limited in ℕ
 pub limited-is : (z : ℤ) (most : ℕ) → limited z most ≡ min (up z) (grains most)

@@ -1,7 +1,7 @@
 // An engagement's rows, from its baselines and its readings.
-use book::Calendar;
 use book::Engagement;
 use book::Point;
+use quarters::Calendar;
 ghost use mathlib.Core.Path.{_≡_};
 ghost use Prim.Native.Nat.{_+_, _*_, _≤_};
 ghost use lib.ListN.{length};
@@ -25,8 +25,8 @@ pub fn settle_engagement(
     requires { ⌜ Accepts c (now calendar) (now readings) point e x y × (at + rowWidth * e .count ≤ length (now out)) ⌝ }
     ensures { λ r. ⌜ ((b : Book) → Unrefused c (now (calendar .entry)) (now (readings .entry)) point e x y b → now (out .exit) ≡ sets (now (out .entry)) at (rowsOf b e)) ⌝ }
 {
-    let mut bases = [0u64; 96];
-    baseline::bases::fill_bases(c, calendar, readings, point, e, x, y, &mut bases);
-    let first = baseline::judge::base_of(c, e) + baseline::judge::start_of(c, e);
-    crate::rows::write_rows(out, at, e, point, &bases, readings, first);
+    let mut levels = [0u64; quarters::LONGEST_DAY];
+    baseline::fill::fill_levels(c, calendar, readings, point, e, x, y, &mut levels);
+    let first = quarters::origin_of(c, e.point) + quarters::in_calendar(c, e.day, e.first);
+    crate::rows::write_rows(out, at, e, point, &levels, readings, first);
 }

@@ -1,6 +1,6 @@
 // Refusals 1 to 9: those of the book, then by engagement.
 use baseline::judge::Lack;
-use book::Calendar;
+use quarters::Calendar;
 use judging::Judged;
 ghost use mathlib.Core.Path.{_≡_};
 ghost use Prim.Native.Nat.{_<_};
@@ -35,7 +35,7 @@ fn verdict_of(judged: Judged) -> Verdict
 }
 
 // What engagement i lacks.
-fn judge_row(c: Calendar, book: &[u8], engagements: &[u8], i: usize) -> Lack
+fn judge_engagement_at(c: Calendar, book: &[u8], engagements: &[u8], i: usize) -> Lack
     requires { ⌜ Opened (now book) (now engagements) × (c ≡ calendarOf (now book)) × (i < engagementCountIn (now engagements)) ⌝ }
     ensures { λ r. ⌜ numberOf r ≡ refusalNumber (bookWith (now (book .entry)) (now (engagements .entry))) (engagementAt (now (engagements .entry)) i) ⌝ }
 {
@@ -51,14 +51,14 @@ fn judge_row(c: Calendar, book: &[u8], engagements: &[u8], i: usize) -> Lack
 }
 
 // Refusals 8 and 9, by engagement.
-pub fn judge_rows(c: Calendar, book: &[u8], engagements: &[u8]) -> Verdict
+pub fn judge_engagements(c: Calendar, book: &[u8], engagements: &[u8]) -> Verdict
     requires { ⌜ Opened (now book) (now engagements) × (c ≡ calendarOf (now book)) ⌝ }
     ensures { λ r. ⌜ refusalIn r ≡ settlementRefusal (bookWith (now (book .entry)) (now (engagements .entry))) ⌝ }
 {
     let n = engagements.len() / 16;
     let mut i = 0;
     while i < n {
-        let lack = judge_row(c, book, engagements, i);
+        let lack = judge_engagement_at(c, book, engagements, i);
         match lack {
             Lack::Nothing => {}
             Lack::Reading => return Verdict::Refused(8, i),
@@ -78,5 +78,5 @@ pub fn judge_settlement(book: &[u8]) -> Verdict
         return Verdict::Refused(number, item);
     }
     let engagements = crate::sections::section(book, 4);
-    judge_rows(book::header::calendar_of(book), book, engagements)
+    judge_engagements(book::header::calendar_of(book), book, engagements)
 }

@@ -9,6 +9,7 @@ ghost use Prim.Native.Nat.{_+_, _-_, _*_, _≤_, _<_, min};
 ghost use lib.IntN.{pos, _-ℤ_};
 ghost use lib.ListN.{length};
 ghost use lib.Seq.{sets};
+ghost use Rattle.wire.specs.Readings.{raise};
 ghost use Rattle.grains.specs.Grains.{grains, grainsZ};
 ghost use Rattle.volumes.specs.Baseline.{complete};
 ghost use Rattle.volumes.specs.Settlement.{rowWidth, limited, signed};
@@ -22,14 +23,14 @@ pub const ROW_WIDTH: usize = 4;
 pub fn bias() -> u64
     ensures { λ r. ⌜ r ≡ bias ⌝ }
 {
-    3 * Grains::from_watts(2147483648).count
+    3 * Grains::from_watts(wire::RAISE).count
 }
 
 // A raised reading in grains, with the bias of a raised baseline.
 fn reading_grains(raised: u32) -> u64
-    ensures { λ r. ⌜ r ≡ grains (raised + 4294967296) ⌝ }
+    ensures { λ r. ⌜ r ≡ grains (raised + 2 * raise) ⌝ }
 {
-    Grains::from_watts(raised).count + 2 * Grains::from_watts(2147483648).count
+    Grains::from_watts(raised).count + 2 * Grains::from_watts(wire::RAISE).count
 }
 
 // What a is above b, and `most` at most.
@@ -56,14 +57,14 @@ fn largest(direction: Direction, point: Point) -> u32
 }
 
 // The delivered volume, in grains, limited to `most` watts.
-fn delivered(direction: Direction, most: u32, base: u64, raised: u32) -> u64
-    ensures { λ r. ⌜ (r ≡ limited (signed direction (baselineOf base -ℤ grainsZ (wattsOf raised))) most) × (r ≤ grains 4294967295) ⌝ }
+fn delivered(direction: Direction, most: u32, level: u64, raised: u32) -> u64
+    ensures { λ r. ⌜ (r ≡ limited (signed direction (baselineOf level -ℤ grainsZ (wattsOf raised))) most) × (r ≤ grains 4294967295) ⌝ }
 {
     let reading = reading_grains(raised);
     let limit = Grains::from_watts(most).count;
     match direction {
-        Direction::Up => above(base, reading, limit),
-        Direction::Down => above(reading, base, limit),
+        Direction::Up => above(level, reading, limit),
+        Direction::Down => above(reading, level, limit),
     }
 }
 
@@ -87,11 +88,11 @@ fn correction(direction: Direction, a: u64, b: u64) -> i64
 }
 
 // The baseline of a raised one.
-pub fn baseline_of(base: u64) -> i64
-    requires { ⌜ base ≤ greatest ⌝ }
-    ensures { λ r. ⌜ r ≡ baselineOf base ⌝ }
+pub fn baseline_of(level: u64) -> i64
+    requires { ⌜ level ≤ greatest ⌝ }
+    ensures { λ r. ⌜ r ≡ baselineOf level ⌝ }
 {
-    difference(base, bias())
+    difference(level, bias())
 }
 
 // A quarter-hour's row, from `at` on.
@@ -101,33 +102,33 @@ pub fn write_row(
     direction: Direction,
     point: Point,
     requested: u32,
-    base: u64,
+    level: u64,
     raised: u32,
 )
-    requires { ⌜ (at + rowWidth ≤ length (now out)) × (base ≤ greatest) ⌝ }
-    ensures { λ r. ⌜ now (out .exit) ≡ sets (now (out .entry)) at (rowFrom direction point (grains requested) (baselineOf base) (wattsOf raised)) ⌝ }
+    requires { ⌜ (at + rowWidth ≤ length (now out)) × (level ≤ greatest) ⌝ }
+    ensures { λ r. ⌜ now (out .exit) ≡ sets (now (out .entry)) at (rowFrom direction point (grains requested) (baselineOf level) (wattsOf raised)) ⌝ }
 {
     let most = largest(direction, point);
-    let volume = delivered(direction, most, base, raised);
+    let volume = delivered(direction, most, level, raised);
     let asked = Grains::from_watts(requested).count;
-    out[at] = baseline_of(base);
+    out[at] = baseline_of(level);
     out[at + 1] = difference(volume, 0);
     out[at + 2] = correction(direction, volume, 0);
     out[at + 3] = correction(direction, asked, volume);
 }
 
-// An engagement's rows, from `at` on: `bases` are its raised baselines, and its own readings start at reading `first`.
+// An engagement's rows, from `at` on: `levels` are its raised baselines, and its own readings start at reading `first`.
 pub fn write_rows(
     out: &mut [i64],
     at: usize,
     e: Engagement,
     point: Point,
-    bases: &[u64],
+    levels: &[u64],
     readings: &[u8],
     first: usize,
 )
-    requires { ⌜ (at + rowWidth * e .count ≤ length (now out)) × (e .count ≤ length (now bases)) × AllAtMost greatest (e .count) (now bases) × (4 * (first + e .count) ≤ length (now readings)) × (complete (readingsFrom e (now readings) first) ≡ true) ⌝ }
-    ensures { λ r. ⌜ now (out .exit) ≡ sets (now (out .entry)) at (rowsFrom e point (now (bases .entry)) (now (readings .entry)) first) ⌝ }
+    requires { ⌜ (at + rowWidth * e .count ≤ length (now out)) × (e .count ≤ length (now levels)) × AllAtMost greatest (e .count) (now levels) × (4 * (first + e .count) ≤ length (now readings)) × (complete (readingsFrom e (now readings) first) ≡ true) ⌝ }
+    ensures { λ r. ⌜ now (out .exit) ≡ sets (now (out .entry)) at (rowsFrom e point (now (levels .entry)) (now (readings .entry)) first) ⌝ }
 {
     let count = e.count as usize;
     let direction = e.direction;
@@ -141,7 +142,7 @@ pub fn write_rows(
             direction,
             point,
             requested,
-            bases[k],
+            levels[k],
             raised,
         );
         k += 1;

@@ -1,7 +1,7 @@
 // Settling a book: its rows, or why there are none.
 use crate::judge::Verdict;
 use crate::rows::ROW_WIDTH;
-use book::Calendar;
+use quarters::Calendar;
 ghost use mathlib.Core.Path.{_≡_};
 ghost use mathlib.Core.Option.{none};
 ghost use Prim.Native.Nat.{_+_, _*_, _≤_, _<_};
@@ -46,7 +46,7 @@ pub fn row_count(book: &[u8]) -> usize
 }
 
 // The rows of engagement i, from `at` on; the place after them.
-pub fn fill_row(
+pub fn settle_engagement_at(
     c: Calendar,
     book: &[u8],
     engagements: &[u8],
@@ -71,7 +71,7 @@ pub fn fill_row(
 }
 
 // The rows of all engagements, of a book that is not refused.
-pub fn fill_rows(c: Calendar, book: &[u8], engagements: &[u8], out: &mut [i64])
+pub fn settle_engagements(c: Calendar, book: &[u8], engagements: &[u8], out: &mut [i64])
     requires { ⌜ Opened (now book) (now engagements) × (c ≡ calendarOf (now book)) × (settlementRefusal (bookWith (now book) (now engagements)) ≡ none) × (rowWidth * rowCountIn (now engagements) ≤ length (now out)) ⌝ }
     ensures { λ r. ⌜ now (out .exit) ≡ sets (now (out .entry)) 0 (rows (bookWith (now (book .entry)) (now (engagements .entry)))) ⌝ }
 {
@@ -79,7 +79,7 @@ pub fn fill_rows(c: Calendar, book: &[u8], engagements: &[u8], out: &mut [i64])
     let mut at = 0;
     let mut i = 0;
     while i < n {
-        at = fill_row(c, book, engagements, i, out, at);
+        at = settle_engagement_at(c, book, engagements, i, out, at);
         i += 1;
     }
 }
@@ -90,7 +90,7 @@ pub fn fill_book(book: &[u8], out: &mut [i64])
     ensures { λ r. ⌜ now (out .exit) ≡ sets (now (out .entry)) 0 (rows (bookOf (now (book .entry)))) ⌝ }
 {
     let engagements = crate::sections::section(book, 4);
-    fill_rows(book::header::calendar_of(book), book, engagements, out);
+    settle_engagements(book::header::calendar_of(book), book, engagements, out);
 }
 
 // Settles a book: fills its rows, or changes nothing and says why.

@@ -9,13 +9,13 @@ use native.Mathlib.Omega.{arith}
 use Rattle.refusals.specs.Refusals.{Refusal, short}
 use Rattle.refusals.specs.RefusalsLaws.{not-refused, not-later, not-short}
 use Rattle.book.specs.Book.{bookOf}
-use Rattle.volumes.specs.Quarters.{monthQuarters}
 use Rattle.volumes.specs.Settlement.{bookRefusal}
 use Rattle.volumes.specs.Sheets.{parties}
 use Rattle.reports.specs.Calls.{stands, sheetRefusal, sheetSays, sheetAnswer, SheetCalled}
 use Rattle.reports.specs.declared.SheetAnswer.{SheetAnswer}
 use Rattle.reports.specs.declared.SheetAnswer.the-variants.{Sheet}
 use Rattle.sheet_vectors.specs.Fits.{SumsFit}
+use Rattle.quarters.specs.Quarters.{monthQuarters}
 
 -- refusal 10 is where the sums are too short, so without a refusal they are long enough
 room : (bytes : List ℕ) (party lent : ℕ) → sheetRefusal bytes party lent ≡ none → monthQuarters (bookOf bytes .calendar) ≤ lent

@@ -6,16 +6,14 @@ use native.Mathlib.Omega.{arith}
 use lib.IntN.{ℤ, pos}
 use lib.ListN.{length, drop, replicate, length-replicate}
 use lib.Seq.{sets, drop-at}
-use Rattle.book.specs.declared.Calendar.{Calendar}
+use Rattle.quarters.specs.declared.Calendar.{Calendar}
 use Rattle.book.specs.declared.Engagement.{Engagement}
 use Rattle.book.specs.declared.Point.{Point}
-use Rattle.book.specs.Calendars.{Ranged}
-use Rattle.book.specs.CalendarsLaws.{days-few}
+use Rattle.quarters.specs.Quarters.{Ranged, monthQuarters, longestDay}
+use Rattle.quarters.specs.QuartersLaws.{days-few, quarters-most}
 use Rattle.book.specs.Header.{calendarOf, registerSection}
 use Rattle.book.specs.Register.{pointAt}
 use Rattle.book.specs.Engagements.{engagementAt}
-use Rattle.volumes.specs.Quarters.{monthQuarters}
-use Rattle.volumes.specs.QuartersLaws.{quarters-most}
 use Rattle.volumes.specs.Settlement.{rowWidth, rowsOf}
 use Rattle.volumes.specs.Sheets.{sheet}
 use Rattle.settlement.specs.Sections.{engagementCountIn, bookWith, Opened}
@@ -30,7 +28,7 @@ use Rattle.sheets.specs.SheetLaws.{sheet-none, sheet-all, sheet-more, sh
 pub record Placing (c : Calendar) (e : Engagement) : Type 0 where
   pub day : e .day < 64
   pub settled : c .lead ≤ e .day
-  pub few : rowWidth * e .count ≤ 384
+  pub few : rowWidth * e .count ≤ rowWidth * longestDay
 
 module _ {bytes engagements : List ℕ} (s : Opened bytes engagements) (i : ℕ) (h : i < engagementCountIn engagements) where
   pub engagement-placed : Placing (calendarOf bytes) (engagementAt engagements i)
@@ -44,7 +42,7 @@ module _ {bytes engagements : List ℕ} (s : Opened bytes engagements) (i : ℕ)
       }
 
   -- the point and the rows that were read and filled
-  module _ (l : List ℤ) (room : 384 ≤ length l) {e : Engagement} {point : Point} {register : List ℕ} {rows : List ℤ} (is : e ≡ engagementAt engagements i) (at : point ≡ pointAt register (e .point)) (cut : register ≡ registerSection bytes) (filled : rows ≡ sets l 0 (rowsOf (bookWith bytes engagements) (engagementAt engagements i))) where
+  module _ (l : List ℤ) (room : rowWidth * longestDay ≤ length l) {e : Engagement} {point : Point} {register : List ℕ} {rows : List ℤ} (is : e ≡ engagementAt engagements i) (at : point ≡ pointAt register (e .point)) (cut : register ≡ registerSection bytes) (filled : rows ≡ sets l 0 (rowsOf (bookWith bytes engagements) (engagementAt engagements i))) where
     enough : rowWidth * engagementAt engagements i .count ≤ length l
     enough = omega (arith, engagement-placed .few)
 

@@ -6,7 +6,7 @@ use lib.ListN.{take}
 use Rattle.integers.specs.Ranges.{range}
 use Rattle.integers.specs.Sums.{sumZ}
 use Rattle.book.specs.Book.{Book}
-use Rattle.volumes.specs.Quarters.{monthQuarters}
+use Rattle.quarters.specs.Quarters.{monthQuarters}
 use Rattle.volumes.specs.Sheets.{correctionAt}
 
 -- what they make at a position, and at each of the month

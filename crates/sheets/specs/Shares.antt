@@ -6,7 +6,8 @@ use lib.ListN.{getD}
 use mir.Syntax.{w64}
 use mir.Val.{SFits}
 use Rattle.integers.specs.Ranges.{range}
-use Rattle.book.specs.declared.Calendar.{Calendar}
+use Rattle.quarters.specs.declared.Calendar.{Calendar}
+use Rattle.quarters.specs.Quarters.{cellOf}
 use Rattle.book.specs.declared.Point.{Point}
 use Rattle.book.specs.declared.Engagement.{Engagement}
 use Rattle.book.specs.Book.{Book}
@@ -37,6 +38,6 @@ pub record Both (rows : List ℤ) (count : ℕ) : Type 0 where
 unfoldable pub correctionsFor : Book → ℕ → Engagement → List ℤ
 correctionsFor book party e = map (λ k. correctionAt book party (startPosition (book .calendar) e + k) e) (quarterHours e)
 
--- the cell of its first quarter-hour: positions are counted from 1, cells from 0
+-- the cell of its first quarter-hour
 abbrev pub firstCell : Calendar → Engagement → ℕ
-firstCell c e = startPosition c e - 1
+firstCell c e = cellOf c (e .day) (e .first)

@@ -10,10 +10,12 @@ use lib.ListN.{length, getD, take, drop, replicate, take-append-drop, length-app
 use lib.Seq.{take-all, take-suc}
 use Rattle.integers.specs.Ranges.{range, length-range, getD-made}
 use Rattle.integers.specs.Sums.{integers, sumBy, sumZ, sum-append}
-use Rattle.book.specs.declared.Calendar.{Calendar}
+use Rattle.quarters.specs.declared.Calendar.{Calendar}
 use Rattle.book.specs.declared.Engagement.{Engagement}
 use Rattle.book.specs.Book.{Book}
-use Rattle.volumes.specs.Quarters.{quarterHours, position, monthQuarters}
+use Rattle.quarters.specs.Quarters.{monthQuarters}
+use Rattle.quarters.specs.QuartersLaws.{cell-position}
+use Rattle.volumes.specs.Quarters.{quarterHours}
 use Rattle.volumes.specs.QuartersLaws.{map-range-cong, position-inside}
 use Rattle.volumes.specs.Sheets.{startPosition, covers, correctionAt, sheetAt, sheet}
 use Rattle.volumes.specs.SheetsLaws.{covers-before, covers-after}
@@ -49,8 +51,7 @@ outside book party p e h = rw h
 
 -- positions are counted from 1
 pub first-cell : (c : Calendar) (e : Engagement) → startPosition c e ≡ 1 + firstCell c e
-unfolding position
-first-cell c e = omega arith
+first-cell c e = cell-position c (e .day) (e .first)
 
 -- one engagement more
 module _ (book : Book) (party i : ℕ) (e : Engagement) (h : i < length (book .engagements)) (named : getD (book .engagements) i e ≡ e) where

@@ -1,6 +1,4 @@
-// The cells of a month, one for each of its quarter-hours, and what settlement rows add to those of a sheet.
-use book::Calendar;
-use book::Engagement;
+// The cells of a sheet, one for each quarter-hour of the month, and what settlement rows add to them.
 use book::Point;
 ghost use mathlib.Core.Path.{_≡_};
 ghost use mathlib.Core.Bool.{cond};
@@ -11,27 +9,9 @@ ghost use lib.IntN.{pos, _+ℤ_};
 ghost use lib.ListN.{length, getD, drop, replicate};
 ghost use mir.Syntax.{w64};
 ghost use mir.Val.{SFits};
-ghost use Rattle.book.specs.Calendars.{Ranged};
-ghost use Rattle.volumes.specs.Quarters.{monthQuarters};
 ghost use Rattle.volumes.specs.Settlement.{rowWidth};
 ghost use Rattle.sheets.specs.Adds.{addAt, adds, Addable};
-ghost use Rattle.sheets.specs.Shares.{gets, getsOf, Both, firstCell};
-
-// The quarter-hours of the month: as many as it has cells, and its last position.
-pub fn month_quarters(c: Calendar) -> usize
-    requires { ⌜ Ranged c ⌝ }
-    ensures { λ r. ⌜ r ≡ monthQuarters c ⌝ }
-{
-    (book::header::quarters_of(c) - book::header::day_start(c, c.lead)) as usize
-}
-
-// The cell of an engagement's first quarter-hour.
-pub fn first_cell(c: Calendar, e: Engagement) -> usize
-    requires { ⌜ (e .day < 64) × (c .lead ≤ e .day) ⌝ }
-    ensures { λ r. ⌜ r ≡ firstCell c e ⌝ }
-{
-    baseline::judge::start_of(c, e) - (book::header::day_start(c, c.lead) as usize)
-}
+ghost use Rattle.sheets.specs.Shares.{gets, getsOf, Both};
 
 // The first n cells of a sheet are 0.
 pub fn clear(sums: &mut [i64], n: usize)

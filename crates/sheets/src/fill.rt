@@ -1,5 +1,5 @@
 // A party's sheet of a book.
-use book::Calendar;
+use quarters::Calendar;
 ghost use mathlib.Core.Path.{_≡_};
 ghost use mathlib.Core.List.{_++_};
 ghost use mathlib.Core.Option.{none};
@@ -9,14 +9,14 @@ ghost use Rattle.book.specs.Header.{calendarOf};
 ghost use Rattle.book.specs.Engagements.{engagementAt};
 ghost use Rattle.book.specs.Book.{bookOf};
 ghost use Rattle.book.specs.Judged.{refusalOf};
-ghost use Rattle.volumes.specs.Quarters.{monthQuarters};
+ghost use Rattle.quarters.specs.Quarters.{monthQuarters};
 ghost use Rattle.volumes.specs.Settlement.{refusalNumber, settlementRefusal, bookRefusal};
 ghost use Rattle.volumes.specs.Sheets.{sheet};
 ghost use Rattle.settlement.specs.Sections.{engagementCountIn, bookWith, Opened};
 ghost use Rattle.sheets.specs.Adds.{adds, Addable};
 ghost use Rattle.sheets.specs.Shares.{correctionsFor, firstCell};
 
-// Adds a party's corrections of engagement i; 384 numbers hold the rows of a day.
+// Adds a party's corrections of engagement i. A longest day has no more rows.
 fn add_engagement(
     c: Calendar,
     book: &[u8],
@@ -31,9 +31,9 @@ fn add_engagement(
     let register = settlement::sections::section(book, 2);
     let e = book::engagements::engagement_at(engagements, i);
     let point = book::register::point_at(register, e.point as usize);
-    let at = crate::cells::first_cell(c, e);
-    let mut rows = [0i64; 384];
-    settlement::settle::fill_row(c, book, engagements, i, &mut rows, 0);
+    let at = quarters::cell_of(c, e.day, e.first);
+    let mut rows = [0i64; settlement::rows::ROW_WIDTH * quarters::LONGEST_DAY];
+    settlement::settle::settle_engagement_at(c, book, engagements, i, &mut rows, 0);
     crate::cells::add_rows(sums, at, party, point, &rows, e.count as usize);
 }
 
@@ -42,7 +42,7 @@ pub fn fill_cells(c: Calendar, book: &[u8], engagements: &[u8], party: u16, sums
     requires { ⌜ Opened (now book) (now engagements) × (c ≡ calendarOf (now book)) × (settlementRefusal (bookWith (now book) (now engagements)) ≡ none) × (monthQuarters c ≤ length (now sums)) ⌝ }
     ensures { λ r. ⌜ now (sums .exit) ≡ sheet (bookWith (now (book .entry)) (now (engagements .entry))) party ++ drop (monthQuarters c) (now (sums .entry)) ⌝ }
 {
-    let cells = crate::cells::month_quarters(c);
+    let cells = quarters::month_quarters(c);
     crate::cells::clear(sums, cells);
     let n = engagements.len() / 16;
     let mut i = 0;
@@ -57,7 +57,7 @@ pub fn sheet_length(book: &[u8]) -> usize
     requires { ⌜ refusalOf (now book) ≡ none ⌝ }
     ensures { λ r. ⌜ r ≡ monthQuarters (bookOf (now (book .entry)) .calendar) ⌝ }
 {
-    crate::cells::month_quarters(book::header::calendar_of(book))
+    quarters::month_quarters(book::header::calendar_of(book))
 }
 
 // Fills the sheet of a party, of a book that refusals 1 to 9 pass; what stands behind it is left.

@@ -11,9 +11,9 @@ use native.Mathlib.Nat.{div-le-of-le-mul}
 use native.Mathlib.Omega.{arith}
 use Rattle.integers.specs.First.{first}
 use Rattle.integers.specs.Ranges.{range, length-range}
-use Rattle.book.specs.declared.Calendar.{Calendar}
+use Rattle.quarters.specs.declared.Calendar.{Calendar}
 use Rattle.book.specs.declared.Engagement.{Engagement}
-use Rattle.book.specs.Calendars.{daysOf, quartersOf}
+use Rattle.quarters.specs.Quarters.{daysOf, quartersOf, monthQuarters}
 use Rattle.refusals.specs.Refusals.{Refusal, refused, unless, unlessFound, orElse, short}
 use Rattle.book.specs.Header.{calendarOf, pointCount, engagementCount, headerGood, layoutGood, calendarSection, pairSection, registerSection, readingSection, engagementSection}
 use Rattle.book.specs.HeaderLaws.{headed}
@@ -42,7 +42,6 @@ use Rattle.formats.specs.Format.{Res, got, bad}
 use Rattle.writer.specs.Rows.{isRows, rowsMessage}
 use Rattle.writer.specs.WriteCalls.{textFrom, writeRefusal, writeSays, writeAnswer, WriteCalled}
 use Rattle.toe_c.specs.Codes.{Reply, counts, refuses, settleReply, sheetReply, fileReply, readReply, writeReply, refusalCode, Decoded, withFacts}
-use Rattle.volumes.specs.Quarters.{monthQuarters}
 use Rattle.volumes.specs.Sheets.{parties}
 use Rattle.reports.specs.declared.SheetAnswer.{SheetAnswer}
 use Rattle.reports.specs.declared.FileAnswer.{FileAnswer}

@@ -14,7 +14,8 @@ use Rattle.kinds.specs.Numbers.{kindNumbered}
 use Rattle.formats.specs.Format.{Res, got, bad}
 use Rattle.moments.specs.Ids.{isTransactionId}
 use Rattle.book.specs.Book.{bookOf}
-use Rattle.volumes.specs.Quarters.{monthQuarters}
+use Rattle.quarters.specs.Quarters.{monthQuarters}
+use Rattle.quarters.specs.QuartersLaws.{month-quarters-most}
 use Rattle.volumes.specs.Settlement.{rowCount, bookRefusal, settlingRefusal}
 use Rattle.volumes.specs.SettlementLaws.{passing}
 use Rattle.volumes.specs.SoundLaws.{sound}
@@ -37,7 +38,6 @@ use Rattle.reports.specs.declared.SheetAnswer.{SheetAnswer}
 use Rattle.reports.specs.declared.FileAnswer.{FileAnswer}
 use Rattle.reports.specs.Calls.{sheetRefusal, sheetAnswer, SheetCalled, textOf, fileRefusal, fileAnswer, FileCalled}
 use Rattle.series.specs.VolumesLaws.{volumes-most}
-use Rattle.partners.specs.ObservationsLaws.{month-most}
 use Rattle.toe_c.specs.Codes.{Reply, counts, refuses, settleReply, sheetReply, fileReply, readReply, writeReply, codeOf, Tells, withFacts}
 use Rattle.toe_c.specs.Small.{SmallReply}
 use Rattle.toe_c.specs.SmallLaws.{replyBy, settle-by, sheet-by, file-by, write-by, read-by, decoded}
@@ -73,12 +73,12 @@ settle-few {bytes} {before} s =
     let n = rowCount (bookOf bytes) in
     rw (s .answer, settle-by x n) (by-few x n (rows-few bytes (length before)))
 
--- ---- a sheet: at most 2,976 sums
+-- ---- a sheet: no more sums than a longest month has quarter-hours
 
 sums-few : (bytes : List ℕ) (party lent : ℕ) → sheetRefusal bytes party lent ≡ none → monthQuarters (bookOf bytes .calendar) < 2 ^ 63
 unfolding sheetRefusal
 sums-few bytes party lent e =
-    omega (arith, month-most (bookOf bytes .calendar) (sound bytes (passing bytes (not-first (bookRefusal bytes) _ e) .passed) .ranged))
+    omega (arith, month-quarters-most (bookOf bytes .calendar))
 
 pub sheet-few : {bytes : List ℕ} {party : ℕ} {before after : List ℤ} {r : SheetAnswer} → SheetCalled bytes party before after r → FewReply (sheetReply r)
 unfolding sheetAnswer

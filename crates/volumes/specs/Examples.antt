@@ -17,10 +17,10 @@ use Rattle.book.specs.declared.Method.{Method}
 use Rattle.book.specs.declared.Method.the-variants.{LastQuarter, HighXOfY, Adjusted}
 use Rattle.book.specs.declared.Direction.{Direction}
 use Rattle.book.specs.declared.Direction.the-variants.{Up, Down}
-use Rattle.book.specs.declared.Calendar.{Calendar}
+use Rattle.quarters.specs.declared.Calendar.{Calendar}
 use Rattle.book.specs.declared.Point.{Point}
 use Rattle.book.specs.declared.Engagement.{Engagement}
-use Rattle.book.specs.Calendars.{quarters}
+use Rattle.quarters.specs.Quarters.{quarters}
 use Rattle.refusals.specs.Refusals.{refused}
 use Rattle.book.specs.Book.{Book}
 use Rattle.volumes.specs.Baseline.{mean, ownWindow, dayWindow, latest, daySum, taken, high, addend, baseline}

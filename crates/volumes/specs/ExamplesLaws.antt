@@ -5,8 +5,8 @@ use Rattle.integers.specs.Ranges.{range}
 use Rattle.integers.specs.Sums.{sumBy}
 use Rattle.integers.specs.Running.{upTo, floorAt}
 use Rattle.integers.specs.Keep.{keep}
-use Rattle.book.specs.Calendars.{quarters, dayStart}
-use Rattle.volumes.specs.Quarters.{quarterHours, start, referenceQuarter, reference, position}
+use Rattle.quarters.specs.Quarters.{quarters, dayStart, position}
+use Rattle.volumes.specs.Quarters.{quarterHours, start, referenceQuarter, reference}
 use Rattle.volumes.specs.Ranking.{insert, ranked}
 use Rattle.volumes.specs.Baseline.{pointOf, watts, known, complete, mean, readingBefore, window, ownReading, dayReading, dayReadings, ownWindow, dayWindow, windowed, allowed, eligible, before, eligibleDays, latest, daySum, taken, high, addend, lastReading, baselineBy, baseline}
 use Rattle.volumes.specs.Settlement.{neededBy, needed, tooFew, refusalNumber, rowRefusal, refusalFrom, settlementRefusal, requestedAt, limited, deliveredBy, delivered, signed, sourceCorrection, fspCorrection, corrections, row, rowsOf, rows}

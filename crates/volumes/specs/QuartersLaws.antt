@@ -1,17 +1,16 @@
 -- Numbers in a row, one more at the end: what a loop over an engagement's quarter-hours goes by; and where those lie in the calendar and the month.
 use mathlib.Core.Path.{_≡_, refl, sym, ap, ap₂, _∙_}
-use mathlib.Core.Logic.{⊎-elim}
 use mathlib.Core.List.{List, [], _∷_, _++_, map, flatMap, append-assoc, map-append}
 use Prim.Native.Nat.{ℕ, zero, suc, _+_, _*_, _≤_, _<_}
-use native.Mathlib.Nat.{mul-zero, mul-suc, eq-or-lt-of-le}
+use native.Mathlib.Nat.{mul-zero, mul-suc}
 use native.Mathlib.Omega.{arith}
 use lib.ListN.{length, length-append}
 use Rattle.integers.specs.Ranges.{range}
-use Rattle.book.specs.declared.Calendar.{Calendar}
+use Rattle.quarters.specs.declared.Calendar.{Calendar}
 use Rattle.book.specs.declared.Engagement.{Engagement}
-use Rattle.book.specs.Calendars.{daysOf, quarters, dayStart, quartersOf}
-use Rattle.book.specs.CalendarsLaws.{day-start-next}
-use Rattle.volumes.specs.Quarters.{start, referenceQuarter, reference, position, monthQuarters}
+use Rattle.quarters.specs.Quarters.{daysOf, quarters, quartersOf, inCalendar, position, monthQuarters}
+use Rattle.quarters.specs.QuartersLaws.{day-inside, settled-inside}
+use Rattle.volumes.specs.Quarters.{start, referenceQuarter, reference}
 use Rattle.volumes.specs.Sound.{Placed}
 
 pub range-next : (a n : ℕ) → range a (suc n) ≡ range a n ++ ((a + n) ∷ [])
@@ -40,28 +39,15 @@ module _ {ℓ κ} {A : Type ℓ} {B : Type κ} where
   length-flatMap n f h [] = omega (arith, mul-zero n)
   length-flatMap n f h (a ∷ l) = simp (length-append, h, length-flatMap n f h l) (omega (arith, mul-suc n (length l)))
 
--- no day has more quarter-hours
-abbrev pub longestDay : ℕ
-longestDay = 96
-
-pub quarters-most : (c : Calendar) (d : ℕ) → quarters c d ≤ longestDay
-unfolding quarters
-quarters-most c d = omega arith
-
--- days start one after another
-pub day-start-mono : (c : Calendar) (a b : ℕ) → a ≤ b → dayStart c a ≤ dayStart c b
-day-start-mono c a zero h = let e : a ≡ 0 = omega arith in rw e (omega arith)
-day-start-mono c a (suc b) h =
-    ⊎-elim (λ e. rw e (omega arith)) (λ l. let i : dayStart c a ≤ dayStart c b = day-start-mono c a b (omega arith) in omega (arith, day-start-next c b)) (eq-or-lt-of-le h)
-
--- a quarter-hour of a day of the calendar lies in the calendar
-pub day-inside : (c : Calendar) (d q : ℕ) → d < daysOf c → q < quarters c d → dayStart c d + q < quartersOf c
-day-inside c d q h k = omega (arith, day-start-next c d, day-start-mono c (suc d) (daysOf c) h)
+-- where an engagement starts in the calendar
+pub start-is : (c : Calendar) (e : Engagement) → start c e ≡ inCalendar c (e .day) (e .first)
+unfolding start
+start-is c e = refl
 
 module _ (c : Calendar) (points : ℕ) (e : Engagement) (h : Placed c points e) where
   pub start-inside : (k : ℕ) → k < e .count → start c e + k < quartersOf c
   unfolding start
-  start-inside k l = let i : dayStart c (e .day) + (e .first + k) < quartersOf c = day-inside c (e .day) (e .first + k) (h .inside) (omega (arith, h .ends)) in omega arith
+  start-inside k l = let i : inCalendar c (e .day) (e .first + k) < quartersOf c = day-inside c (e .day) (e .first + k) (h .inside) (omega (arith, h .ends)) in omega arith
 
   pub reference-inside : (d k : ℕ) → d < daysOf c → k < e .count → reference c e d k < quartersOf c
   unfolding reference referenceQuarter quarters
@@ -69,5 +55,4 @@ module _ (c : Calendar) (points : ℕ) (e : Engagement) (h : Placed c points e) 
 
   -- its positions are 1 to the month's quarter-hours
   pub position-inside : position c (e .day) (e .first) + e .count ≤ monthQuarters c + 1
-  unfolding position monthQuarters
-  position-inside = omega (arith, h .ends, day-start-next c (e .day), day-start-mono c (suc (e .day)) (daysOf c) (h .inside), day-start-mono c (c .lead) (e .day) (h .settled))
+  position-inside = settled-inside c (e .day) (e .first) (e .count) (h .settled) (h .inside) (h .ends)

@@ -13,7 +13,8 @@ use Rattle.integers.specs.Running.{upTo, upTo-zero, upTo-add}
 use Rattle.book.specs.declared.Engagement.{Engagement}
 use Rattle.book.specs.Book.{Book}
 use Rattle.volumes.specs.Settlement.{delivered, rowCount}
-use Rattle.volumes.specs.QuartersLaws.{longestDay, quarters-most}
+use Rattle.quarters.specs.Quarters.{longestDay, mostRows}
+use Rattle.quarters.specs.QuartersLaws.{quarters-most}
 use Rattle.volumes.specs.Sheets.{startPosition, covers, quarterAt}
 use Rattle.volumes.specs.declared.Series.{Series}
 use Rattle.volumes.specs.Series.{Kind, isEngagement, grainsOf, grainsAt}
@@ -75,7 +76,7 @@ unfolding sumBy
 count-few book [] h = omega arith
 count-few book (e ∷ es) h = let p = h e (List·Memᴰ·head refl) in omega (arith, p .ends, quarters-most (book .calendar) (e .day), count-few book es (λ f m. h f (List·Memᴰ·tail m)))
 
-pub rows-few : (book : Book) → Sound book → rowCount book ≤ longestDay * 512
+pub rows-few : (book : Book) → Sound book → rowCount book ≤ mostRows
 unfolding rowCount
 rows-few book s = omega (arith, count-few book (book .engagements) (s .engagements), s .few)
 

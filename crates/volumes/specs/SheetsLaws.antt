@@ -14,13 +14,13 @@ use Rattle.integers.specs.Counts.{times}
 use Rattle.integers.specs.Ranges.{range, length-range}
 use Rattle.integers.specs.Sums.{integers, sumBy, sumZ, sum-zero, sum-cong, sum-swap, sum-once}
 use Rattle.integers.specs.Once.{Once}
-use Rattle.book.specs.declared.Calendar.{Calendar}
+use Rattle.quarters.specs.declared.Calendar.{Calendar}
 use Rattle.book.specs.declared.Direction.{Direction}
 use Rattle.book.specs.declared.Direction.the-variants.{Up, Down}
 use Rattle.book.specs.declared.Point.{Point}
 use Rattle.book.specs.declared.Engagement.{Engagement}
 use Rattle.book.specs.Book.{Book}
-use Rattle.volumes.specs.Quarters.{monthQuarters}
+use Rattle.quarters.specs.Quarters.{monthQuarters}
 use Rattle.volumes.specs.Baseline.{noPoint, pointOf}
 use Rattle.volumes.specs.Settlement.{delivered, requestedAt, signed, sourceCorrection, fspCorrection, corrections}
 use Rattle.volumes.specs.Sheets.{startPosition, covers, quarterAt, partiesOf, parties, shareOf, correctionAt, sheetAt, sheet, requestedBy, requestedVolume}

@@ -4,10 +4,10 @@ use Prim.Native.Nat.{ℕ, _+_, _^_, _≤_, _<_}
 use lib.ListN.{length}
 use lib.IntN.{ℤ}
 use Rattle.integers.specs.Z.{up, dn}
-use Rattle.book.specs.declared.Calendar.{Calendar}
+use Rattle.quarters.specs.declared.Calendar.{Calendar}
 use Rattle.book.specs.declared.Point.{Point}
 use Rattle.book.specs.declared.Engagement.{Engagement}
-use Rattle.book.specs.Calendars.{daysOf, quarters, Ranged}
+use Rattle.quarters.specs.Quarters.{daysOf, quarters, Ranged}
 use Rattle.book.specs.Book.{Book}
 use Rattle.volumes.specs.Baseline.{watts}
 

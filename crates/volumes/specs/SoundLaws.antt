@@ -20,13 +20,13 @@ use Rattle.wire.specs.Numbers.{numberAt}
 use Rattle.wire.specs.Readings.{readingAt, readingOf}
 use Rattle.wire.specs.declared.Reading.{Reading}
 use Rattle.wire.specs.declared.Reading.the-variants.{Watts, Missing}
-use Rattle.book.specs.Calendars.{daysOf, quarters, quartersOf}
+use Rattle.quarters.specs.Quarters.{daysOf, quarters, quartersOf}
 use Rattle.book.specs.Header.{calendarOf, pointCount, engagementCount, between, headerGood, layoutGood, lengthOf, offsetOf, pointWidth, engagementWidth, calendarSection, pairSection, registerSection, readingSection, engagementSection}
 use Rattle.book.specs.HeaderLaws.{headed, adjoins}
 use Rattle.book.specs.Tables.{categoryAt, xAt, yAt, badDay, calendarGood, pairGood, pairsGood}
 use Rattle.book.specs.Register.{pointAt, registerRow, deliveryIn, accessIn, supplierIn, fspIn, maskIn, upwardIn, downwardIn, numbersGood, bytesGood, notAbove, differs, badPoint}
 use Rattle.book.specs.Metering.{readingGood, badReading, pointOfReading, firstBadReading}
-use Rattle.book.specs.declared.Calendar.{Calendar}
+use Rattle.quarters.specs.declared.Calendar.{Calendar}
 use Rattle.book.specs.Engagements.{engagementOf, engagementAt, engagementRow, pointIn, dayIn, firstIn, countIn, directionIn, noticeIn, requestedIn, placeGood, termsGood, outOfOrder, badEngagement}
 use Rattle.refusals.specs.Refusals.{unless, unlessFound}
 use Rattle.refusals.specs.RefusalsLaws.{not-refused, not-found}

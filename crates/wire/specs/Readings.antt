@@ -28,12 +28,16 @@ readingOf (negsuc w) = missingIf (eqb (suc w) 2147483648) (Watts (negsuc w))
 abbrev pub readingAt : List ℕ → ℕ → Reading
 readingAt xs i = readingOf (wattsAt xs i)
 
--- a reading without a sign: its watts plus 2^31, and 0 where it is missing
+-- what a raised reading has more than the reading, in watts: the least reading that isn't missing is then 1
+abbrev pub raise : ℕ
+raise = 2147483648
+
+-- a reading without a sign: its watts and the raise, and 0 where it is missing
 unfoldable pub raised : Reading → ℕ
-raised (Watts z) = up (z +ℤ pos 2147483648)
+raised (Watts z) = up (z +ℤ pos raise)
 raised Missing = 0
 
 -- r is reading i, raised; and what stands there is a number of 32 bits
 pub record Raised (xs : List ℕ) (i r : ℕ) : Type 0 where
   pub is : r ≡ raised (readingAt xs i)
-  pub range : Within (wattsAt xs i) 2147483648
+  pub range : Within (wattsAt xs i) raise

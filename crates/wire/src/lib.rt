@@ -39,10 +39,13 @@ pub enum Reading {
     Missing,
 }
 
-// Reading `i` of the readings that `s` holds, without a sign: its watts plus 2^31, and 0 where it is missing.
+// What a raised reading has more than the reading, in watts.
+pub const RAISE: u32 = 2147483648;
+
+// Reading `i` of the readings that `s` holds, without a sign: its watts and the raise, and 0 where it is missing.
 pub fn raised_at(s: &[u8], i: usize) -> u32
     requires { ⌜ 4 * i + 4 ≤ length (now s) ⌝ }
     ensures { λ r. ⌜ Raised (now (s .entry)) i r ⌝ }
 {
-    std::num::wrapping_add_u32(u32_at(s, 4 * i), 2147483648)
+    std::num::wrapping_add_u32(u32_at(s, 4 * i), RAISE)
 }

@@ -1,14 +1,15 @@
 -- The tests are those of eligibility; what the tallies read are the readings of the day and of its window.
 use mathlib.Core.Path.{sym, ap, ap₂, subst, _∙_}
 use mathlib.Core.Bool.{Bool, not, _&&_}
-use Prim.Native.Nat.{ℕ, _+_, _*_}
+use Prim.Native.Nat.{ℕ}
 use lib.Dec.{eqb}
-use lib.ListN.{getD}
+use lib.ListN.{length, getD}
 use borrow.Author.Tests.{not-true, not-false}
 use Rattle.volumes.specs.Baseline.{windowed}
-use Rattle.baseline.specs.Tally.{inRow, Tallied}
+use Rattle.baseline.specs.Tally.{Tallied}
+use Rattle.baseline.specs.Runs.{standing}
 use Rattle.baseline.specs.Shown.{windowIn}
-use Rattle.baseline.specs.ShownLaws.{stands}
+use Rattle.baseline.specs.ShownLaws.{DayStands, stands, StandsOn, stands-on}
 use Rattle.baseline.specs.RefersLaws.{refers-not, refers}
 use native.Mathlib.Omega.{arith}
 use borrow.Author.Needs.{needs}
@@ -28,9 +29,9 @@ cast-excludes : tie.Need-cast-excludes
 cast-excludes c = search needs
 
 excludes-requires : tie.Need-excludes-requires
-excludes-requires c κs = let s = c .before .before .before .before .before in
-    let m = stands (s .args .c) (s .args .calendar .now) (s .args .readings .now) (s .args .e) (s .args .day) (s .pre .0) (omega (arith, s .pre .0 .day, s .pre .2)) in
-    omega (arith, m .early)
+excludes-requires c κs =
+    let s = c .before .before .before .before .before in
+    stands-on (s .args .c) (s .args .calendar .now) (s .args .readings .now) (s .args .e) (s .args .day) (s .pre .0) (s .pre .2) .early
 
 returns : tie.Need-returns
 returns c = (
@@ -40,50 +41,38 @@ returns c = (
       refers-not shows (s .day) (ap (λ (x : Bool). eqb (getD (s .calendar .now) (s .day) 0) (getD (s .calendar .now) (s .e .day) 0) && not x) (sym (c .before .excludes .ensures)) ∙ not-true _ (c .if1 .taken)),
 )
 
-day-start-requires : tie.Need-day-start-requires
-day-start-requires c κs = let s = c .before .before .before .before .before .before .before in
-    let m = stands (s .args .c) (s .args .calendar .now) (s .args .readings .now) (s .args .e) (s .args .day) (s .pre .0) (omega (arith, s .pre .0 .day, s .pre .2)) in
-    omega (arith, m .early)
+-- where the day's readings stand
+lies : (s : tie.Start) → DayStands (s .args .c) (s .args .e) (length (s .args .readings .now)) × StandsOn (s .args .c) (s .args .e) (s .args .day)
+lies s = (stands (s .args .c) (s .args .calendar .now) (s .args .readings .now) (s .args .e) (s .pre .0), stands-on (s .args .c) (s .args .calendar .now) (s .args .readings .now) (s .args .e) (s .args .day) (s .pre .0) (s .pre .2))
 
-cast-q : tie.Need-cast-q
-cast-q c = search needs
+tally-standing-requires : tie.Need-tally-standing-requires
+tally-standing-requires c κs =
+    let s = c .before .before .before .before .before .before .before in
+    let m = lies s in
+    (m .1 .early, m .0 .many, omega (arith, m .0 .origin, s .pre .1), omega (arith, m .1 .run, m .0 .few), omega (arith, m .1 .run, m .0 .roomy, s .pre .1))
 
-add-q : tie.Need-add-q
-add-q c = let s = c .before .before .before .before .before .before .before .before .before in
-    let m = stands (s .args .c) (s .args .calendar .now) (s .args .readings .now) (s .args .e) (s .args .day) (s .pre .0) (omega (arith, s .pre .0 .day, s .pre .2)) in
-    omega (arith, m .inside, m .few, c .before .day-start .ensures)
-
-add-tally-row : tie.Need-add-tally-row
-add-tally-row c = let s = c .before .before .before .before .before .before .before .before .before in
-    let m = stands (s .args .c) (s .args .calendar .now) (s .args .readings .now) (s .args .e) (s .args .day) (s .pre .0) (omega (arith, s .pre .0 .day, s .pre .2)) in
-    omega (arith, m .inside, m .few, m .base, c .before .day-start .ensures, s .pre .1)
-
-cast-tally-row : tie.Need-cast-tally-row
-cast-tally-row c = search needs
-
-tally-row-requires : tie.Need-tally-row-requires
-tally-row-requires c κs = let s = c .before .before .before .before .before .before .before .before .before .before in
-    let m = stands (s .args .c) (s .args .calendar .now) (s .args .readings .now) (s .args .e) (s .args .day) (s .pre .0) (omega (arith, s .pre .0 .day, s .pre .2)) in
-    (omega (arith, m .roomy, c .before .before .day-start .ensures, s .pre .1), m .many)
+reference-at-requires : tie.Need-reference-at-requires
+reference-at-requires c κs = (lies (c .before .before .before .before .before .before .before .before) .1 .early, omega arith)
 
 window-good-requires : tie.Need-window-good-requires
-window-good-requires c κs = let s = c .before .before .before .before .before .before .before .before .before .before .before in
-    let m = stands (s .args .c) (s .args .calendar .now) (s .args .readings .now) (s .args .e) (s .args .day) (s .pre .0) (omega (arith, s .pre .0 .day, s .pre .2)) in
-    (omega (arith, m .base, s .pre .1), omega (arith, m .inside, m .few, c .before .before .before .day-start .ensures), omega (arith, m .roomy, c .before .before .before .day-start .ensures, s .pre .1))
+window-good-requires c κs =
+    let s = c .before .before .before .before .before .before .before .before .before in
+    let m = lies s in
+    (omega (arith, m .0 .origin, s .pre .1), omega (arith, m .1 .run, m .0 .few, c .reference-at .ensures), omega (arith, m .1 .run, m .0 .roomy, s .pre .1, c .reference-at .ensures))
 
 returns-2 : tie.Need-returns-2
 returns-2 c = (
-  c .before .before .tally-row .ensures .small,
+  c .before .before .before .tally-standing .ensures .small,
   λ b shows.
-      let s = c .before .before .before .before .before .before .before .before .before .before .before .before .before .args in
-      let base = c .before .before .before .before .before .before .before .before .before .before .before .before .before .pre .1 in
-      let q = ap (λ (n : ℕ). n + s .e .first) (c .before .before .before .before .before .day-start .ensures) in
+      let start = c .before .before .before .before .before .before .before .before .before .before .before in
+      let s = start .args in
+      let t = c .before .before .before .tally-standing in
       refers shows (s .day)
-      (ap (λ (x : Bool). eqb (getD (s .calendar .now) (s .day) 0) (getD (s .calendar .now) (s .e .day) 0) && not x) (sym (c .before .before .before .before .before .before .before .excludes .ensures)) ∙ not-false _ (c .before .before .before .before .before .before .if1 .left))
-      (c .before .before .tally-row .result)
+      (ap (λ (x : Bool). eqb (getD (s .calendar .now) (s .day) 0) (getD (s .calendar .now) (s .e .day) 0) && not x) (sym (c .before .before .before .before .before .excludes .ensures)) ∙ not-false _ (c .before .before .before .before .if1 .left))
+      (t .result)
       (c .before .window-good .result)
-      (subst (λ (a : ℕ). Tallied (inRow (s .readings .now) a (s .e .count)) (s .e .count) (c .before .before .tally-row .result)) (ap₂ _+_ base q) (c .before .before .tally-row .ensures))
-      (c .before .window-good .ensures ∙ ap₂ (λ (a k : ℕ). windowed (s .point .method) (windowIn (s .readings .now) a k)) base q),
+      (subst (λ (o : ℕ). Tallied (standing (s .readings .now) (s .c) (s .e) o (s .day)) (s .e .count) (t .result)) (start .pre .1) (t .ensures))
+      (c .before .window-good .ensures ∙ ap₂ (λ (o k : ℕ). windowed (s .point .method) (windowIn (s .readings .now) o k)) (start .pre .1) (c .before .before .reference-at .ensures)),
 )
 
 pub reference-day-spec : {M : Type 1} → statement M
@@ -96,11 +85,7 @@ reference-day-spec =
     cast-excludes
     excludes-requires
     returns
-    day-start-requires
-    cast-q
-    add-q
-    add-tally-row
-    cast-tally-row
-    tally-row-requires
+    tally-standing-requires
+    reference-at-requires
     window-good-requires
     returns-2)

@@ -29,7 +29,7 @@ window-requires c κs = search needs
 
 returns : tie.Need-returns
 unfolding neededIn complete
-returns c = rw (c .before .enum-told .given .1) (c .known-before .ensures ∙ sym (and-true (known (beforeIn (c .before .before .before .before .args .readings .now) (c .before .before .before .before .args .base) (c .before .before .before .before .args .q) (c .before .before .before .before .args .notice + 1)))))
+returns c = rw (c .before .enum-told .given .1) (c .known-before .ensures ∙ sym (and-true (known (beforeIn (c .before .before .before .before .args .readings .now) (c .before .before .before .before .args .origin) (c .before .before .before .before .args .q) (c .before .before .before .before .args .notice + 1)))))
 
 returns-2 : tie.Need-returns-2
 unfolding neededIn complete

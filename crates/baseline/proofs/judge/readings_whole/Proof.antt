@@ -2,8 +2,9 @@
 use mathlib.Core.Path.{sym, ap, ap₂, _∙_}
 use mathlib.Core.Bool.{_&&_}
 use Prim.Native.Nat.{ℕ, _+_}
+use Rattle.volumes.specs.QuartersLaws.{start-is}
 use Rattle.volumes.specs.Baseline.{complete}
-use Rattle.baseline.specs.Tally.{inRow}
+use Rattle.baseline.specs.Tally.{inRun}
 use Rattle.baseline.specs.ShownLaws.{stands}
 use Rattle.baseline.specs.Needs.{neededIn}
 use Rattle.baseline.specs.NeedsLaws.{needed-is}
@@ -12,54 +13,54 @@ use borrow.Author.Needs.{needs}
 use Rattle.baseline.proofs.judge.readings_whole.Statement.{statement}
 use Rattle.baseline.proofs.judge.readings_whole.Tie as tie
 
-base-of-requires : tie.Need-base-of-requires
-base-of-requires c κs = (c .before .before .pre .ranged, c .before .before .pre .few)
+origin-of-requires : tie.Need-origin-of-requires
+origin-of-requires c κs = (c .before .before .pre .ranged, c .before .before .pre .few)
 
-start-of-requires : tie.Need-start-of-requires
-start-of-requires c κs = let s = c .before .before .before in
-    let m = stands (s .args .c) (s .args .calendar .now) (s .args .readings .now) (s .args .e) (s .args .e .day) (s .pre) (s .pre .day) in
+in-calendar-requires : tie.Need-in-calendar-requires
+in-calendar-requires c κs = let s = c .before .before .before in
+    let m = stands (s .args .c) (s .args .calendar .now) (s .args .readings .now) (s .args .e) (s .pre) in
     m .early
 
-add-tally-row : tie.Need-add-tally-row
-add-tally-row c = let s = c .before .before .before .before in
-    let m = stands (s .args .c) (s .args .calendar .now) (s .args .readings .now) (s .args .e) (s .args .e .day) (s .pre) (s .pre .day) in
-    omega (arith, m .base, m .inside, m .few, c .before .base-of .ensures, c .start-of .ensures)
+add-tally-run : tie.Need-add-tally-run
+add-tally-run c = let s = c .before .before .before .before in
+    let m = stands (s .args .c) (s .args .calendar .now) (s .args .readings .now) (s .args .e) (s .pre) in
+    omega (arith, m .origin, m .inside, m .few, c .before .origin-of .ensures, c .in-calendar .ensures, start-is (s .args .c) (s .args .e))
 
-cast-tally-row : tie.Need-cast-tally-row
-cast-tally-row c = search needs
+cast-tally-run : tie.Need-cast-tally-run
+cast-tally-run c = search needs
 
-tally-row-requires : tie.Need-tally-row-requires
-tally-row-requires c κs = let s = c .before .before .before .before .before in
-    let m = stands (s .args .c) (s .args .calendar .now) (s .args .readings .now) (s .args .e) (s .args .e .day) (s .pre) (s .pre .day) in
-    (omega (arith, m .roomy, c .before .before .base-of .ensures, c .before .start-of .ensures), m .many)
+tally-run-requires : tie.Need-tally-run-requires
+tally-run-requires c κs = let s = c .before .before .before .before .before in
+    let m = stands (s .args .c) (s .args .calendar .now) (s .args .readings .now) (s .args .e) (s .pre) in
+    (omega (arith, m .roomy, m .inside, c .before .before .origin-of .ensures, c .before .in-calendar .ensures, start-is (s .args .c) (s .args .e)), m .many)
 
 cast-method-whole : tie.Need-cast-method-whole
 cast-method-whole c = search needs
 
 method-whole-requires : tie.Need-method-whole-requires
 method-whole-requires c κs = let s = c .before .before .before .before .before .before .before in
-    let m = stands (s .args .c) (s .args .calendar .now) (s .args .readings .now) (s .args .e) (s .args .e .day) (s .pre) (s .pre .day) in
-    (omega (arith, m .base, c .before .before .before .before .base-of .ensures), omega (arith, m .inside, m .few, c .before .before .before .start-of .ensures), omega (arith, s .pre .soon), omega (arith, m .roomy, c .before .before .before .before .base-of .ensures, c .before .before .before .start-of .ensures))
+    let m = stands (s .args .c) (s .args .calendar .now) (s .args .readings .now) (s .args .e) (s .pre) in
+    (omega (arith, m .origin, c .before .before .before .before .origin-of .ensures), omega (arith, m .inside, m .few, c .before .before .before .in-calendar .ensures, start-is (s .args .c) (s .args .e)), omega (arith, s .pre .soon), omega (arith, m .roomy, m .inside, c .before .before .before .before .origin-of .ensures, c .before .before .before .in-calendar .ensures, start-is (s .args .c) (s .args .e)))
 
 returns : tie.Need-returns
 returns c = λ b shows.
     let s = c .before .before .before .before .before .before .before .before .args in
-    let base = c .before .before .before .before .before .base-of .ensures in
-    let q = c .before .before .before .before .start-of .ensures in
+    let origin = c .before .before .before .before .before .origin-of .ensures in
+    let q = c .before .before .before .before .in-calendar .ensures ∙ sym (start-is (s .c) (s .e)) in
     ap₂ _&&_
-    (c .before .before .tally-row .ensures .whole ∙ ap (λ (a : ℕ). complete (inRow (s .readings .now) a (s .e .count))) (ap₂ _+_ base q))
-    (c .method-whole .ensures ∙ ap₂ (λ (a k : ℕ). complete (neededIn (s .point .method) (s .readings .now) a k (s .e .notice))) base q)
+    (c .before .before .tally-run .ensures .whole ∙ ap (λ (a : ℕ). complete (inRun (s .readings .now) a (s .e .count))) (ap₂ _+_ origin q))
+    (c .method-whole .ensures ∙ ap₂ (λ (a k : ℕ). complete (neededIn (s .point .method) (s .readings .now) a k (s .e .notice))) origin q)
     ∙ sym (needed-is shows)
 
 pub readings-whole-spec : {M : Type 1} → statement M
 readings-whole-spec =
     tie.close
     (tie.spec
-    base-of-requires
-    start-of-requires
-    add-tally-row
-    cast-tally-row
-    tally-row-requires
+    origin-of-requires
+    in-calendar-requires
+    add-tally-run
+    cast-tally-run
+    tally-run-requires
     cast-method-whole
     method-whole-requires
     returns)

@@ -1,14 +1,15 @@
+-- A's window and the days' windows have one bias, which falls out of the difference.
 use mathlib.Core.Path.{_≡_, subst, ap₂, _∙_}
 use Prim.Native.Nat.{ℕ, _+_, _-_, _*_, _≤_}
 use lib.IntN.{pos, _*ℤ_}
+use Rattle.wire.specs.Readings.{raise}
 use Rattle.integers.specs.Sums.{sumZ}
 use Rattle.integers.specs.Z.{Over}
 use Rattle.volumes.specs.Baseline.{watts}
 use Rattle.grains.specs.Grains.{grains, share, Shares}
 use Rattle.baseline.specs.Shown.{windowIn}
-use Rattle.baseline.specs.Rows.{daysIn, dayRows}
+use Rattle.baseline.specs.Runs.{daysIn, dayRuns}
 use Rattle.baseline.specs.LevelLaws.{difference}
--- A's window and the days' windows have one bias, which falls out of the difference.
 use native.Mathlib.Nat.{mul-comm}
 use Rattle.grains.specs.GrainsLaws.{shares-12x, mean-over, mean-small}
 use native.Mathlib.Omega.{arith}
@@ -55,15 +56,15 @@ returns c = let s = c .before .before .before .before .before .before .before in
     let x = s .args .x in
     let own = c .before .before .before .before .window in
     let days = c .before .before .before .tally-days in
-    let total = sumZ watts (dayRows (s .args .readings .now) (s .args .c) (s .args .base) (s .args .first) 24 12 (daysIn (s .args .keys .now) (s .args .x))) in
-    let mine = sumZ watts (windowIn (s .args .readings .now) (s .args .base) (s .args .q)) in
+    let total = sumZ watts (dayRuns (s .args .readings .now) (s .args .c) (s .args .e) (s .args .origin) 0 24 12 (daysIn (s .args .keys .now) (s .args .x))) in
+    let mine = sumZ watts (windowIn (s .args .readings .now) (s .args .origin) (s .args .q)) in
     let less = less-small (c .before) in
-    let answer : c .before .before .mean .result .count + c .lift .result - c .before .mean2 .result .count ≡ own .result .sum * share 12 + grains 4294967296 - days .result .sum * share (12 * x) = ap₂ _-_ (ap₂ _+_ (c .before .before .mean .ensures) (c .lift .ensures)) (c .before .mean2 .ensures) in
+    let answer : c .before .before .mean .result .count + c .lift .result - c .before .mean2 .result .count ≡ own .result .sum * share 12 + grains (2 * raise) - days .result .sum * share (12 * x) = ap₂ _-_ (ap₂ _+_ (c .before .before .mean .ensures) (c .lift .ensures)) (c .before .mean2 .ensures) in
     rw answer
     (record {
-      level = λ h k. difference (grains 2147483648) (grains 4294967296) (mine *ℤ pos (share 12)) (total *ℤ pos (share (12 * x))) (own .result .sum * share 12) (days .result .sum * share (12 * x))
-          (mean-over 12 2147483648 mine (own .result .sum) twelve (own .ensures .sum (own .ensures .whole ∙ h)))
-          (mean-over (12 * x) 2147483648 total (days .result .sum) (shares-12x x (s .pre .1) (s .pre .0 .few)) (subst (λ (n : ℕ). Over (2147483648 * n) total (days .result .sum)) (mul-comm x 12) (days .ensures .sum (days .ensures .whole ∙ k))))
+      level = λ h k. difference (grains raise) (grains (2 * raise)) (mine *ℤ pos (share 12)) (total *ℤ pos (share (12 * x))) (own .result .sum * share 12) (days .result .sum * share (12 * x))
+          (mean-over 12 raise mine (own .result .sum) twelve (own .ensures .sum (own .ensures .whole ∙ h)))
+          (mean-over (12 * x) raise total (days .result .sum) (shares-12x x (s .pre .1) (s .pre .0 .few)) (subst (λ (n : ℕ). Over (raise * n) total (days .result .sum)) (mul-comm x 12) (days .ensures .sum (days .ensures .whole ∙ k))))
           (omega arith);
       small = omega (arith, mean-small 12 (own .result .sum) 4294967295 twelve (own .ensures .small));
     })

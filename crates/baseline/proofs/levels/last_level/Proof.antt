@@ -1,7 +1,8 @@
 -- The raised reading in grains, and 2^32 watts more.
 use mathlib.Core.Path.{_≡_, ap₂}
-use Prim.Native.Nat.{_+_}
+use Prim.Native.Nat.{_+_, _*_}
 use borrow.Author.Tests.{le-leb}
+use Rattle.wire.specs.Readings.{raise}
 use Rattle.grains.specs.Grains.{grains}
 use Rattle.baseline.specs.TallyLaws.{there}
 use Rattle.baseline.specs.LevelLaws.{lifted}
@@ -32,7 +33,7 @@ returns : tie.Need-returns
 returns c = let s = c .before .before .before .before .before .args in
     let r = c .before .before .before .raised-at in
     let here = there _ (r .result) (r .ensures .range) (r .ensures .is) in
-    let sum : c .before .before .from-watts .result .count + c .before .lift .result ≡ grains (r .result) + grains 4294967296 = ap₂ _+_ (c .before .before .from-watts .ensures) (c .before .lift .ensures) in
+    let sum : c .before .before .from-watts .result .count + c .before .lift .result ≡ grains (r .result) + grains (2 * raise) = ap₂ _+_ (c .before .before .from-watts .ensures) (c .before .lift .ensures) in
     rw (le-leb (s .n) (s .q) (omega arith), sum) (record { level = λ h. lifted _ (r .result) (here .sum h); small = omega arith })
 
 pub last-level-spec : {M : Type 1} → statement M

@@ -1,7 +1,8 @@
+-- A mean of X raised readings is raised by one reading.
+use Rattle.wire.specs.Readings.{raise}
 use Rattle.integers.specs.Sums.{sumZ}
 use Rattle.volumes.specs.Baseline.{watts}
-use Rattle.baseline.specs.Rows.{daysIn, dayRows}
--- A mean of X raised readings is raised by one reading.
+use Rattle.baseline.specs.Runs.{daysIn, dayRuns}
 use mathlib.Core.Path.{subst, _∙_}
 use Prim.Native.Nat.{ℕ, _*_}
 use native.Mathlib.Nat.{mul-one}
@@ -24,10 +25,10 @@ returns c = let s = c .before .before .before .before in
     let x = s .args .x in
     let t = c .before .tally-days .ensures in
     let sum = c .before .tally-days .result .sum in
-    let total = sumZ watts (dayRows (s .args .readings .now) (s .args .c) (s .args .base) (s .args .q) 0 1 (daysIn (s .args .keys .now) (s .args .x))) in
+    let total = sumZ watts (dayRuns (s .args .readings .now) (s .args .c) (s .args .e) (s .args .origin) (s .args .k) 0 1 (daysIn (s .args .keys .now) (s .args .x))) in
     let shares = shares-x x (s .pre .1) (s .pre .0 .few) in
     record {
-      level = λ h. rw (c .mean .ensures) (mean-over x 2147483648 total sum shares (subst (λ (n : ℕ). Over (2147483648 * n) total sum) (mul-one x) (t .sum (t .whole ∙ h))));
+      level = λ h. rw (c .mean .ensures) (mean-over x raise total sum shares (subst (λ (n : ℕ). Over (raise * n) total sum) (mul-one x) (t .sum (t .whole ∙ h))));
       small = rw (c .mean .ensures) (mean-small x sum 4294967295 shares (omega (arith, t .small, mul-one x)));
     }
 

@@ -12,13 +12,13 @@ use Rattle.baseline.proofs.ranking.rank_days.Statement.{statement}
 use Rattle.baseline.proofs.ranking.rank_days.Tie as tie
 
 abbrev Inv-loop : tie.InvT-loop
-Inv-loop c calendar readings point e y keys₀ base day₀ found₀ keys day found = (day ≤ e .day) × (found ≤ y) × (length keys ≡ length keys₀) × ((b : Book) → Shows c calendar readings point e b → Scanned b e day keys₀ keys found)
+Inv-loop c calendar readings point e y keys₀ origin day₀ found₀ keys day found = (day ≤ e .day) × (found ≤ y) × (length keys ≡ length keys₀) × ((b : Book) → Shows c calendar readings point e b → Scanned b e day keys₀ keys found)
 
 abbrev μ-loop : tie.MeasureT-loop
-μ-loop c calendar readings point e y keys₀ base day₀ found₀ keys day found = day
+μ-loop c calendar readings point e y keys₀ origin day₀ found₀ keys day found = day
 
-base-of-requires : tie.Need-base-of-requires Inv-loop μ-loop
-base-of-requires c κs = let s = c .before .before .before in (s .pre .0 .ranged, s .pre .0 .few)
+origin-of-requires : tie.Need-origin-of-requires Inv-loop μ-loop
+origin-of-requires c κs = let s = c .before .before .before in (s .pre .0 .ranged, s .pre .0 .few)
 
 cast-day : tie.Need-cast-day Inv-loop μ-loop
 cast-day c = search needs
@@ -40,12 +40,12 @@ sub-day c = search needs
 
 reference-day-requires : tie.Need-reference-day-requires Inv-loop μ-loop
 reference-day-requires c κs = let l = c .before .before in
-    (l .before .before .before .before .before .before .pre .0, l .before .before .base-of .ensures, omega arith)
+    (l .before .before .before .before .before .before .pre .0, l .before .before .origin-of .ensures, omega arith)
 
 consider-requires : tie.Need-consider-requires Inv-loop μ-loop
 consider-requires c κs = let l = c .before .before .before .before in
     let s = l .before .before .before .before .before .before in
-    let m = stands (s .args .c) (s .args .calendar .now) (s .args .readings .now) (s .args .e) (s .args .e .day) (s .pre .0) (s .pre .0 .day) in
+    let m = stands (s .args .c) (s .args .calendar .now) (s .args .readings .now) (s .args .e) (s .pre .0) in
     (omega (arith, l .loop .inv .2, s .pre .1), omega (arith, c .before .reference-day .ensures .0, m .many), omega (arith, m .early))
 
 loop-less : tie.Need-loop-less Inv-loop μ-loop
@@ -54,7 +54,7 @@ loop-less c = search needs
 loop-again : tie.Need-loop-again Inv-loop μ-loop
 loop-again c = let l = c .before .before .before .before .before .before .before in
     let s = l .before .before .before .before .before .before in
-    let m = stands (s .args .c) (s .args .calendar .now) (s .args .readings .now) (s .args .e) (s .args .e .day) (s .pre .0) (s .pre .0 .day) in
+    let m = stands (s .args .c) (s .args .calendar .now) (s .args .readings .now) (s .args .e) (s .pre .0) in
     let r = c .before .before .consider in (
       omega arith,
       omega (arith, r .ensures .most),
@@ -77,7 +77,7 @@ rank-days-spec =
     (tie.spec
     Inv-loop
     μ-loop
-    base-of-requires
+    origin-of-requires
     cast-day
     loop-holds
     same-length

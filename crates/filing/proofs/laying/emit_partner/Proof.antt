@@ -4,7 +4,7 @@ use mathlib.Core.List.{flatMap}
 use Prim.Native.Nat.{_/_}
 use native.Mathlib.Nat.{zero-add}
 use lib.ListN.{length}
-use Rattle.book.specs.declared.Calendar.{Calendar}
+use Rattle.quarters.specs.declared.Calendar.{Calendar}
 use Rattle.book.specs.Book.{bookOf}
 use Rattle.volumes.specs.SettlementLaws.{passing}
 use Rattle.message.specs.Bytes.{partnerBytes}

@@ -1,7 +1,7 @@
 -- The places are sums of small numbers.
 use mathlib.Core.Path.{ap}
 use Prim.Native.Nat.{ℕ, _*_, _≤_}
-use Rattle.book.specs.CalendarsLaws.{days-few, quarters-few, readings-few}
+use Rattle.quarters.specs.QuartersLaws.{days-few, quarters-few, readings-few}
 use native.Mathlib.Omega.{arith}
 use borrow.Author.Needs.{needs}
 use Rattle.judging.proofs.header.layout_at.Statement.{statement}
@@ -14,7 +14,7 @@ quarters-of-requires : tie.Need-quarters-of-requires
 quarters-of-requires c κs = search needs
 
 -- the numbers are small
-small : (c : tie.After-quarters-of) → (c .before .days-of .result ≤ 64) × (c .quarters-of .result ≤ 6144) × (4 * c .quarters-of .result * c .before .before .args .points ≤ 6291456)
+small : (c : tie.After-quarters-of) → (c .before .days-of .result ≤ 64) × (c .quarters-of .result ≤ longestCalendar) × (4 * c .quarters-of .result * c .before .before .args .points ≤ mostReadingBytes)
 small c =
     let s = c .before .before in (
       omega (arith, days-few (s .args .c) (s .pre .0), c .before .days-of .ensures),

@@ -6,7 +6,7 @@ use Rattle.book.specs.Header.{isPair}
 use Rattle.judging.specs.declared.header.Places.{Places}
 -- The pairs are compared with the places and sizes that the header gives.
 use Prim.Native.Nat.{ℕ, _*_}
-use Rattle.book.specs.CalendarsLaws.{quarters-few, readings-few}
+use Rattle.quarters.specs.QuartersLaws.{quarters-few, readings-few}
 use native.Mathlib.Omega.{arith}
 use borrow.Author.Needs.{needs}
 use Rattle.judging.proofs.header.layout_good.Statement.{statement}

@@ -3,7 +3,7 @@ use Rattle.book.specs.Judged.{clockChangeIn, sectionsRefusal, refusalOf}
 -- Each test is the refusal that comes next; the sections are read where the layout says.
 use mathlib.Core.Path.{_≡_, sym, ap, subst, _∙_}
 use borrow.Author.Tests.{not-true, not-false}
-use Rattle.book.specs.Calendars.{Ranged}
+use Rattle.quarters.specs.Quarters.{Ranged}
 use Rattle.book.specs.HeaderLaws.{Headed, headed}
 use native.Mathlib.Omega.{arith}
 use borrow.Author.Needs.{needs}

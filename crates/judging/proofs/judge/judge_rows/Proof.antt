@@ -3,8 +3,8 @@ use mathlib.Core.Path.{_≡_, sym, ap, _∙_}
 use Prim.Native.Nat.{ℕ, _*_, _≤_}
 use native.Mathlib.Nat.{mul-assoc}
 use Rattle.integers.specs.First.{first}
-use Rattle.book.specs.Calendars.{daysOf, quartersOf}
-use Rattle.book.specs.CalendarsLaws.{days-few, quarters-some, readings-few}
+use Rattle.quarters.specs.Quarters.{daysOf, quartersOf}
+use Rattle.quarters.specs.QuartersLaws.{days-few, quarters-some, readings-few}
 use Rattle.book.specs.Register.{badPoint}
 use Rattle.book.specs.Metering.{pointOfReading, firstBadReading}
 use Rattle.book.specs.Judged.{rowsRefusal}

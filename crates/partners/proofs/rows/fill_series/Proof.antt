@@ -2,7 +2,6 @@
 use mathlib.Core.Path.{_≡_, refl, ap, _∙_}
 use Prim.Native.Nat.{_≤_}
 use Rattle.book.specs.Book.{bookOf}
-use Rattle.volumes.specs.Quarters.{monthQuarters}
 use Rattle.reports.specs.FileRows.{observationsOf}
 use Rattle.partners.specs.Observations.{observationsIn}
 use Rattle.partners.specs.ObservationsLaws.{observations-are, Dated, dated}
@@ -11,6 +10,7 @@ use native.Mathlib.Omega.{arith}
 use borrow.Author.Needs.{needs}
 use Rattle.partners.proofs.rows.fill_series.Statement.{statement}
 use Rattle.partners.proofs.rows.fill_series.Tie as tie
+use Rattle.quarters.specs.Quarters.{monthQuarters, longestMonth}
 
 -- the book's calendar, and the positions of its month, which the array has
 calendar : (c : tie.Start) → Dated (c .args .book .now)
@@ -19,7 +19,7 @@ calendar c = dated (c .args .book .now) (c .args .volumes .now) (c .pre .0)
 month : (c : tie.After-month-quarters) → c .month-quarters .result ≡ monthQuarters (bookOf (c .before .before .before .before .before .before .before .before .args .book .now) .calendar)
 month c = c .month-quarters .ensures ∙ ap monthQuarters (c .before .calendar-of .ensures ∙ calendar (c .before .before .before .before .before .before .before .before) .own)
 
-few : (c : tie.After-month-quarters) → c .month-quarters .result ≤ 2976
+few : (c : tie.After-month-quarters) → c .month-quarters .result ≤ longestMonth
 few c = omega (arith, month c, calendar (c .before .before .before .before .before .before .before .before) .few)
 
 -- what is written are the series' observations

@@ -9,6 +9,7 @@ use native.Mathlib.Omega.{arith}
 use borrow.Author.Needs.{needs}
 use Rattle.integers.specs.Ranges.{range}
 use Rattle.integers.specs.Z.{up, dn}
+use Rattle.quarters.specs.Quarters.{longestDay}
 use Rattle.book.specs.declared.Engagement.{Engagement}
 use Rattle.book.specs.Engagements.{engagementAt}
 use Rattle.volumes.specs.Settlement.{rowWidth}
@@ -20,14 +21,14 @@ use Rattle.series.proofs.delivered.fill_engagement.Statement.{statement
 use Rattle.series.proofs.delivered.fill_engagement.Tie as tie
 
 -- the rows of a day have room
-room : (s : tie.Start) → rowWidth * engagementAt (s .args .engagements .now) (s .args .i) .count ≤ length (replicate 384 (pos 0))
-room s = omega (arith, engagement-placed (s .pre .0) (s .args .i) (s .pre .2) .few, length-replicate 384 (pos 0))
+room : (s : tie.Start) → rowWidth * engagementAt (s .args .engagements .now) (s .args .i) .count ≤ length (replicate (rowWidth * longestDay) (pos 0))
+room s = omega (arith, engagement-placed (s .pre .0) (s .args .i) (s .pre .2) .few, length-replicate (rowWidth * longestDay) (pos 0))
 
-slice-aggregate-fill-row : tie.Need-slice-aggregate-fill-row
-slice-aggregate-fill-row c = search needs
+slice-aggregate-settle-engagement-at : tie.Need-slice-aggregate-settle-engagement-at
+slice-aggregate-settle-engagement-at c = search needs
 
-fill-row-requires : tie.Need-fill-row-requires
-fill-row-requires c κs =
+settle-engagement-at-requires : tie.Need-settle-engagement-at-requires
+settle-engagement-at-requires c κs =
     let s = c .before .before .before .before in
     (s .pre .0, s .pre .1, s .pre .2, s .pre .3, omega (arith, engagement-placed (s .pre .0) (s .args .i) (s .pre .2) .few))
 
@@ -52,7 +53,7 @@ store-volumes-requires c κs =
     let a = s .args in
     let e = engagementAt (a .engagements .now) (a .i) in
     let book = bookWith (a .book .now) (a .engagements .now) in
-    (omega (arith, count g, s .pre .4), omega (arith, count g, room s, f .fill-row .kept .1 .1 .1 .1 .0, length-replicate 384 (pos 0)), λ k h. ap dn (volume-is book e (replicate 384 (pos 0)) (f .fill-row .last .1 .1 .1 .1 .0) (f .fill-row .ensures .1) (room s) k (omega (arith, h, count g))))
+    (omega (arith, count g, s .pre .4), omega (arith, count g, room s, f .settle-engagement-at .kept .1 .1 .1 .1 .0, length-replicate (rowWidth * longestDay) (pos 0)), λ k h. ap dn (volume-is book e (replicate (rowWidth * longestDay) (pos 0)) (f .settle-engagement-at .last .1 .1 .1 .1 .0) (f .settle-engagement-at .ensures .1) (room s) k (omega (arith, h, count g))))
 
 add-result : tie.Need-add-result
 add-result c =
@@ -71,19 +72,19 @@ returns c =
     let a = s .args in
     let e = engagementAt (a .engagements .now) (a .i) in
     let book = bookWith (a .book .now) (a .engagements .now) in
-    let rows = f .fill-row .last .1 .1 .1 .1 .0 in (
+    let rows = f .settle-engagement-at .last .1 .1 .1 .1 .0 in (
       ap (λ (n : ℕ). a .at + n) (count g),
       c .before .before .store-volumes .ensures
           ∙ ap (λ (n : ℕ). sets (a .volumes .now) (a .at) (map (λ k. up (volumeIn rows k)) (range 0 n))) (count g)
-          ∙ ap (sets (a .volumes .now) (a .at)) (volumes-are book e (replicate 384 (pos 0)) rows (f .fill-row .ensures .1) (room s)),
+          ∙ ap (sets (a .volumes .now) (a .at)) (volumes-are book e (replicate (rowWidth * longestDay) (pos 0)) rows (f .settle-engagement-at .ensures .1) (room s)),
     )
 
 pub fill-engagement-spec : {M : Type 1} → statement M
 fill-engagement-spec =
     tie.close
     (tie.spec
-    slice-aggregate-fill-row
-    fill-row-requires
+    slice-aggregate-settle-engagement-at
+    settle-engagement-at-requires
     engagement-at-requires
     cast-n
     slice-aggregate-store-volumes

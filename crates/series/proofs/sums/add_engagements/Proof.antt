@@ -6,10 +6,10 @@ use native.Mathlib.Omega.{arith}
 use lib.ListN.{length}
 use borrow.Author.Needs.{needs}
 use Rattle.book.specs.declared.Engagement.{Engagement}
-use Rattle.book.specs.CalendarsLaws.{days-few}
+use Rattle.quarters.specs.Quarters.{monthQuarters}
+use Rattle.quarters.specs.QuartersLaws.{days-few}
 use Rattle.book.specs.Engagements.{engagementAt}
 use Rattle.book.specs.Book.{Book}
-use Rattle.volumes.specs.Quarters.{monthQuarters}
 use Rattle.volumes.specs.Settlement.{rowWidth}
 use Rattle.volumes.specs.Sheets.{startPosition}
 use Rattle.volumes.specs.Series.{isEngagement}
@@ -33,7 +33,7 @@ inside : (c : tie.In-loop Inv-loop μ-loop) → c .before .loop .i < engagementC
 inside c = search needs
 
 -- what was read of it: its rows in the series, and the cell of its first position
-rows-are : (c : tie.After-first-cell Inv-loop μ-loop) → let a = c .before .before .before .before .before .before .before .before .before .args in
+rows-are : (c : tie.After-cell-of Inv-loop μ-loop) → let a = c .before .before .before .before .before .before .before .before .before .args in
     let i = c .before .before .before .before .loop .i in
     (b : Book) → Parts (a .c) (a .register .now) (a .engagements .now) (a .volumes .now) b
     → c .before .series-rows .result ≡ cond (isEngagement b (a .role .kind) (a .role .receiver) (a .s) (engagementAt (a .engagements .now) i)) (engagementAt (a .engagements .now) i .count) 0
@@ -43,11 +43,11 @@ rows-are c b p =
     c .before .series-rows .ensures b (rw read (p .owner (c .before .before .before .before .loop .i) (inside (c .before .before .before))))
     ∙ ap (λ (e : Engagement). cond (isEngagement b (a .role .kind) (a .role .receiver) (a .s) e) (e .count) 0) read
 
-start-is : (c : tie.After-first-cell Inv-loop μ-loop) → let a = c .before .before .before .before .before .before .before .before .before .args in
-    c .first-cell .result + 1 ≡ startPosition (a .c) (engagementAt (a .engagements .now) (c .before .before .before .before .loop .i))
+start-is : (c : tie.After-cell-of Inv-loop μ-loop) → let a = c .before .before .before .before .before .before .before .before .before .args in
+    c .cell-of .result + 1 ≡ startPosition (a .c) (engagementAt (a .engagements .now) (c .before .before .before .before .loop .i))
 start-is c = let a = c .before .before .before .before .before .before .before .before .before .args in
     let e = c .before .before .engagement-at .result in
-    let from-one : c .first-cell .result + 1 ≡ startPosition (a .c) e = omega (arith, c .first-cell .ensures, first-cell (a .c) e) in
+    let from-one : c .cell-of .result + 1 ≡ startPosition (a .c) e = omega (arith, c .cell-of .ensures, first-cell (a .c) e) in
     from-one ∙ ap (startPosition (a .c)) (c .before .before .engagement-at .ensures)
 
 loop-holds : tie.Need-loop-holds Inv-loop μ-loop
@@ -62,8 +62,8 @@ series-rows-requires : tie.Need-series-rows-requires Inv-loop μ-loop
 series-rows-requires c κs = let s = c .before .before .before .before .before .before .before in
     rw (c .engagement-at .ensures) (s .pre .0 .parts .registered (c .before .before .loop .i) (inside (c .before)))
 
-first-cell-requires : tie.Need-first-cell-requires Inv-loop μ-loop
-first-cell-requires c κs = let s = c .before .before .before .before .before .before .before .before in
+cell-of-requires : tie.Need-cell-of-requires Inv-loop μ-loop
+cell-of-requires c κs = let s = c .before .before .before .before .before .before .before .before in
     let p = s .pre .0 .parts in
     let r = rw (p .when) at (p .sound .ranged) in
     let at = placed p (c .before .before .before .loop .i) (inside (c .before .before)) in
@@ -76,7 +76,7 @@ add-volumes-requires c κs = let w = c .before in
     let l = w .before .before .before .before .loop in
     let b = s .pre .0 .book in
     let p = s .pre .0 .parts in
-    turn-adds p (a .role .kind) (a .role .receiver) (a .s) (l .i) (l .at) (w .before .series-rows .result) (w .first-cell .result) (a .grains .now) (l .grains) (inside (w .before .before .before)) (l .inv .1) (rows-are w b p) (start-is w) (s .pre .1) (l .inv .3 b p)
+    turn-adds p (a .role .kind) (a .role .receiver) (a .s) (l .i) (l .at) (w .before .series-rows .result) (w .cell-of .result) (a .grains .now) (l .grains) (inside (w .before .before .before)) (l .inv .1) (rows-are w b p) (start-is w) (s .pre .1) (l .inv .3 b p)
 
 cast-at : tie.Need-cast-at Inv-loop μ-loop
 cast-at c = search needs
@@ -104,8 +104,8 @@ loop-again c = let w = c .before .before .before .before .before in
     let here = inside (w .before .before .before) in (
       omega (arith, here),
       omega (arith, l .inv .1, count-more (a .engagements .now) (l .i) here, ap (λ (e : Engagement). e .count) (w .before .before .engagement-at .ensures)),
-      ap length v ∙ added-length (l .grains) (w .first-cell .result) _ (w .before .series-rows .result) ∙ l .inv .2,
-      λ b p. v ∙ turn-sums p (a .role .kind) (a .role .receiver) (a .s) (l .i) (l .at) (w .before .series-rows .result) (w .first-cell .result) (a .grains .now) (l .grains) here (l .inv .1) (rows-are w b p) (start-is w) (s .pre .1) (l .inv .3 b p),
+      ap length v ∙ added-length (l .grains) (w .cell-of .result) _ (w .before .series-rows .result) ∙ l .inv .2,
+      λ b p. v ∙ turn-sums p (a .role .kind) (a .role .receiver) (a .s) (l .i) (l .at) (w .before .series-rows .result) (w .cell-of .result) (a .grains .now) (l .grains) here (l .inv .1) (rows-are w b p) (start-is w) (s .pre .1) (l .inv .3 b p),
     )
 
 same-length : tie.Need-same-length Inv-loop μ-loop
@@ -126,7 +126,7 @@ add-engagements-spec =
     loop-holds
     engagement-at-requires
     series-rows-requires
-    first-cell-requires
+    cell-of-requires
     add-volumes-requires
     cast-at
     add-at

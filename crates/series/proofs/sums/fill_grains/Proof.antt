@@ -7,7 +7,7 @@ use borrow.Author.Needs.{needs}
 use Rattle.book.specs.Header.{calendarOf, registerSection, engagementSection}
 use Rattle.book.specs.Judged.{refusalOf}
 use Rattle.book.specs.Book.{bookOf}
-use Rattle.volumes.specs.Quarters.{monthQuarters}
+use Rattle.quarters.specs.Quarters.{monthQuarters}
 use Rattle.volumes.specs.SettlementLaws.{passing}
 use Rattle.volumes.specs.Series.{grainsAt}
 use Rattle.settlement.specs.SectionsLaws.{bytes-long}

@@ -8,7 +8,7 @@ use Rattle.integers.specs.Running.{floorAt}
 use Rattle.grains.specs.Grains.{perWatt}
 use Rattle.book.specs.Header.{calendarOf, registerSection, engagementSection}
 use Rattle.book.specs.Book.{bookOf}
-use Rattle.volumes.specs.Quarters.{monthQuarters}
+use Rattle.quarters.specs.Quarters.{monthQuarters}
 use Rattle.volumes.specs.SettlementLaws.{passing}
 use Rattle.volumes.specs.Series.{grainsAt}
 use Rattle.settlement.specs.SectionsLaws.{bytes-long}

@@ -40,15 +40,15 @@ section-requires c κs = (passed c, search needs)
 calendar-of-requires : tie.Need-calendar-of-requires
 calendar-of-requires c κs = bytes-long (c .before .before .before .before .before .before .args .book .now) (passed (c .before))
 
-judge-rows-requires : tie.Need-judge-rows-requires
-judge-rows-requires c κs =
+judge-engagements-requires : tie.Need-judge-engagements-requires
+judge-engagements-requires c κs =
     (rw (c .before .section .ensures) (opened (c .before .before .before .before .before .before .before .args .book .now) (passed (c .before .before))), c .calendar-of .ensures)
 
 returns-2 : tie.Need-returns-2
 returns-2 c =
     let bytes = c .before .before .before .before .before .before .before .before .args .book .now in
     let h = passed (c .before .before .before) in
-    c .judge-rows .ensures
+    c .judge-engagements .ensures
     ∙ ap (λ (l : List ℕ). settlementRefusal (bookWith bytes l)) (c .before .before .section .ensures)
     ∙ ap settlementRefusal (same-book bytes h)
     ∙ book-passed bytes h
@@ -64,5 +64,5 @@ judge-settlement-spec =
     enum-told
     section-requires
     calendar-of-requires
-    judge-rows-requires
+    judge-engagements-requires
     returns-2)

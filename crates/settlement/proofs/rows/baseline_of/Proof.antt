@@ -4,7 +4,7 @@ use lib.IntN.{pos, _-ℤ_}
 use borrow.Author.Needs.{needs}
 use mir.Syntax.{w64}
 use mir.Val.{toZ, ofZ}
-use Rattle.settlement.specs.RaisedLaws.{base-is}
+use Rattle.settlement.specs.RaisedLaws.{level-is}
 use Rattle.settlement.proofs.rows.baseline_of.Statement.{statement}
 use Rattle.settlement.proofs.rows.baseline_of.Tie as tie
 
@@ -17,8 +17,8 @@ difference-requires c κs = search needs
 returns : tie.Need-returns
 returns c =
     let back : toZ w64 (ofZ w64 (c .difference .result)) ≡ c .difference .result = search needs in
-    let base = c .before .before .args .base in
-    back ∙ c .difference .ensures ∙ ap (λ b. pos base -ℤ pos b) (c .before .bias .ensures) ∙ base-is base
+    let level = c .before .before .args .level in
+    back ∙ c .difference .ensures ∙ ap (λ b. pos level -ℤ pos b) (c .before .bias .ensures) ∙ level-is level
 
 pub baseline-of-spec : {M : Type 1} → statement M
 baseline-of-spec = tie.close (tie.spec bias-requires difference-requires returns)

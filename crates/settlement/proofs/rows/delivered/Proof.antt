@@ -29,13 +29,13 @@ returns : tie.Need-returns
 unfolding signed
 returns c =
     let a = c .before .before .before .before .before .args in
-    rw (c .before .enum-told .given .1, limited-is, above-up (a .base) (a .raised)) (omega arith, omega arith)
+    rw (c .before .enum-told .given .1, limited-is, above-up (a .level) (a .raised)) (omega arith, omega arith)
 
 returns-2 : tie.Need-returns-2
 unfolding signed
 returns-2 c =
     let a = c .before .before .before .before .before .args in
-    rw (c .before .enum-told2 .given .1, limited-is, above-down (a .base) (a .raised)) (omega arith, omega arith)
+    rw (c .before .enum-told2 .given .1, limited-is, above-down (a .level) (a .raised)) (omega arith, omega arith)
 
 pub delivered-spec : {M : Type 1} → statement M
 delivered-spec =

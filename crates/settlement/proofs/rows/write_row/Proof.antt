@@ -73,10 +73,10 @@ same-length : tie.Need-same-length
 same-length c = search needs
 
 -- the volume is the one delivered by the point's direction
-volume-is : (c : tie.After-delivered) → c .delivered .result ≡ deliveredBy (c .before .before .args .direction) (c .before .before .args .point) (baselineOf (c .before .before .args .base)) (grainsZ (wattsOf (c .before .before .args .raised)))
+volume-is : (c : tie.After-delivered) → c .delivered .result ≡ deliveredBy (c .before .before .args .direction) (c .before .before .args .point) (baselineOf (c .before .before .args .level)) (grainsZ (wattsOf (c .before .before .args .raised)))
 volume-is c =
     let a = c .before .before .args in
-    let z = baselineOf (a .base) in
+    let z = baselineOf (a .level) in
     let r = grainsZ (wattsOf (a .raised)) in
     c .delivered .ensures .0
     ∙ ap (limited (signed (a .direction) (z -ℤ r))) (c .before .largest .ensures)
@@ -88,11 +88,11 @@ returns c =
     let d = c .before .before .before .before .before in
     let a = d .before .before .args in
     let volume = d .delivered .result in
-    let base = c .before .before .before .baseline-of in
+    let level = c .before .before .before .baseline-of in
     let whole = c .before .before .difference in
     let source = c .before .correction in
     let fsp = c .correction2 in
-    let one : toZ w64 (ofZ w64 (base .result)) ≡ baselineOf (a .base) = (search needs) ∙ base .ensures in
+    let one : toZ w64 (ofZ w64 (level .result)) ≡ baselineOf (a .level) = (search needs) ∙ level .ensures in
     let two : toZ w64 (ofZ w64 (whole .result)) ≡ pos volume = (search needs) ∙ whole .ensures ∙ +ℤ-idr (pos volume) in
     let three : toZ w64 (ofZ w64 (source .result)) ≡ signed (a .direction) (pos volume) = (search needs) ∙ source .ensures ∙ ap (signed (a .direction)) (+ℤ-idr (pos volume)) in
     let four : toZ w64 (ofZ w64 (fsp .result)) ≡ signed (a .direction) (pos (grains (a .requested)) -ℤ pos volume) = (search needs) ∙ fsp .ensures ∙ ap (λ n. signed (a .direction) (pos n -ℤ pos volume)) (c .before .before .before .before .from-watts .ensures) in

@@ -33,11 +33,11 @@ filled-next {out₀} {at} {f} {count} {out} {out′} {k} w h l e =
     record { inside = omega arith; list = e ∙ ap (λ o. sets o (at + rowWidth * k) (f k)) (h .list) ∙ sets-next rowWidth out₀ at f k w }
 
 abbrev Inv-loop : tie.InvT-loop
-Inv-loop out₀ at point bases readings first count direction requested k₀ out k =
-    RowsFilled out₀ at (rowAt direction point requested bases readings first) count out k
+Inv-loop out₀ at point levels readings first count direction requested k₀ out k =
+    RowsFilled out₀ at (rowAt direction point requested levels readings first) count out k
 
 abbrev μ-loop : tie.MeasureT-loop
-μ-loop out₀ at point bases readings first count direction requested k₀ out k = count - k
+μ-loop out₀ at point levels readings first count direction requested k₀ out k = count - k
 
 cast-count : tie.Need-cast-count Inv-loop μ-loop
 cast-count c = search needs

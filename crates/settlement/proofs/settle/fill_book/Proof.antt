@@ -24,8 +24,8 @@ section-requires c κs = (passed (c .before), search needs)
 calendar-of-requires : tie.Need-calendar-of-requires
 calendar-of-requires c κs = bytes-long (c .before .before .args .book .now) (passed (c .before .before))
 
-fill-rows-requires : tie.Need-fill-rows-requires
-fill-rows-requires c κs =
+settle-engagements-requires : tie.Need-settle-engagements-requires
+settle-engagements-requires c κs =
     let s = c .before .before .before .before in
     let bytes = s .args .book .now in
     let e = c .before .before .section .ensures in
@@ -38,7 +38,7 @@ returns : tie.Need-returns
 returns c =
     let s = c .before .before .before .before .before .before in
     let bytes = s .args .book .now in
-    c .before .fill-rows .ensures
+    c .before .settle-engagements .ensures
     ∙ ap (λ (l : List ℕ). sets (s .args .out .now) 0 (rows (bookWith bytes l))) (c .before .before .before .before .section .ensures)
     ∙ ap (λ (b : Book). sets (s .args .out .now) 0 (rows b)) (same-book bytes (passed s))
 
@@ -48,6 +48,6 @@ fill-book-spec =
     (tie.spec
     section-requires
     calendar-of-requires
-    fill-rows-requires
+    settle-engagements-requires
     same-length
     returns)

@@ -6,7 +6,7 @@ use mathlib.Core.List.{List, _++_}
 use Prim.Native.Nat.{_-_, _≤_}
 use lib.IntN.{ℤ, pos}
 use lib.ListN.{length, set, drop, replicate, length-append, length-replicate, length-drop}
-use Rattle.baseline.specs.BasesLaws.{same-next}
+use Rattle.baseline.specs.FillsLaws.{same-next}
 use Rattle.sheets.proofs.cells.clear.Statement.{statement}
 use Rattle.sheets.proofs.cells.clear.Tie as tie
 

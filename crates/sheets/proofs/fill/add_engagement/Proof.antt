@@ -4,10 +4,13 @@ use mathlib.Core.Path.{_≡_, ap, ap₂, _∙_}
 use native.Mathlib.Omega.{arith}
 use lib.IntN.{pos}
 use lib.ListN.{replicate, length-replicate}
+use Prim.Native.Nat.{_*_}
+use Rattle.quarters.specs.Quarters.{longestDay}
 use Rattle.book.specs.declared.Engagement.{Engagement}
 use Rattle.book.specs.Engagements.{engagementAt}
 use Rattle.settlement.specs.Sections.{bookWith}
 use Rattle.settlement.specs.EngagedLaws.{engaged}
+use Rattle.volumes.specs.Settlement.{rowWidth}
 use Rattle.sheets.specs.Adds.{adds}
 use Rattle.sheets.specs.Shares.{getsOf, Both, correctionsFor, firstCell}
 use Rattle.sheets.specs.EngagementLaws.{Placing, engagement-placed, engagement-gets, engagement-both}
@@ -32,14 +35,14 @@ point-at-requires c κs =
     let s = c .before .before .before .before .before in
     rw (c .before .before .section .ensures, c .before .engagement-at .ensures) (engaged (s .pre .0) (s .args .i) (s .pre .2) .registered)
 
-first-cell-requires : tie.Need-first-cell-requires
-first-cell-requires c κs = let p = placed (c .before .before .before .before .before .before) in rw (c .before .before .engagement-at .ensures) (p .day, p .settled)
+cell-of-requires : tie.Need-cell-of-requires
+cell-of-requires c κs = let p = placed (c .before .before .before .before .before .before) in rw (c .before .before .engagement-at .ensures) (p .day, p .settled)
 
-slice-aggregate-fill-row : tie.Need-slice-aggregate-fill-row
-slice-aggregate-fill-row c = search needs
+slice-aggregate-settle-engagement-at : tie.Need-slice-aggregate-settle-engagement-at
+slice-aggregate-settle-engagement-at c = search needs
 
-fill-row-requires : tie.Need-fill-row-requires
-fill-row-requires c κs =
+settle-engagement-at-requires : tie.Need-settle-engagement-at-requires
+settle-engagement-at-requires c κs =
     let s = c .before .before .before .before .before .before .before .before in
     (s .pre .0, s .pre .1, s .pre .2, s .pre .3, omega (arith, placed s .few))
 
@@ -50,28 +53,28 @@ cast-add-rows : tie.Need-cast-add-rows
 cast-add-rows c = search needs
 
 -- what the party gets of the rows, and that they add up
-gets : (c : tie.After-fill-row) → let k = c .before .before .before in
+gets : (c : tie.After-settle-engagement-at) → let k = c .before .before .before in
     let g = k .before .before in
     let s = g .before .before .before .before in
     let a = s .args in
-    getsOf (a .party) (k .point-at .result) (c .fill-row .last .1 .1 .1 .1 .0) (g .engagement-at .result .count) ≡ correctionsFor (bookWith (a .book .now) (a .engagements .now)) (a .party) (engagementAt (a .engagements .now) (a .i))
+    getsOf (a .party) (k .point-at .result) (c .settle-engagement-at .last .1 .1 .1 .1 .0) (g .engagement-at .result .count) ≡ correctionsFor (bookWith (a .book .now) (a .engagements .now)) (a .party) (engagementAt (a .engagements .now) (a .i))
 gets c =
     let k = c .before .before .before in
     let g = k .before .before in
     let s = g .before .before .before .before in
-    engagement-gets (s .pre .0) (s .args .i) (s .pre .2) (replicate 384 (pos 0)) (omega (arith, length-replicate 384 (pos 0))) (g .engagement-at .ensures) (k .point-at .ensures) (g .before .section .ensures) (c .fill-row .ensures .1) (s .args .party)
+    engagement-gets (s .pre .0) (s .args .i) (s .pre .2) (replicate (rowWidth * longestDay) (pos 0)) (omega (arith, length-replicate (rowWidth * longestDay) (pos 0))) (g .engagement-at .ensures) (k .point-at .ensures) (g .before .section .ensures) (c .settle-engagement-at .ensures .1) (s .args .party)
 
-both : (c : tie.After-fill-row) → Both (c .fill-row .last .1 .1 .1 .1 .0) (c .before .before .before .before .before .engagement-at .result .count)
+both : (c : tie.After-settle-engagement-at) → Both (c .settle-engagement-at .last .1 .1 .1 .1 .0) (c .before .before .before .before .before .engagement-at .result .count)
 both c =
     let k = c .before .before .before in
     let g = k .before .before in
     let s = g .before .before .before .before in
-    engagement-both (s .pre .0) (s .args .i) (s .pre .2) (replicate 384 (pos 0)) (omega (arith, length-replicate 384 (pos 0))) (g .engagement-at .ensures) (k .point-at .ensures) (g .before .section .ensures) (c .fill-row .ensures .1)
+    engagement-both (s .pre .0) (s .args .i) (s .pre .2) (replicate (rowWidth * longestDay) (pos 0)) (omega (arith, length-replicate (rowWidth * longestDay) (pos 0))) (g .engagement-at .ensures) (k .point-at .ensures) (g .before .section .ensures) (c .settle-engagement-at .ensures .1)
 
 -- the first of its cells
-cell : (c : tie.After-first-cell) → let a = c .before .before .before .before .before .before .before .args in
-    c .first-cell .result ≡ firstCell (a .c) (engagementAt (a .engagements .now) (a .i))
-cell c = c .first-cell .ensures ∙ ap (firstCell (c .before .before .before .before .before .before .before .args .c)) (c .before .before .before .engagement-at .ensures)
+cell : (c : tie.After-cell-of) → let a = c .before .before .before .before .before .before .before .args in
+    c .cell-of .result ≡ firstCell (a .c) (engagementAt (a .engagements .now) (a .i))
+cell c = c .cell-of .ensures ∙ ap (firstCell (c .before .before .before .before .before .before .before .args .c)) (c .before .before .before .engagement-at .ensures)
 
 add-rows-requires : tie.Need-add-rows-requires
 add-rows-requires c κs =
@@ -79,7 +82,7 @@ add-rows-requires c κs =
     let g = f .before .before .before .before .before in
     let s = g .before .before .before .before in
     let few = placed s .few in
-    (omega (arith, ap (λ (e : Engagement). e .count) (g .engagement-at .ensures), f .fill-row .kept .1 .1 .1 .1 .0), both f, rw (cell (f .before .before), gets f) (s .pre .4))
+    (omega (arith, ap (λ (e : Engagement). e .count) (g .engagement-at .ensures), f .settle-engagement-at .kept .1 .1 .1 .1 .0), both f, rw (cell (f .before .before), gets f) (s .pre .4))
 
 same-length : tie.Need-same-length
 same-length c = search needs
@@ -98,9 +101,9 @@ add-engagement-spec =
     engagement-at-requires
     cast-point-at
     point-at-requires
-    first-cell-requires
-    slice-aggregate-fill-row
-    fill-row-requires
+    cell-of-requires
+    slice-aggregate-settle-engagement-at
+    settle-engagement-at-requires
     slice-aggregate-add-rows
     cast-add-rows
     add-rows-requires

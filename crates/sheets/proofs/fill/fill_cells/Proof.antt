@@ -7,7 +7,7 @@ use Prim.Native.Nat.{_-_, _≤_}
 use lib.IntN.{ℤ}
 use lib.ListN.{length, drop}
 use Rattle.book.specs.Engagements.{engagementAt}
-use Rattle.volumes.specs.Quarters.{monthQuarters}
+use Rattle.quarters.specs.Quarters.{monthQuarters}
 use Rattle.settlement.specs.Sections.{bookWith}
 use Rattle.settlement.specs.SettlingLaws.{not-refused}
 use Rattle.sheets.specs.Adds.{adds}

@@ -6,7 +6,7 @@ use lib.ListN.{drop}
 use Rattle.book.specs.Header.{calendarOf}
 use Rattle.book.specs.Book.{Book, bookOf}
 use Rattle.book.specs.Judged.{refusalOf}
-use Rattle.volumes.specs.Quarters.{monthQuarters}
+use Rattle.quarters.specs.Quarters.{monthQuarters}
 use Rattle.volumes.specs.Sheets.{sheet}
 use Rattle.volumes.specs.SettlementLaws.{passing}
 use Rattle.settlement.specs.Sections.{bookWith}

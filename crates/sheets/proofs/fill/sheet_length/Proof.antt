@@ -2,7 +2,7 @@
 use mathlib.Core.Path.{ap, _∙_}
 use Rattle.book.specs.HeaderLaws.{headed}
 use Rattle.book.specs.Book.{bookOf}
-use Rattle.volumes.specs.Quarters.{monthQuarters}
+use Rattle.quarters.specs.Quarters.{monthQuarters}
 use Rattle.volumes.specs.SoundLaws.{passes}
 use Rattle.settlement.specs.SectionsLaws.{bytes-long}
 use Rattle.sheets.proofs.fill.sheet_length.Statement.{statement}

@@ -1,0 +1,139 @@
+// The raised baselines of an engagement's quarter-hours.
+use book::Engagement;
+use book::Method;
+use book::Point;
+use quarters::Calendar;
+ghost use mathlib.Core.Path.{_≡_};
+ghost use mathlib.Core.Bool.{true, false};
+ghost use mathlib.Core.List.{_++_};
+ghost use Prim.Native.Nat.{_+_, _*_, _≤_};
+ghost use lib.ListN.{length, drop, replicate};
+ghost use Rattle.wire.specs.Readings.{raise};
+ghost use Rattle.grains.specs.Grains.{grains};
+ghost use Rattle.quarters.specs.Quarters.{longestCalendar};
+ghost use Rattle.baseline.specs.Shown.{windowIn};
+ghost use Rattle.baseline.specs.Runs.{daysIn, dayRuns};
+ghost use Rattle.baseline.specs.Needs.{looksBack};
+ghost use Rattle.baseline.specs.Filled.{Accepts, Filled};
+ghost use Rattle.baseline.specs.Fills.{Raises, Fills, LieAll, Adding, Added};
+
+// One level for all quarter-hours.
+fn fill_flat(levels: &mut [u64], n: usize, level: u64)
+    requires { ⌜ n ≤ length (now levels) ⌝ }
+    ensures { λ r. ⌜ now (levels .exit) ≡ replicate n level ++ drop n (now (levels .entry)) ⌝ }
+{
+    let mut k = 0;
+    while k < n {
+        levels[k] = level;
+        k += 1;
+    }
+}
+
+// The mean of each quarter-hour over the x days that the keys tell, and an addend.
+fn fill_means(
+    c: Calendar,
+    readings: &[u8],
+    keys: &[u64],
+    x: usize,
+    origin: usize,
+    e: Engagement,
+    add: u64,
+    levels: &mut [u64],
+)
+    requires { ⌜ LieAll (now readings) (now keys) c e origin x × (1 ≤ x) × (add ≤ grains (4 * raise)) × (e .count ≤ length (now levels)) ⌝ }
+    ensures { λ r. ⌜ Fills (λ k. Raises (dayRuns (now (readings .entry)) c e origin k 0 1 (daysIn (now (keys .entry)) x)) x add) (e .count) (now (levels .entry)) (now (levels .exit)) ⌝ }
+{
+    let n = e.count as usize;
+    let mut k = 0;
+    while k < n {
+        let mean = crate::levels::mean_level(c, readings, keys, x, origin, e, k);
+        levels[k] = mean + add;
+        k += 1;
+    }
+}
+
+// What methods 1 and 2 add to a mean, raised by 2^32 watts.
+fn addend_of(
+    c: Calendar,
+    readings: &[u8],
+    keys: &[u64],
+    x: usize,
+    origin: usize,
+    e: Engagement,
+    q: usize,
+    method: Method,
+) -> u64
+    requires { ⌜ Adding method (now readings) (now keys) c e origin x × (1 ≤ x) × (q ≤ longestCalendar) × (4 * (origin + q) ≤ length (now readings)) ⌝ }
+    ensures { λ r. ⌜ Added method (windowIn (now (readings .entry)) origin q) (dayRuns (now (readings .entry)) c e origin 0 24 12 (daysIn (now (keys .entry)) x)) x r ⌝ }
+{
+    match method {
+        Method::LastQuarter => crate::levels::lift(),
+        Method::HighXOfY => crate::levels::lift(),
+        Method::Adjusted => crate::levels::addend_level(c, readings, keys, x, origin, e, q),
+    }
+}
+
+// Methods 1 and 2: the days are ranked, and the first x of them taken.
+fn fill_days(
+    c: Calendar,
+    calendar: &[u8],
+    readings: &[u8],
+    point: Point,
+    e: Engagement,
+    x: usize,
+    y: usize,
+    levels: &mut [u64],
+)
+    requires { ⌜ Accepts c (now calendar) (now readings) point e x y × (looksBack (point .method) ≡ true) × (e .count ≤ length (now levels)) ⌝ }
+    ensures { λ r. ⌜ Filled c (now (calendar .entry)) (now (readings .entry)) point e x y (now (levels .entry)) (now (levels .exit)) ⌝ }
+{
+    let mut keys = [0u64; 20];
+    crate::ranking::rank_days(c, calendar, readings, point, e, y, &mut keys);
+    let origin = quarters::origin_of(c, e.point);
+    let q = quarters::in_calendar(c, e.day, e.first);
+    let method = point.method;
+    let add = addend_of(c, readings, &keys, x, origin, e, q, method);
+    fill_means(c, readings, &keys, x, origin, e, add, levels);
+}
+
+// Method 0: one reading for all quarter-hours.
+fn fill_last(
+    c: Calendar,
+    calendar: &[u8],
+    readings: &[u8],
+    point: Point,
+    e: Engagement,
+    x: usize,
+    y: usize,
+    levels: &mut [u64],
+)
+    requires { ⌜ Accepts c (now calendar) (now readings) point e x y × (looksBack (point .method) ≡ false) × (e .count ≤ length (now levels)) ⌝ }
+    ensures { λ r. ⌜ Filled c (now (calendar .entry)) (now (readings .entry)) point e x y (now (levels .entry)) (now (levels .exit)) ⌝ }
+{
+    let origin = quarters::origin_of(c, e.point);
+    let q = quarters::in_calendar(c, e.day, e.first);
+    let level = crate::levels::last_level(readings, origin, q, e.notice as usize + 1);
+    fill_flat(levels, e.count as usize, level);
+}
+
+// The raised baselines of an engagement that is not refused, in the first places; the others stay.
+pub fn fill_levels(
+    c: Calendar,
+    calendar: &[u8],
+    readings: &[u8],
+    point: Point,
+    e: Engagement,
+    x: usize,
+    y: usize,
+    levels: &mut [u64],
+)
+    requires { ⌜ Accepts c (now calendar) (now readings) point e x y × (e .count ≤ length (now levels)) ⌝ }
+    ensures { λ r. ⌜ Filled c (now (calendar .entry)) (now (readings .entry)) point e x y (now (levels .entry)) (now (levels .exit)) ⌝ }
+{
+    let method = point.method;
+    if crate::judge::looks_back(method) {
+        fill_days(c, calendar, readings, point, e, x, y, levels);
+    } else {
+        fill_last(c, calendar, readings, point, e, x, y, levels);
+    }
+}

@@ -1,0 +1,74 @@
+-- Quarter-hours: how many a day, a month and a calendar have, and where one of them lies (document 01, "The book", "Baseline", "Delivered volume,
+-- corrections, series", "The file"). Nothing else knows how many a day has.
+-- A Calendar is a year, a month, and the lead days L: document 01's own term.
+use Prim.Native.Nat.{ℕ, _+_, _-_, _*_, _≤_}
+use Rattle.calendar.specs.Dates.{monthLength, calendarDays}
+use Rattle.quarters.specs.declared.Calendar.{Calendar}
+
+-- "The calendar has N = L + days of the month (Gregorian); day 0 is L days before the 1st; days L and up are settled."
+abbrev pub daysOf : Calendar → ℕ
+daysOf c = calendarDays (c .year) (c .month) (c .lead)
+
+-- "by point, by day, 96 signed 32-bit watts": the quarter-hours of day d
+unfoldable pub quarters : Calendar → ℕ → ℕ
+quarters c d = 96
+
+-- "Quarter-hours are counted through the whole calendar, q of day d being 96 d + q.": where day d starts, the quarter-hours of the whole calendar, and q of day d
+unfoldable pub dayStart : Calendar → ℕ → ℕ
+dayStart c d = 96 * d
+
+abbrev pub quartersOf : Calendar → ℕ
+quartersOf c = dayStart c (daysOf c)
+
+abbrev pub inCalendar : Calendar → ℕ → ℕ → ℕ
+inCalendar c d q = dayStart c d + q
+
+-- "Position is 96 (day - L) + q + 1.": of quarter-hour q of day d, and its cell; positions are counted from 1, cells from 0
+unfoldable pub position : Calendar → ℕ → ℕ → ℕ
+position c d q = dayStart c d - dayStart c (c .lead) + q + 1
+
+abbrev pub cellOf : Calendar → ℕ → ℕ → ℕ
+cellOf c d q = position c d q - 1
+
+-- "each quarter-hour of the month": how many there are, which is the last position
+unfoldable pub monthQuarters : Calendar → ℕ
+monthQuarters c = quartersOf c - dayStart c (c .lead)
+
+-- "Positions go up to 96 times the days of the month": of any month, whose calendar isn't known; `month-quarters` has that it is the same number
+unfoldable pub quartersInMonth : ℕ → ℕ → ℕ
+quartersInMonth year month = 96 * monthLength year month
+
+-- "by point, by day": the place among the readings where those of point p start
+abbrev pub originOf : Calendar → ℕ → ℕ
+originOf c p = quartersOf c * p
+
+-- the years, months and lead days that a header may have
+pub record Ranged (c : Calendar) : Type 0 where
+  pub from : 2018 ≤ c .year
+  pub to : c .year ≤ 2099
+  pub january : 1 ≤ c .month
+  pub december : c .month ≤ 12
+  pub some : 1 ≤ c .lead
+  pub few : c .lead ≤ 33
+
+-- no day, no month and no calendar has more quarter-hours
+abbrev pub longestDay : ℕ
+longestDay = 96
+
+abbrev pub longestMonth : ℕ
+longestMonth = 2976
+
+abbrev pub longestCalendar : ℕ
+longestCalendar = 6144
+
+-- no book has more settlement rows: 512 engagements of a longest day
+abbrev pub mostRows : ℕ
+mostRows = 512 * longestDay
+
+-- no book has more bytes of readings: 4 for each of 256 points and a longest calendar
+abbrev pub mostReadingBytes : ℕ
+mostReadingBytes = 4 * longestCalendar * 256
+
+-- no point's readings start farther on: 255 longest calendars are fewer
+abbrev pub farthestOrigin : ℕ
+farthestOrigin = 2000000
