@@ -1,6 +1,7 @@
 -- The places are sums of small numbers.
 use mathlib.Core.Path.{ap}
 use Prim.Native.Nat.{ℕ, _*_, _≤_}
+use Rattle.quarters.specs.Quarters.{longestCalendar, mostReadingBytes}
 use Rattle.quarters.specs.QuartersLaws.{days-few, quarters-few, readings-few}
 use native.Mathlib.Omega.{arith}
 use borrow.Author.Needs.{needs}
