@@ -10,10 +10,9 @@ use lib.ListN.{length, take, getD, length-map, length-take, List·getD-map}
 use lib.Seq.{getD-take}
 use borrow.Author.Tests.{ltb-false, leb-true}
 use Rattle.integers.specs.Sums.{sumZ}
-use Rattle.integers.specs.Z.{Over}
-use Rattle.integers.specs.All.{all-at}
+use Rattle.integers.specs.ZLaws.{Over}
 use Rattle.grains.specs.Grains.{grains, share}
-use Rattle.wire.specs.Readings.{readingAt, raise}
+use Rattle.wire.specs.Readings.{readingAt}
 use Rattle.wire.specs.declared.Reading.{Reading}
 use Rattle.wire.specs.declared.Reading.the-variants.{Missing}
 use Rattle.quarters.specs.declared.Calendar.{Calendar}
@@ -21,7 +20,7 @@ use Rattle.book.specs.declared.Engagement.{Engagement}
 use Rattle.book.specs.declared.Point.{Point}
 use Rattle.book.specs.declared.Method.{Method}
 use Rattle.book.specs.declared.Method.the-variants.{LastQuarter, HighXOfY, Adjusted}
-use Rattle.quarters.specs.Quarters.{originOf, longestDay}
+use Rattle.quarters.specs.Quarters.{originOf}
 use Rattle.book.specs.Book.{Book}
 use Rattle.volumes.specs.Quarters.{start, reference}
 use Rattle.volumes.specs.QuartersLaws.{length-flatMap}
@@ -30,17 +29,20 @@ use Rattle.volumes.specs.BaselineLaws.{window-12}
 use Rattle.volumes.specs.Settlement.{tooFew}
 use Rattle.volumes.specs.SettlementLaws.{settles}
 use Rattle.volumes.specs.UsedLaws.{high-complete, windows-complete, own-window-complete, last-known}
-use Rattle.baseline.specs.Shown.{Fits, beforeIn, windowIn}
+use Rattle.baseline.specs.ShownInner.{Fits, beforeIn, windowIn}
 use Rattle.baseline.specs.ShownLaws.{own-window, before-at, start-at, stands, stands-on}
-use Rattle.baseline.specs.Runs.{daysIn, dayRuns, Lies, Lie}
-use Rattle.baseline.specs.Levels.{Lasts, Adds}
+use Rattle.baseline.specs.RunsInner.{daysIn, dayRuns, Lies, Lie}
+use Rattle.baseline.specs.LevelsInner.{Lasts, Adds}
 use Rattle.baseline.specs.LevelsLaws.{quarter-runs, window-runs, window-inside}
-use Rattle.baseline.specs.Ranks.{RankedTo}
-use Rattle.baseline.specs.Taken.{Serves, Took}
+use Rattle.baseline.specs.RanksInner.{RankedTo}
+use Rattle.baseline.specs.TakenInner.{Serves, Took}
 use Rattle.baseline.specs.TakenLaws.{took}
-use Rattle.baseline.specs.Needs.{looksBack}
-use Rattle.baseline.specs.Fills.{Raises, Added}
-use Rattle.baseline.specs.Filled.{Unrefused}
+use Rattle.baseline.specs.NeedsInner.{looksBack}
+use Rattle.baseline.specs.FillsInner.{Raises, Added}
+use Rattle.baseline.specs.FilledInner.{Unrefused}
+use Rattle.integers.specs.AllLaws.{all-at}
+use Rattle.quarters.specs.QuartersInner.{longestDay}
+use Rattle.wire.specs.ReadingsInner.{raise}
 
 enough : (book : Book) (e : Engagement) (m : Method) → looksBack m ≡ true → tooFew m (yOf book e) (length (eligibleDays book e)) ≡ false → yOf book e ≤ length (eligibleDays book e)
 unfolding looksBack tooFew

@@ -7,12 +7,12 @@ use native.Mathlib.Omega.{arith}
 use borrow.Author.Count.{below-more}
 use lib.ListN.{length, getD, set, drop, replicate, length-replicate, getD-replicate, replicate-append-replicate, List·getD-append}
 use lib.Seq.{getD-set-same, getD-set-other, drop-set-lt, drop-drop, drop-cons, drop-at, set-at, append-snoc}
-use Rattle.wire.specs.Readings.{raise}
-use Rattle.integers.specs.Z.{over-add}
+use Rattle.integers.specs.ZLaws.{over-add}
 use Rattle.grains.specs.Grains.{grains}
 use Rattle.wire.specs.declared.Reading.{Reading}
-use Rattle.baseline.specs.Levels.{Means}
-use Rattle.baseline.specs.Fills.{Raises, Fills}
+use Rattle.baseline.specs.LevelsInner.{Means}
+use Rattle.baseline.specs.FillsInner.{Raises, Fills}
+use Rattle.wire.specs.ReadingsInner.{raise}
 
 -- no place yet, and one more
 pub fills-none : (P : ℕ → ℕ → Type 0) (l : List ℕ) → Fills P 0 l l

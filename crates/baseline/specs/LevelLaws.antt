@@ -2,9 +2,9 @@
 use Prim.Native.Nat.{ℕ, _+_, _-_, _≤_, _*_}
 use native.Mathlib.Omega.{arith}
 use lib.IntN.{ℤ, _-ℤ_}
-use Rattle.wire.specs.Readings.{raise}
-use Rattle.integers.specs.Z.{Over, dif, mul}
+use Rattle.integers.specs.ZLaws.{Over, dif, mul}
 use Rattle.grains.specs.Grains.{perWatt, grains, grainsZ}
+use Rattle.wire.specs.ReadingsInner.{raise}
 
 -- a reading and 2^32 watts more
 pub lifted : (w : ℤ) (raised : ℕ) → Over raise w raised → Over (grains (3 * raise)) (grainsZ w) (grains raised + grains (2 * raise))

@@ -2,7 +2,7 @@
 use mathlib.Core.Path.{_≡_, refl, sym, ap, ap₂, _∙_}
 use mathlib.Core.Bool.{Bool, true, false}
 use mathlib.Core.List.{List, [], _∷_, _++_, map, flatMap}
-use Prim.Native.Nat.{ℕ, _+_, _-_, _*_, _≤_}
+use Prim.Native.Nat.{ℕ, _+_, _-_, _≤_}
 use native.Mathlib.Omega.{arith}
 use lib.Dec.{ltb}
 use borrow.Author.Tests.{ltb-true, ltb-false}
@@ -18,10 +18,10 @@ use Rattle.book.specs.Book.{Book}
 use Rattle.volumes.specs.Quarters.{reference}
 use Rattle.volumes.specs.Baseline.{complete, dayReading, dayWindow, windowed, eligible}
 use Rattle.volumes.specs.UsedLaws.{eligible-day}
-use Rattle.baseline.specs.Shown.{Shows}
+use Rattle.baseline.specs.ShownInner.{Shows}
 use Rattle.baseline.specs.ShownLaws.{day-reading, day-window, window-run, window-early}
-use Rattle.baseline.specs.Runs.{dayRuns}
-use Rattle.baseline.specs.Taken.{Serves}
+use Rattle.baseline.specs.RunsInner.{dayRuns}
+use Rattle.baseline.specs.TakenInner.{Serves}
 
 module _ {c : Calendar} {calendar readings : List ℕ} {point : Point} {e : Engagement} {book : Book} (s : Shows c calendar readings point e book) where
   -- quarter-hour k of the days

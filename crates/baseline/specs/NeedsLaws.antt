@@ -3,7 +3,7 @@ use mathlib.Core.Path.{_≡_, refl, sym, ap, ap₂, _∙_}
 use mathlib.Core.Bool.{Bool, true, false, cond, _&&_}
 use mathlib.Core.List.{List, [], _∷_, map}
 use mathlib.Core.Option.{none, some}
-use Prim.Native.Nat.{ℕ, _+_, _*_}
+use Prim.Native.Nat.{ℕ, _+_}
 use native.Mathlib.Omega.{arith}
 use lib.Dec.{ltb}
 use lib.ListN.{length, take}
@@ -20,10 +20,10 @@ use Rattle.volumes.specs.Baseline.{pointOf, complete, lastReading, ownReading, 
 use Rattle.volumes.specs.BaselineLaws.{complete-append}
 use Rattle.volumes.specs.DaysLaws.{few-latest}
 use Rattle.volumes.specs.Settlement.{neededBy, needed, tooFew, refusalNumber}
-use Rattle.baseline.specs.Tally.{inRun}
-use Rattle.baseline.specs.Shown.{Shows, beforeIn}
+use Rattle.baseline.specs.TallyInner.{inRun}
+use Rattle.baseline.specs.ShownInner.{Shows, beforeIn}
 use Rattle.baseline.specs.ShownLaws.{own-run, before-at, start-at, own-window}
-use Rattle.baseline.specs.Needs.{neededIn, looksBack, firstOf}
+use Rattle.baseline.specs.NeedsInner.{neededIn, looksBack, firstOf}
 
 module _ {c : Calendar} {calendar readings : List ℕ} {point : Point} {e : Engagement} {book : Book} (s : Shows c calendar readings point e book) where
   needed-by : (method : Method) → neededBy method book e ≡ neededIn method readings (originOf c (e .point)) (start c e) (e .notice)

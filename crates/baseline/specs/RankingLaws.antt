@@ -5,7 +5,7 @@ use Prim.Native.Nat.{ℕ, suc, _+_, _<_, max, min}
 use native.Mathlib.Omega.{arith}
 use lib.ListN.{length, take, drop, getD, set, length-take, length-set, drop-of-length-le}
 use lib.Seq.{take-suc-set, set-split, append-snoc, drop-cons, drop-drop, drop-set-lt, getD-take, length-take-le}
-use Rattle.baseline.specs.Ranking.{inserted}
+use Rattle.baseline.specs.RankingInner.{inserted}
 
 -- i of the keys are in their places, x is carried, and the others are as they were
 pub record Inserting (keys₀ keys : List ℕ) (n key i x : ℕ) : Type 0 where

@@ -6,7 +6,7 @@ use Prim.Native.Nat.{ℕ, _+_, _*_, _≤_, _<_}
 use native.Mathlib.Omega.{arith}
 use lib.ListN.{length, take, drop, length-append, length-map}
 use lib.Seq.{take-at, drop-at, drop-drop}
-use Rattle.integers.specs.Z.{Over}
+use Rattle.integers.specs.ZLaws.{Over}
 use Rattle.book.specs.declared.Engagement.{Engagement}
 use Rattle.book.specs.Book.{Book}
 use Rattle.volumes.specs.Ranking.{ranked}
@@ -14,10 +14,10 @@ use Rattle.volumes.specs.RankingLaws.{length-ranked}
 use Rattle.volumes.specs.Baseline.{eligible, eligibleDays, daySum}
 use Rattle.volumes.specs.DaysLaws.{scanned, scanned-none, scanned-yes, scanned-no, scanned-full, scanned-few}
 use Rattle.baseline.specs.declared.tally.Tally.{Tally}
-use Rattle.baseline.specs.Ranking.{inserted}
-use Rattle.baseline.specs.Shown.{Refers}
-use Rattle.baseline.specs.Sorting.{Above, days-more, above-more, above-less, ranked-more, raised-is}
-use Rattle.baseline.specs.Ranks.{Considered, bias, keyIn, KeysOf, RankedTo}
+use Rattle.baseline.specs.RankingInner.{inserted}
+use Rattle.baseline.specs.ShownInner.{Refers}
+use Rattle.baseline.specs.SortingLaws.{Above, days-more, above-more, above-less, ranked-more, raised-is}
+use Rattle.baseline.specs.RanksInner.{Considered, bias, keyIn, KeysOf, RankedTo}
 
 -- the first n keys, and those behind them
 module _ {book : Book} {e : Engagement} {days keys₀ keys : List ℕ} {n : ℕ} (k : KeysOf book e days keys₀ keys n) where

@@ -2,11 +2,11 @@
 use mathlib.Core.Path.{_≡_, sym, ap, ap₂, _∙_}
 use mathlib.Core.Bool.{Bool, true, false, not, _&&_}
 use mathlib.Core.List.{List}
-use Prim.Native.Nat.{ℕ, _+_, _*_}
+use Prim.Native.Nat.{ℕ}
 use native.Mathlib.Omega.{arith}
 use lib.Dec.{eqb}
 use lib.ListN.{getD}
-use Rattle.integers.specs.Tests.{both}
+use Rattle.integers.specs.TestsLaws.{both}
 use Rattle.quarters.specs.declared.Calendar.{Calendar}
 use Rattle.book.specs.declared.Engagement.{Engagement}
 use Rattle.book.specs.declared.Point.{Point}
@@ -17,9 +17,9 @@ use Rattle.volumes.specs.Quarters.{reference}
 use Rattle.volumes.specs.Baseline.{complete, dayReadings, dayWindow, windowed, allowed, eligible, daySum}
 use Rattle.volumes.specs.UsedLaws.{eligible-is}
 use Rattle.baseline.specs.declared.tally.Tally.{Tally}
-use Rattle.baseline.specs.Tally.{Tallied}
-use Rattle.baseline.specs.Runs.{standing}
-use Rattle.baseline.specs.Shown.{Shows, Refers, windowIn}
+use Rattle.baseline.specs.TallyInner.{Tallied}
+use Rattle.baseline.specs.RunsInner.{standing}
+use Rattle.baseline.specs.ShownInner.{Shows, Refers, windowIn}
 use Rattle.baseline.specs.ShownLaws.{day-standing, day-window}
 
 -- the day's category is A's, and the mask doesn't exclude it

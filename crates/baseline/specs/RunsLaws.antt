@@ -7,7 +7,6 @@ use native.Mathlib.Nat.{add-mul, one-mul, mul-le-mul}
 use native.Mathlib.Omega.{arith}
 use lib.ListN.{length, take, getD}
 use lib.Seq.{take-suc}
-use Rattle.integers.specs.Ranges.{range-shift}
 use Rattle.wire.specs.Readings.{readingAt}
 use Rattle.wire.specs.declared.Reading.{Reading}
 use Rattle.quarters.specs.declared.Calendar.{Calendar}
@@ -15,9 +14,10 @@ use Rattle.book.specs.declared.Engagement.{Engagement}
 use Rattle.volumes.specs.Quarters.{quarterHours, referenceQuarter, reference}
 use Rattle.volumes.specs.QuartersLaws.{flatMap-append, map-range-cong}
 use Rattle.baseline.specs.declared.tally.Tally.{Tally}
-use Rattle.baseline.specs.Tally.{inRun, Tallied}
+use Rattle.baseline.specs.TallyInner.{inRun, Tallied}
 use Rattle.baseline.specs.TallyLaws.{tally-append}
-use Rattle.baseline.specs.Runs.{standing, daysIn, dayRun, dayRuns}
+use Rattle.baseline.specs.RunsInner.{standing, daysIn, dayRun, dayRuns}
+use Rattle.integers.specs.RangesLaws.{range-shift}
 
 flatMap-one : {A B : Type 0} (f : A → List B) (a : A) → flatMap f (a ∷ []) ≡ f a
 unfolding flatMap

@@ -7,21 +7,23 @@ use native.Mathlib.Omega.{arith}
 use lib.Dec.{leb}
 use lib.ListN.{length}
 use borrow.Author.Tests.{le-leb, lt-leb}
-use Rattle.integers.specs.Ranges.{range, range-shift}
+use Rattle.integers.specs.Ranges.{range}
 use Rattle.wire.specs.Readings.{readingAt}
 use Rattle.wire.specs.declared.Reading.{Reading}
 use Rattle.wire.specs.declared.Reading.the-variants.{Missing}
 use Rattle.quarters.specs.declared.Calendar.{Calendar}
 use Rattle.book.specs.declared.Engagement.{Engagement}
 use Rattle.book.specs.declared.Point.{Point}
-use Rattle.quarters.specs.Quarters.{quarters, dayStart, quartersOf, originOf, longestDay, longestCalendar, farthestOrigin}
+use Rattle.quarters.specs.Quarters.{quarters, dayStart, quartersOf, originOf}
 use Rattle.quarters.specs.QuartersLaws.{days-few, quarters-few, origin-few}
 use Rattle.book.specs.Book.{Book}
 use Rattle.volumes.specs.Quarters.{quarterHours, start, referenceQuarter, reference}
 use Rattle.volumes.specs.Baseline.{readingBefore, window, ownReading, dayReading, dayReadings, ownWindow, dayWindow, known, complete}
-use Rattle.baseline.specs.Tally.{inRun}
-use Rattle.baseline.specs.Runs.{standing}
-use Rattle.baseline.specs.Shown.{Shows, Fits, beforeIn, windowIn}
+use Rattle.baseline.specs.TallyInner.{inRun}
+use Rattle.baseline.specs.RunsInner.{standing}
+use Rattle.baseline.specs.ShownInner.{Shows, Fits, beforeIn, windowIn}
+use Rattle.integers.specs.RangesLaws.{range-shift}
+use Rattle.quarters.specs.QuartersInner.{longestDay, longestCalendar, farthestOrigin}
 
 map-cong : {A B : Type 0} (f g : A → B) (l : List A) → ((a : A) → f a ≡ g a) → map f l ≡ map g l
 map-cong f g [] h = refl

@@ -7,17 +7,18 @@ use native.Mathlib.Omega.{arith}
 use lib.IntN.{ℤ}
 use lib.ListN.{take, length-take}
 use lib.Seq.{take-take}
-use Rattle.integers.specs.All.{All, each-all, all-each, all-take}
+use Rattle.integers.specs.All.{All}
 use Rattle.integers.specs.KeepLaws.{mem-keep}
 use Rattle.book.specs.declared.Engagement.{Engagement}
 use Rattle.book.specs.Book.{Book}
 use Rattle.volumes.specs.Ranking.{ranked}
 use Rattle.volumes.specs.RankingLaws.{from-ranked, length-ranked}
 use Rattle.volumes.specs.Baseline.{eligible, before, eligibleDays, xOf, yOf, latest, daySum, taken}
-use Rattle.baseline.specs.Sorting.{Days, key-day}
-use Rattle.baseline.specs.Ranks.{bias, keyIn, RankedTo}
+use Rattle.baseline.specs.SortingLaws.{Days, key-day}
+use Rattle.baseline.specs.RanksInner.{bias, keyIn, RankedTo}
 use Rattle.baseline.specs.RanksLaws.{keys-first}
-use Rattle.baseline.specs.Taken.{Serves, Took}
+use Rattle.baseline.specs.TakenInner.{Serves, Took}
+use Rattle.integers.specs.AllLaws.{each-all, all-each, all-take}
 
 -- what is ranked stands in the list
 all-ranked : (P : ℕ → Type 0) (key : ℕ → ℤ) (l : List ℕ) → All P l → All P (ranked key l)

@@ -7,18 +7,21 @@ use native.Mathlib.Omega.{arith}
 use lib.Dec.{eqb}
 use lib.IntN.{ℤ, pos, negsuc, _+ℤ_, +ℤ-idr}
 use borrow.Author.Tests.{eqb-true, eqb-false, eq-eqb, ne-eqb}
-use Rattle.integers.specs.Ranges.{range, range-more}
-use Rattle.integers.specs.Tests.{both}
-use Rattle.integers.specs.Sums.{sumZ, sumBy, integers, sum-append}
-use Rattle.integers.specs.Z.{Over, Within, over-add}
-use Rattle.wire.specs.Readings.{readingAt, readingOf, missingIf, raised, raise}
+use Rattle.integers.specs.Ranges.{range}
+use Rattle.integers.specs.TestsLaws.{both}
+use Rattle.integers.specs.Sums.{sumZ, sumBy, integers}
+use Rattle.integers.specs.ZLaws.{Over, Within, over-add}
+use Rattle.wire.specs.Readings.{readingAt, readingOf, missingIf}
 use Rattle.wire.specs.ReadingsLaws.{raised-over}
 use Rattle.wire.specs.declared.Reading.{Reading}
 use Rattle.wire.specs.declared.Reading.the-variants.{Watts}
 use Rattle.volumes.specs.Baseline.{watts, known, complete}
 use Rattle.volumes.specs.BaselineLaws.{complete-append}
-use Rattle.baseline.specs.Tally.{inRun, Tallied}
+use Rattle.baseline.specs.TallyInner.{inRun, Tallied}
 use Rattle.baseline.specs.declared.tally.Tally.{Tally}
+use Rattle.integers.specs.RangesLaws.{range-more}
+use Rattle.integers.specs.SumsLaws.{sum-append}
+use Rattle.wire.specs.ReadingsInner.{raised, raise}
 
 pub run-more : (readings : List ℕ) (at n : ℕ) → inRun readings at (n + 1) ≡ inRun readings at n ++ (readingAt readings (at + n) ∷ [])
 run-more readings at n = ap (map (readingAt readings)) (range-more at n) ∙ map-append (readingAt readings) (range at n) ((at + n) ∷ [])

@@ -7,13 +7,14 @@ use quarters::Calendar;
 ghost use mathlib.Core.Path.{_≡_};
 ghost use Prim.Native.Nat.{_+_, _*_, _≤_, _<_};
 ghost use lib.ListN.{length};
-ghost use Rattle.quarters.specs.Quarters.{originOf, longestCalendar, farthestOrigin, longestDay};
+ghost use Rattle.quarters.specs.Quarters.{originOf};
 ghost use Rattle.book.specs.Book.{Book};
-ghost use Rattle.baseline.specs.Tally.{Tallied};
-ghost use Rattle.baseline.specs.Shown.{Shows, Fits, Refers, windowIn};
-ghost use Rattle.baseline.specs.Runs.{standing};
+ghost use Rattle.baseline.specs.TallyInner.{Tallied};
+ghost use Rattle.baseline.specs.ShownInner.{Shows, Fits, Refers, windowIn};
+ghost use Rattle.baseline.specs.RunsInner.{standing};
 ghost use Rattle.volumes.specs.Quarters.{reference};
 ghost use Rattle.volumes.specs.Baseline.{windowed};
+ghost use Rattle.quarters.specs.QuartersInner.{longestCalendar, farthestOrigin, longestDay};
 
 // The 12 readings from 24 before quarter-hour q; those before the calendar are missing.
 pub fn window(readings: &[u8], origin: usize, q: usize) -> Tally

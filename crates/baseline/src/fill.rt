@@ -8,14 +8,14 @@ ghost use mathlib.Core.Bool.{true, false};
 ghost use mathlib.Core.List.{_++_};
 ghost use Prim.Native.Nat.{_+_, _*_, _≤_};
 ghost use lib.ListN.{length, drop, replicate};
-ghost use Rattle.wire.specs.Readings.{raise};
 ghost use Rattle.grains.specs.Grains.{grains};
-ghost use Rattle.quarters.specs.Quarters.{longestCalendar};
-ghost use Rattle.baseline.specs.Shown.{windowIn};
-ghost use Rattle.baseline.specs.Runs.{daysIn, dayRuns};
-ghost use Rattle.baseline.specs.Needs.{looksBack};
-ghost use Rattle.baseline.specs.Filled.{Accepts, Filled};
-ghost use Rattle.baseline.specs.Fills.{Raises, Fills, LieAll, Adding, Added};
+ghost use Rattle.baseline.specs.ShownInner.{windowIn};
+ghost use Rattle.baseline.specs.RunsInner.{daysIn, dayRuns};
+ghost use Rattle.baseline.specs.NeedsInner.{looksBack};
+ghost use Rattle.baseline.specs.FilledInner.{Accepts, Filled};
+ghost use Rattle.baseline.specs.FillsInner.{Raises, Fills, LieAll, Adding, Added};
+ghost use Rattle.quarters.specs.QuartersInner.{longestCalendar};
+ghost use Rattle.wire.specs.ReadingsInner.{raise};
 
 // One level for all quarter-hours.
 fn fill_flat(levels: &mut [u64], n: usize, level: u64)

@@ -8,12 +8,12 @@ ghost use mathlib.Core.Bool.{cond};
 ghost use mathlib.Core.Option.{none, some};
 ghost use Prim.Native.Nat.{_+_, _*_, _≤_, _<_};
 ghost use lib.ListN.{length};
-ghost use Rattle.quarters.specs.Quarters.{longestCalendar, farthestOrigin};
 ghost use Rattle.book.specs.Book.{Book};
 ghost use Rattle.volumes.specs.Baseline.{known, complete, eligibleDays, yOf};
 ghost use Rattle.volumes.specs.Settlement.{needed, tooFew, refusalNumber};
-ghost use Rattle.baseline.specs.Shown.{Shows, Fits, beforeIn};
-ghost use Rattle.baseline.specs.Needs.{neededIn, looksBack, numberOf, firstOf};
+ghost use Rattle.baseline.specs.ShownInner.{Shows, Fits, beforeIn};
+ghost use Rattle.baseline.specs.NeedsInner.{neededIn, looksBack, numberOf, firstOf};
+ghost use Rattle.quarters.specs.QuartersInner.{longestCalendar, farthestOrigin};
 
 // What an engagement lacks.
 pub enum Lack {

@@ -4,19 +4,14 @@ use book::Engagement;
 use grains::Grains;
 use quarters::Calendar;
 ghost use mathlib.Core.Path.{_≡_};
-ghost use mathlib.Core.Bool.{true};
 ghost use Prim.Native.Nat.{_+_, _*_, _≤_};
-ghost use lib.IntN.{pos, _*ℤ_, _-ℤ_};
 ghost use lib.ListN.{length};
-ghost use Rattle.wire.specs.Readings.{raise};
-ghost use Rattle.integers.specs.Z.{Over};
-ghost use Rattle.integers.specs.Sums.{sumZ};
-ghost use Rattle.grains.specs.Grains.{grains, grainsZ, share};
-ghost use Rattle.quarters.specs.Quarters.{longestCalendar, farthestOrigin};
-ghost use Rattle.volumes.specs.Baseline.{watts, known, complete};
-ghost use Rattle.baseline.specs.Shown.{beforeIn, windowIn};
-ghost use Rattle.baseline.specs.Runs.{daysIn, dayRuns, Lie};
-ghost use Rattle.baseline.specs.Levels.{Means, Adds, Lasts};
+ghost use Rattle.grains.specs.Grains.{grains};
+ghost use Rattle.baseline.specs.ShownInner.{beforeIn, windowIn};
+ghost use Rattle.baseline.specs.RunsInner.{daysIn, dayRuns, Lie};
+ghost use Rattle.baseline.specs.LevelsInner.{Means, Adds, Lasts};
+ghost use Rattle.quarters.specs.QuartersInner.{longestCalendar, farthestOrigin};
+ghost use Rattle.wire.specs.ReadingsInner.{raise};
 
 // 2^32 watts.
 pub fn lift() -> u64

@@ -3,8 +3,8 @@ use crate::tally::Tally;
 use book::Engagement;
 use quarters::Calendar;
 ghost use Prim.Native.Nat.{_*_};
-ghost use Rattle.baseline.specs.Tally.{Tallied};
-ghost use Rattle.baseline.specs.Runs.{daysIn, dayRuns, Lie};
+ghost use Rattle.baseline.specs.TallyInner.{Tallied};
+ghost use Rattle.baseline.specs.RunsInner.{daysIn, dayRuns, Lie};
 
 // Tallies n readings of each of the x days that the keys tell, from `back` before what stands for quarter-hour k of the engagement.
 pub fn tally_days(

@@ -7,11 +7,11 @@ ghost use mathlib.Core.Path.{_≡_};
 ghost use mathlib.Core.List.{_++_};
 ghost use Prim.Native.Nat.{_+_, _*_, _≤_, _<_, max, min};
 ghost use lib.ListN.{length, take, drop};
-ghost use Rattle.quarters.specs.Quarters.{longestDay};
 ghost use Rattle.book.specs.Book.{Book};
-ghost use Rattle.baseline.specs.Ranking.{inserted};
-ghost use Rattle.baseline.specs.Ranks.{Considered, RankedTo};
-ghost use Rattle.baseline.specs.Shown.{Shows, Fits};
+ghost use Rattle.baseline.specs.RankingInner.{inserted};
+ghost use Rattle.baseline.specs.RanksInner.{Considered, RankedTo};
+ghost use Rattle.baseline.specs.ShownInner.{Shows, Fits};
+ghost use Rattle.quarters.specs.QuartersInner.{longestDay};
 
 fn larger(a: u64, b: u64) -> u64
     ensures { λ r. ⌜ r ≡ max a b ⌝ }

@@ -1,8 +1,8 @@
 // A run of readings, one after another: whether all are there, and their sum.
 ghost use Prim.Native.Nat.{_+_, _*_, _≤_};
 ghost use lib.ListN.{length};
-ghost use Rattle.quarters.specs.Quarters.{longestDay};
-ghost use Rattle.baseline.specs.Tally.{inRun, Tallied};
+ghost use Rattle.baseline.specs.TallyInner.{inRun, Tallied};
+ghost use Rattle.quarters.specs.QuartersInner.{longestDay};
 
 // The sum is that of the raised readings.
 pub struct Tally {

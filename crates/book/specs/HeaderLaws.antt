@@ -8,12 +8,13 @@ use native.Mathlib.Omega.{arith}
 use lib.Dec.{eqb, leb}
 use lib.ListN.{length, take, drop, length-take, length-drop}
 use borrow.Author.Tests.{eqb-true, leb-true}
-use Rattle.integers.specs.Tests.{both}
+use Rattle.integers.specs.TestsLaws.{both}
 use Rattle.wire.specs.Numbers.{numberAt}
 use Rattle.wire.specs.NumbersLaws.{in-part}
 use Rattle.quarters.specs.declared.Calendar.{Calendar}
-use Rattle.quarters.specs.Quarters.{daysOf, quartersOf, Ranged}
+use Rattle.quarters.specs.Quarters.{daysOf, quartersOf}
 use Rattle.book.specs.Header.{version, calendarOf, pointCount, engagementCount, between, versionTaken, headerFields, headerGood, pointWidth, engagementWidth, rowAt, offsetOf, lengthOf, isPair, sizes, adjoining, sectionOf}
+use Rattle.quarters.specs.QuartersInner.{Ranged}
 
 -- the part that ends a row later is the row
 pub row-part : (w : ℕ) (section : List ℕ) (i : ℕ) → take (w * i + w - w * i) (drop (w * i) section) ≡ rowAt w section i

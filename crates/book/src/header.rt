@@ -1,7 +1,7 @@
 // The header, the pairs, and where the sections stand.
 use quarters::Calendar;
 ghost use mathlib.Core.Path.{_≡_};
-ghost use Prim.Native.Nat.{_*_, _≤_};
+ghost use Prim.Native.Nat.{_≤_};
 ghost use lib.ListN.{length};
 ghost use Rattle.book.specs.Header.{calendarOf, pointCount, engagementCount};
 

@@ -1,7 +1,7 @@
 -- Dates: lengths of months, day numbers, weekdays, last Sundays, clock-change days, offsets (document 01, "The book" and "The file").
 use mathlib.Core.Bool.{Bool, cond, not, _&&_, _||_}
 use mathlib.Core.List.{List, [], _∷_}
-use Prim.Native.Nat.{ℕ, zero, suc, pred, _+_, _%_, _≤_}
+use Prim.Native.Nat.{ℕ, zero, suc, pred, _+_, _%_}
 use lib.Dec.{eqb, leb, ltb}
 use lib.ListN.{getD}
 use Rattle.integers.specs.First.{anyBelow}
@@ -10,13 +10,6 @@ use Rattle.integers.specs.Running.{upTo}
 -- 4 divides a leap year; where 100 divides it too, 400 does
 unfoldable pub leap : ℕ → Bool
 leap year = eqb (year % 4) 0 && (not (eqb (year % 100) 0) || eqb (year % 400) 0)
-
--- a month of the years that the code takes
-pub record IsMonth (year month : ℕ) : Type 0 where
-  pub from : 1 ≤ year
-  pub to : year ≤ 9999
-  pub january : 1 ≤ month
-  pub december : month ≤ 12
 
 -- the months' lengths, at 1 to 12, in a leap year or in another
 abbrev pub lengths : Bool → List ℕ

@@ -12,7 +12,8 @@ use borrow.Author.Tests.{ltb-true, ltb-false, leb-true, leb-false, eqb-true, eqb
 use lib.ListN.{List·getD-eq-default, getD, length, drop}
 use Rattle.integers.specs.First.{anyBelow}
 use Rattle.integers.specs.Running.{upTo}
-use Rattle.calendar.specs.Dates.{IsMonth, leap, monthLength, yearLength, dayNumber, weekday, sundayUpTo, lastSunday, marchSunday, octoberSunday, offsetHours, lengths, daysBeforeYear, daysBeforeMonth, calendarDays, clockChange, marchChange, octoberChange, hasClockChange, nextYear, nextMonth}
+use Rattle.calendar.specs.Dates.{leap, monthLength, yearLength, dayNumber, weekday, sundayUpTo, lastSunday, marchSunday, octoberSunday, offsetHours, lengths, daysBeforeYear, daysBeforeMonth, calendarDays, clockChange, marchChange, octoberChange, hasClockChange, nextYear, nextMonth}
+use Rattle.calendar.specs.DatesInner.{IsMonth}
 
 -- the test by 400 decides for a century's year, that by 4 for any other
 pub leap-century : (y : ℕ) → y % 100 ≡ 0 → leap y ≡ eqb (y % 400) 0

@@ -1,2 +1,3 @@
 pub mod Dates
+pub mod DatesInner
 pub mod DatesLaws

@@ -3,7 +3,8 @@ ghost use mathlib.Core.Path.{_≡_};
 ghost use mathlib.Core.Bool.{_&&_};
 ghost use Prim.Native.Nat.{_≤_};
 ghost use lib.Dec.{leb, ltb};
-ghost use Rattle.calendar.specs.Dates.{IsMonth, leap, monthLength, daysBeforeYear, daysBeforeMonth, dayNumber, weekday, lastSunday, marchSunday, octoberSunday, offsetHours, calendarDays, hasClockChange, nextYear, nextMonth};
+ghost use Rattle.calendar.specs.Dates.{leap, monthLength, daysBeforeYear, daysBeforeMonth, dayNumber, weekday, lastSunday, marchSunday, octoberSunday, offsetHours, calendarDays, hasClockChange, nextYear, nextMonth};
+ghost use Rattle.calendar.specs.DatesInner.{IsMonth};
 
 // Whether a year has a 29 February.
 pub fn is_leap(year: u64) -> bool

@@ -8,7 +8,7 @@ use libc::STDOUT_FILENO;
 use moments::MomentRead;
 use moments::ids;
 ghost use Prim.Native.Nat.{_≤_};
-ghost use Rattle.calendar.specs.Dates.{IsMonth};
+ghost use Rattle.calendar.specs.DatesInner.{IsMonth};
 
 fn number(n: u64) {
     io::print_decimal(STDOUT_FILENO, n);

@@ -1,4 +1,4 @@
-pub mod Words
+pub mod WordsInner
 pub mod WordsLaws
-pub mod Sparse
+pub mod SparseInner
 pub mod SparseLaws

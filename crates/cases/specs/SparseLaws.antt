@@ -8,7 +8,7 @@ use lib.ListN.{length, take, drop, replicate, length-append, length-drop, length
 use lib.Seq.{take-all, take-at, drop-at, length-take-le}
 use Rattle.cases.specs.declared.Loaded.{Loaded}
 use Rattle.cases.specs.declared.Loaded.the-variants.{Bytes, Malformed}
-use Rattle.cases.specs.Sparse.{UnhexedBy, PutAtBy, Piece, PiecesBy, FilledBy, SparseBy}
+use Rattle.cases.specs.SparseInner.{UnhexedBy, PutAtBy, Piece, PiecesBy, FilledBy, SparseBy}
 
 pub piece-behind : {line : List ℕ} {at : ℕ} {before after : List ℕ} {next : ℕ} → Piece line at before after next → at < length line → at < next
 piece-behind p h =

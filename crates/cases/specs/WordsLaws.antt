@@ -10,7 +10,7 @@ use native.Mathlib.Numerals.{add-one}
 use borrow.Author.Tests.{lt-ltb, le-ltb}
 use Rattle.text.specs.declared.Number.the-variants.{Value, NotDigits}
 use Rattle.text.specs.Decimal.{digit, digits, valueFrom}
-use Rattle.cases.specs.Words.{numberFrom}
+use Rattle.cases.specs.WordsInner.{numberFrom}
 
 -- more digits say no less
 pub value-grows : (acc : ℕ) (l : List ℕ) → acc ≤ valueFrom acc l

@@ -9,7 +9,7 @@ ghost use mathlib.Core.Path.{_≡_};
 ghost use mathlib.Core.List.{_++_};
 ghost use Prim.Native.Nat.{_≤_, _<_};
 ghost use lib.ListN.{length, drop, replicate};
-ghost use Rattle.cases.specs.Sparse.{nibbleOf, UnhexedBy, saysNone, hexOf, PutAtBy, PieceBy, PiecesBy, FilledBy, SparseBy};
+ghost use Rattle.cases.specs.SparseInner.{nibbleOf, UnhexedBy, saysNone, hexOf, PutAtBy, PieceBy, PiecesBy, FilledBy, SparseBy};
 
 fn nibble(x: u8) -> u8
     ensures { λ r. ⌜ r ≡ nibbleOf x ⌝ }

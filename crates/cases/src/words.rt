@@ -3,7 +3,7 @@ use text::Number;
 ghost use mathlib.Core.Path.{_≡_};
 ghost use Prim.Native.Nat.{_≤_};
 ghost use lib.ListN.{length};
-ghost use Rattle.cases.specs.Words.{Ends, nextWord, numberOf};
+ghost use Rattle.cases.specs.WordsInner.{Ends, nextWord, numberOf};
 
 // Where the word that starts at `at` ends: at the next such byte, or with s.
 pub fn find(s: &[u8], at: usize, stop: u8) -> usize

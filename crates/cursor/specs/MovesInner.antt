@@ -13,7 +13,7 @@ use Rattle.formats.specs.Words.{wordsParse}
 use Rattle.formats.specs.Exactly.{fixedDigits}
 use Rattle.formats.specs.Numbers.{numberParse}
 use Rattle.formats.specs.Name.{nameByte, nameParse}
-use Rattle.formats.specs.Place.{placed}
+use Rattle.formats.specs.PlaceInner.{placed}
 use Rattle.cursor.specs.declared.Cursor.{Cursor}
 use Rattle.cursor.specs.declared.Read.{Read}
 

@@ -15,7 +15,7 @@ use Rattle.formats.specs.Words.{wordsParse}
 use Rattle.formats.specs.Exactly.{fixedDigits}
 use Rattle.formats.specs.Numbers.{numberParse}
 use Rattle.formats.specs.Name.{nameByte, nameParse}
-use Rattle.formats.specs.Place.{Within, Parsed, placed}
+use Rattle.formats.specs.PlaceInner.{Within, Parsed, placed}
 use Rattle.cursor.specs.declared.Cursor.{Cursor}
 use Rattle.cursor.specs.declared.Read.{Read}
 use Rattle.cursor.specs.MovesInner.{cursorAt, readOf, markIf, standing, behind, taken, readAt, pastTag, pastNumber, pastCounter, pastFixed, pastWord, pastName}

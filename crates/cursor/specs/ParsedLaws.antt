@@ -17,7 +17,7 @@ use Rattle.formats.specs.Words.{wordAt, wordsParse, words-sound}
 use Rattle.formats.specs.Exactly.{fixedDigits}
 use Rattle.formats.specs.Numbers.{numberParse, number, number-sound}
 use Rattle.formats.specs.Name.{nameByte, span, nameParse, Name, name-sound}
-use Rattle.formats.specs.Place.{Within, Parsed, placed, left}
+use Rattle.formats.specs.PlaceInner.{Within, Parsed, placed, left}
 use Rattle.formats.specs.PlaceLaws.{parsed, not-there}
 use Rattle.cursor.specs.declared.Cursor.{Cursor}
 use Rattle.cursor.specs.MovesInner.{standing, behind, valueIn, readAt, counterParse, pastTag, pastNumber, pastCounter, pastFixed, pastWord, pastName}

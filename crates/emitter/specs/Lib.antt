@@ -1,3 +1,3 @@
-pub mod Laid
-pub mod Parts
+pub mod LaidLaws
+pub mod PartsInner
 pub mod PartsLaws

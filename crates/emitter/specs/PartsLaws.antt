@@ -12,7 +12,7 @@ use Rattle.message.specs.Bytes.{opening, closing, element, root, counter, group
 use Rattle.message.specs.Bytes.{withPartner, seriesBytes, supplyOf, partnerBytes, fileBytes}
 use Rattle.message.specs.Contents.{TimeSeries, Partner, File}
 use Rattle.message.specs.ObservationForm.{observed}
-use Rattle.emitter.specs.Parts.{deliveryBytes, headBytes, seriesHead, seriesEnd, partnerHead, partnerEnd, originBytes, fileHead, fileEnd}
+use Rattle.emitter.specs.PartsInner.{deliveryBytes, headBytes, seriesHead, seriesEnd, partnerHead, partnerEnd, originBytes, fileHead, fileEnd}
 
 -- ---- in the order in which they are laid
 

@@ -2,7 +2,7 @@
 use formats::Mark;
 ghost use mathlib.Core.Path.{_≡_};
 ghost use Rattle.text.specs.Decimal.{fixed, plain};
-ghost use Rattle.emitter.specs.Laid.{ahead, Laid};
+ghost use Rattle.emitter.specs.LaidLaws.{ahead, Laid};
 
 // The place n further on, in a list of that length.
 fn ahead(len: usize, m: Mark, n: usize) -> Mark

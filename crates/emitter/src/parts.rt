@@ -13,8 +13,8 @@ ghost use Rattle.message.specs.Bytes.{opening, closing, element, root, counter,
 ghost use Rattle.message.specs.Bytes.{quantityBytes, observationBytes, periodBytes, supplyBytes, inSeries, withPartner};
 ghost use Rattle.message.specs.Valid.{IsPeriod};
 ghost use Rattle.message.specs.ObservationForm.{observed};
-ghost use Rattle.emitter.specs.Laid.{Laid};
-ghost use Rattle.emitter.specs.Parts.{deliveryBytes, headBytes, seriesHead, seriesEnd, partnerHead, partnerEnd, originBytes, fileHead, fileEnd};
+ghost use Rattle.emitter.specs.LaidLaws.{Laid};
+ghost use Rattle.emitter.specs.PartsInner.{deliveryBytes, headBytes, seriesHead, seriesEnd, partnerHead, partnerEnd, originBytes, fileHead, fileEnd};
 
 // Watts as kilowatts with three decimals.
 fn emit_quantity(out: &mut [u8], m: Mark, watts: u64, live: bool) -> Mark

@@ -22,10 +22,10 @@ use Rattle.reports.specs.declared.FileAnswer.{FileAnswer}
 use Rattle.reports.specs.declared.FileAnswer.the-variants.{File}
 use Rattle.cases.specs.declared.Loaded.{Loaded}
 use Rattle.cases.specs.declared.Loaded.the-variants.{Bytes}
-use Rattle.cases.specs.Sparse.{UnhexedBy}
+use Rattle.cases.specs.SparseInner.{UnhexedBy}
 use Rattle.file_vectors.specs.declared.Field.{Field}
 use Rattle.file_vectors.specs.declared.Field.the-variants.{Value}
-use Rattle.file_vectors.specs.Fits.{FileFits, FieldWithin}
+use Rattle.file_vectors.specs.FitsInner.{FileFits, FieldWithin}
 
 -- so many numbers and bytes have room
 record Room (book : Book) (text : List ℕ) (numbers bytes : ℕ) : Type 0 where

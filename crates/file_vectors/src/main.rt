@@ -5,7 +5,7 @@ use reports::FileAnswer;
 use text::Number;
 ghost use Prim.Native.Nat.{_*_, _≤_};
 ghost use lib.ListN.{length};
-ghost use Rattle.file_vectors.specs.Fits.{FieldWithin, FileFits};
+ghost use Rattle.file_vectors.specs.FitsInner.{FieldWithin, FileFits};
 
 // What a line says at a place, and where its next word starts.
 pub enum Field {

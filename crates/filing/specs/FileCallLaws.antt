@@ -20,7 +20,7 @@ use Rattle.refusals.specs.RefusalsLaws.{not-refused, not-short, unless-else}
 use Rattle.volumes.specs.Series.{Kind}
 use Rattle.message.specs.Valid.{isMoment}
 use Rattle.kinds.specs.Numbers.{kindNumbered}
-use Rattle.emitter.specs.Laid.{Laid, laid-over, laid-no-room}
+use Rattle.emitter.specs.LaidLaws.{Laid, laid-over, laid-no-room}
 use Rattle.reports.specs.declared.FileAnswer.{FileAnswer}
 use Rattle.reports.specs.declared.FileAnswer.the-variants.{File, Refused}
 use Rattle.reports.specs.FileRows.{fileText}

@@ -14,14 +14,14 @@ use Rattle.book.specs.Book.{Book, bookOf}
 use Rattle.volumes.specs.QuartersLaws.{flatMap-append}
 use Rattle.volumes.specs.Series.{Kind}
 use Rattle.message.specs.Bytes.{partnerBytes}
-use Rattle.emitter.specs.Parts.{fileHead, fileEnd}
+use Rattle.emitter.specs.PartsInner.{fileHead, fileEnd}
 use Rattle.emitter.specs.PartsLaws.{file-parts}
 use Rattle.reports.specs.FileRows.{partnersOf, fileOf, fileText}
-use Rattle.reports.specs.Registered.{Registered}
-use Rattle.partners.specs.Partners.{pointsIn, partnerColumn, noPartner, Next, partnerIf, partnersFrom}
+use Rattle.reports.specs.RegisteredInner.{Registered}
+use Rattle.partners.specs.PartnersInner.{pointsIn, partnerColumn, noPartner, Next, partnerIf, partnersFrom}
 use Rattle.partners.specs.PartnersLaws.{points-in, partners-next, partners-end}
 use Rattle.formats.specs.declared.Mark.{Mark}
-use Rattle.emitter.specs.Laid.{Laid, ahead}
+use Rattle.emitter.specs.LaidLaws.{Laid, ahead}
 
 -- ---- all partners
 

@@ -14,7 +14,7 @@ use Rattle.book.specs.Judged.{refusalOf}
 use Rattle.volumes.specs.Settlement.{bookRefusal}
 use Rattle.volumes.specs.Sheets.{parties, sheet}
 use Rattle.volumes.specs.SheetsLaws.{sheet-length}
-use Rattle.sheets.specs.Parties.{partiesIn}
+use Rattle.sheets.specs.PartiesInner.{partiesIn}
 use Rattle.sheets.specs.PartiesLaws.{parties-are}
 use Rattle.reports.specs.declared.SheetAnswer.the-variants.{Sheet, Refused}
 use Rattle.refusals.specs.Buffers.{over, afterwards}

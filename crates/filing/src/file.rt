@@ -1,9 +1,9 @@
 // The file call: a receiver's file of a book, and the book's settlement rows.
 use crate::laying::measure_file;
 use crate::laying::write_measured;
-use partners::register::in_role;
 use formats::Mark;
 use kinds::Numbered;
+use partners::register::in_role;
 use reports::FileAnswer;
 use series::Role;
 use series::delivered::fill_volumes;
@@ -17,14 +17,14 @@ ghost use mathlib.Core.Path.{_≡_};
 ghost use mathlib.Core.Option.{none};
 ghost use Prim.Native.Nat.{_*_, _≤_};
 ghost use lib.ListN.{length};
-ghost use Rattle.quarters.specs.Quarters.{longestMonth};
 ghost use Rattle.book.specs.Book.{bookOf};
 ghost use Rattle.volumes.specs.Settlement.{rowWidth, rowCount, bookRefusal};
-ghost use Rattle.settlement.specs.Verdicts.{refusalIn};
+ghost use Rattle.settlement.specs.VerdictsInner.{refusalIn};
 ghost use Rattle.reports.specs.FileRows.{fileText};
-ghost use Rattle.series.specs.Sums.{DeliveredIn};
+ghost use Rattle.series.specs.SumsInner.{DeliveredIn};
 ghost use Rattle.reports.specs.Calls.{FileCalled};
 ghost use Rattle.filing.specs.FileCallLaws.{askedVerdict, FileFilled};
+ghost use Rattle.quarters.specs.QuartersInner.{longestMonth};
 
 // What is asked of an accepted book: a receiver in its role, an ID and a moment in form, and rows that are long enough.
 fn judge_asked(book: &[u8], role: Role, id: &[u8], moment: &[u8], lent: usize) -> Verdict

@@ -1,11 +1,11 @@
 // A receiver's file laid partner by partner: the rows filled, then laid by the writer's own emitter.
-use partners::rows::fill_partner;
-use partners::register::NO_PARTNER;
-use partners::register::next_partner;
 use emitter::Title;
 use emitter::parts::emit_file_end;
 use emitter::parts::emit_file_head;
 use formats::Mark;
+use partners::register::NO_PARTNER;
+use partners::register::next_partner;
+use partners::rows::fill_partner;
 use series::Role;
 ghost use mathlib.Core.Path.{_≡_};
 ghost use mathlib.Core.Bool.{true, false, cond};
@@ -14,13 +14,13 @@ ghost use Prim.Native.Nat.{_*_, _≤_};
 ghost use lib.Dec.{ltb};
 ghost use lib.ListN.{length};
 ghost use Rattle.formats.specs.declared.Mark.the-variants.{At};
-ghost use Rattle.quarters.specs.Quarters.{longestMonth};
 ghost use Rattle.book.specs.Book.{bookOf};
 ghost use Rattle.message.specs.Bytes.{partnerBytes};
-ghost use Rattle.emitter.specs.Laid.{Laid, Stands};
+ghost use Rattle.emitter.specs.LaidLaws.{Laid, Stands};
 ghost use Rattle.reports.specs.FileRows.{partnerNumbers, partnersOf, fileText};
-ghost use Rattle.series.specs.Sums.{DeliveredIn};
-ghost use Rattle.partners.specs.Partners.{partnerIf};
+ghost use Rattle.series.specs.SumsInner.{DeliveredIn};
+ghost use Rattle.partners.specs.PartnersInner.{partnerIf};
+ghost use Rattle.quarters.specs.QuartersInner.{longestMonth};
 
 // What is laid: the place behind it, and how many partners it has.
 pub struct Counted {

@@ -10,7 +10,7 @@ use native.Mathlib.Omega.{arith}
 use borrow.Author.Tests.{le-leb, lt-leb}
 use Rattle.formats.specs.Format.{Res, got, bad, pick}
 use Rattle.formats.specs.Exactly.{exactlyParse}
-use Rattle.formats.specs.Place.{Parsed}
+use Rattle.formats.specs.PlaceInner.{Parsed}
 use Rattle.formats.specs.PlaceLaws.{parsed, not-there}
 use Rattle.formats.specs.declared.Mark.the-variants.{At, No}
 

@@ -7,7 +7,7 @@ pub mod Rising
 pub mod Exactly
 pub mod Numbers
 pub mod Name
-pub mod Run
-pub mod Place
+pub mod RunLaws
+pub mod PlaceInner
 pub mod PlaceLaws
 pub mod ExactlyLaws

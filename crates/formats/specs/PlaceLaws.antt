@@ -23,8 +23,8 @@ use Rattle.formats.specs.Words.{wordsParse}
 use Rattle.formats.specs.Exactly.{exactlyParse, fixedDigits}
 use Rattle.formats.specs.Numbers.{moreParse, numberParse}
 use Rattle.formats.specs.Name.{span, span-split, nameParse}
-use Rattle.formats.specs.Run.{onward}
-use Rattle.formats.specs.Place.{Parsed}
+use Rattle.formats.specs.RunLaws.{onward}
+use Rattle.formats.specs.PlaceInner.{Parsed}
 
 -- ---- marks
 

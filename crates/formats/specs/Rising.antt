@@ -5,7 +5,7 @@ use mathlib.Core.List.{List, [], _∷_, map, flatMap}
 use Prim.Native.Nat.{ℕ, suc}
 use lib.ListN.{length}
 use lib.Dec.{leb}
-use Rattle.integers.specs.Tests.{and-left, and-right, and-both}
+use Rattle.integers.specs.TestsLaws.{and-left, and-right, and-both}
 use Rattle.integers.specs.Rises.{rises}
 use Rattle.integers.specs.All.{All}
 use Rattle.formats.specs.Format.{Format}

@@ -9,7 +9,7 @@ ghost use Rattle.formats.specs.Words.{wordsParse};
 ghost use Rattle.formats.specs.Exactly.{fixedDigits};
 ghost use Rattle.formats.specs.Numbers.{numberParse};
 ghost use Rattle.formats.specs.Name.{nameByte, span, nameParse};
-ghost use Rattle.formats.specs.Place.{Within, Parsed, left};
+ghost use Rattle.formats.specs.PlaceInner.{Within, Parsed, left};
 
 pub enum Mark {
     At(usize),

@@ -1,5 +1,4 @@
 -- "One watt is 30,240 grains; all results are whole grains." (document 01, "Baseline"). Grain is document 01's own term.
-use mathlib.Core.Path.{_≡_}
 use Prim.Native.Nat.{ℕ, _*_, _/_}
 use lib.IntN.{ℤ, pos, _*ℤ_}
 
@@ -20,7 +19,3 @@ wholeWatts g = g / perWatt
 -- what each of n readings adds to their mean, for a watt
 abbrev pub share : ℕ → ℕ
 share n = perWatt / n
-
--- a watt has n whole shares
-pub record Shares (n : ℕ) : Type 0 where
-  pub whole : n * share n ≡ perWatt

@@ -5,9 +5,10 @@ use native.Mathlib.Nat.{mul-assoc, mul-comm, zero-mul, mul-le-mul-right}
 use native.Mathlib.Omega.{arith}
 use lib.Dec.{eqb, eqb→eq}
 use lib.IntN.{ℤ, pos, _*ℤ_}
-use Rattle.integers.specs.Tests.{all-below}
-use Rattle.integers.specs.Z.{Over, over-mul}
-use Rattle.grains.specs.Grains.{perWatt, grains, share, Shares}
+use Rattle.integers.specs.TestsLaws.{all-below}
+use Rattle.integers.specs.ZLaws.{Over, over-mul}
+use Rattle.grains.specs.Grains.{perWatt, grains, share}
+use Rattle.grains.specs.GrainsInner.{Shares}
 
 -- "X 1 to 10"
 pub shares-x : (x : ℕ) → 1 ≤ x → x ≤ 10 → Shares x

@@ -1,2 +1,3 @@
 pub mod Grains
+pub mod GrainsInner
 pub mod GrainsLaws

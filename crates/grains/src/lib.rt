@@ -2,7 +2,8 @@
 // Watts become grains, and grains watts, here and nowhere else.
 ghost use mathlib.Core.Path.{_≡_};
 ghost use Prim.Native.Nat.{_*_, _≤_};
-ghost use Rattle.grains.specs.Grains.{grains, wholeWatts, share, Shares};
+ghost use Rattle.grains.specs.Grains.{grains, wholeWatts, share};
+ghost use Rattle.grains.specs.GrainsInner.{Shares};
 
 pub struct Grains {
     pub count: u64,

@@ -9,8 +9,8 @@ use lib.Dec.{eqb, leb, ltb}
 use lib.ListN.{length}
 use borrow.Author.Tests.{eqb-true, eqb-false, eq-eqb, ne-eqb, ltb-true, ltb-false, leb-true, le-leb}
 use Rattle.integers.specs.Counts.{times}
-use Rattle.integers.specs.Once.{Once}
-use Rattle.integers.specs.Tests.{both, and-both}
+use Rattle.integers.specs.OnceLaws.{Once}
+use Rattle.integers.specs.TestsLaws.{both, and-both}
 use Rattle.integers.specs.Rises.{rises}
 use Rattle.integers.specs.Ascending.{insert, ascending}
 

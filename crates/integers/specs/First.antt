@@ -1,12 +1,7 @@
 -- The first number that a test names, and whether it names one at all, with the laws that a loop over the numbers needs.
-use mathlib.Core.Path.{_≡_, _∙_}
-use mathlib.Core.Logic.{⊎-elim}
-use mathlib.Core.Bool.{Bool, true, false, cond, _||_, or-true}
+use mathlib.Core.Bool.{Bool, false, cond, _||_}
 use mathlib.Core.Option.{Option, none, some}
-use Prim.Native.Nat.{ℕ, zero, suc, _+_, _-_, _≤_, _<_}
-use native.Mathlib.Nat.{eq-or-lt-of-le}
-use native.Mathlib.Omega.{arith}
-use Rattle.integers.specs.Tests.{neither}
+use Prim.Native.Nat.{ℕ, zero, suc}
 
 -- the first of the n numbers a, a + 1, .. that the test names
 unfoldable pub first : (ℕ → Bool) → ℕ → ℕ → Option ℕ
@@ -17,43 +12,3 @@ first test a (suc n) = let later : Option ℕ = first test (suc a) n in cond (te
 unfoldable pub anyBelow : (ℕ → Bool) → ℕ → Bool
 anyBelow test zero = false
 anyBelow test (suc n) = anyBelow test n || test n
-
-module _ (test : ℕ → Bool) (n i : ℕ) where
-  pub first-end : n ≤ i → first test i (n - i) ≡ none
-  unfolding first
-  first-end h = let e : n - i ≡ 0 = omega arith in rw e
-
-  pub first-here : i < n → test i ≡ true → first test i (n - i) ≡ some i
-  unfolding first
-  first-here h t = let e : n - i ≡ suc (n - (i + 1)) = omega arith in rw (e, t)
-
-  pub first-later : i < n → test i ≡ false → first test i (n - i) ≡ first test (i + 1) (n - (i + 1))
-  unfolding first
-  first-later h t = let e : n - i ≡ suc (n - (i + 1)) = omega arith in let s : i + 1 ≡ suc i = omega arith in rw (e, t, s)
-
-pub any-more : (test : ℕ → Bool) (i : ℕ) → test i ≡ false → anyBelow test i ≡ false → anyBelow test (i + 1) ≡ false
-unfolding anyBelow
-any-more test i t e = let s : i + 1 ≡ suc i = omega arith in rw (s, t, e)
-
-pub any-of : (test : ℕ → Bool) (i n : ℕ) → i < n → test i ≡ true → anyBelow test n ≡ true
-unfolding anyBelow
-any-of test i zero h t = absurd (omega arith)
-any-of test i (suc n) h t =
-    ⊎-elim
-    (λ e. let q : n ≡ i = omega arith in rw (q, t) (or-true (anyBelow test i)))
-    (λ l. let s : i < n = omega arith in rw (any-of test i n s t))
-    (eq-or-lt-of-le h)
-
-pub any-next : (test : ℕ → Bool) (i : ℕ) → anyBelow test (i + 1) ≡ (anyBelow test i || test i)
-unfolding anyBelow
-any-next test i = let s : i + 1 ≡ suc i = omega arith in rw s
-
--- where the test names none of k numbers, the first is sought behind them
-pub first-behind : (test : ℕ → Bool) (a k m : ℕ) → anyBelow (λ i. test (a + i)) k ≡ false → first test a (k + m) ≡ first test (a + k) m
-unfolding first anyBelow
-first-behind test a zero m e = let s : 0 + m ≡ m = omega arith in let t : a + 0 ≡ a = omega arith in rw (s, t)
-first-behind test a (suc k) m e =
-    let n = neither (anyBelow (λ i. test (a + i)) k) (test (a + k)) e in
-    let s : suc k + m ≡ k + suc m = omega arith in
-    let t : a + suc k ≡ suc (a + k) = omega arith in
-    rw (s, t) (first-behind test a k (suc m) (n .0) ∙ rw (n .1))

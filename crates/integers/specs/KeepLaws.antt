@@ -9,9 +9,10 @@ use lib.Dec.{leb}
 use lib.ListN.{length}
 use borrow.Author.Tests.{leb-true}
 use Rattle.integers.specs.Sums.{Adding, sumBy}
-use Rattle.integers.specs.Tests.{both, and-both}
-use Rattle.integers.specs.Rises.{rises, rises-earlier}
+use Rattle.integers.specs.TestsLaws.{both, and-both}
+use Rattle.integers.specs.Rises.{rises}
 use Rattle.integers.specs.Keep.{keep, isSome}
+use Rattle.integers.specs.RisesLaws.{rises-earlier}
 
 module _ {A : Type 0} (test : A → Bool) where
   pub keep-length : (l : List A) → length (keep test l) ≤ length l

@@ -1,20 +1,10 @@
 -- Numbers that rise strictly.
-use mathlib.Core.Path.{_≡_, refl}
 use mathlib.Core.Bool.{Bool, true, _&&_}
 use mathlib.Core.List.{List, [], _∷_}
-use Prim.Native.Nat.{ℕ, suc, _≤_}
-use native.Mathlib.Omega.{arith}
+use Prim.Native.Nat.{ℕ, suc}
 use lib.Dec.{leb}
-use borrow.Author.Tests.{leb-true, le-leb}
-use Rattle.integers.specs.Tests.{both, and-both}
 
 -- numbers from `low` on, each greater than the one before
 unfoldable pub rises : ℕ → List ℕ → Bool
 rises low [] = true
 rises low (n ∷ l) = leb low n && rises (suc n) l
-
--- numbers that rise from a place on rise from an earlier one on
-pub rises-earlier : (low n : ℕ) (l : List ℕ) → low ≤ n → rises n l ≡ true → rises low l ≡ true
-unfolding rises
-rises-earlier low n [] h e = refl
-rises-earlier low n (a ∷ l) h e = let b = both (leb n a) (rises (suc a) l) e in and-both (le-leb low a (omega (arith, leb-true n a (b .0)))) (b .1)

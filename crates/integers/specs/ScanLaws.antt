@@ -7,12 +7,12 @@ use Prim.Native.Nat.{ℕ, suc, _≤_, _<_}
 use native.Mathlib.Omega.{arith}
 use lib.Dec.{leb}
 use borrow.Author.Tests.{leb-true, leb-false, le-leb, lt-leb}
-use Rattle.integers.specs.Counts.{times-mem}
-use Rattle.integers.specs.Tests.{both}
+use Rattle.integers.specs.TestsLaws.{both}
 use Rattle.integers.specs.Rises.{rises}
 use Rattle.integers.specs.Keep.{keep}
 use Rattle.integers.specs.Ascending.{ascending}
 use Rattle.integers.specs.AscendingLaws.{ascending-rises, ascending-once}
+use Rattle.integers.specs.CountsLaws.{times-mem}
 
 -- the least number of a list from a place on
 pub record Least (low m : ℕ) (l : List ℕ) : Type 0 where

@@ -3,9 +3,10 @@ use quarters::Calendar;
 ghost use mathlib.Core.Path.{_≡_};
 ghost use Prim.Native.Nat.{_+_, _*_, _≤_};
 ghost use lib.ListN.{length};
-ghost use Rattle.quarters.specs.Quarters.{quarters, Ranged};
+ghost use Rattle.quarters.specs.Quarters.{quarters};
 ghost use Rattle.book.specs.Header.{headerFields, headerGood, isPair, sizes, adjoining};
 ghost use Rattle.judging.specs.HeaderInner.{placesOf};
+ghost use Rattle.quarters.specs.QuartersInner.{Ranged};
 
 fn header_fields(book: &[u8]) -> bool
     requires { ⌜ 56 ≤ length (now book) ⌝ }

@@ -6,10 +6,11 @@ ghost use mathlib.Core.Path.{_≡_};
 ghost use mathlib.Core.Bool.{true};
 ghost use Prim.Native.Nat.{_*_, _≤_};
 ghost use lib.ListN.{length};
-ghost use Rattle.quarters.specs.Quarters.{quartersOf, Ranged};
+ghost use Rattle.quarters.specs.Quarters.{quartersOf};
 ghost use Rattle.book.specs.Header.{sizes, adjoining, calendarSection, pairSection, registerSection, readingSection, engagementSection};
 ghost use Rattle.book.specs.Judged.{rowsRefusal, sectionsRefusal, refusalOf};
 ghost use Rattle.judging.specs.JudgedInner.{sentBack};
+ghost use Rattle.quarters.specs.QuartersInner.{Ranged};
 
 // The rows and the readings: 5 to 7.
 fn judge_rows(

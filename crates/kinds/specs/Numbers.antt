@@ -4,8 +4,6 @@ use mathlib.Core.Option.{Option, none, some}
 use Prim.Native.Nat.{ℕ, zero, suc}
 use Rattle.kinds.specs.declared.Kind.{Kind}
 use Rattle.kinds.specs.declared.Kind.the-variants.{Toe01, Toe02, Toe03}
-use Rattle.kinds.specs.declared.Numbered.{Numbered}
-use Rattle.kinds.specs.declared.Numbered.the-variants.{Of, Unknown}
 
 -- "kind 01 to 03"
 abbrev pub kindNumbered : ℕ → Option Kind
@@ -19,11 +17,6 @@ abbrev pub kindNumber : Kind → ℕ
 kindNumber Toe01 = 1
 kindNumber Toe02 = 2
 kindNumber Toe03 = 3
-
--- the kind in an answer
-abbrev pub kindIn : Numbered → Option Kind
-kindIn (Of kind) = some kind
-kindIn Unknown = none
 
 -- whether there is one
 abbrev pub isThere : Option Kind → Bool

@@ -1,6 +1,7 @@
 // The kinds of file, TOE01, TOE02 and TOE03, and their numbers.
 ghost use mathlib.Core.Path.{_≡_};
-ghost use Rattle.kinds.specs.Numbers.{kindNumbered, kindNumber, kindIn};
+ghost use Rattle.kinds.specs.Numbers.{kindNumbered, kindNumber};
+ghost use Rattle.kinds.specs.NumbersInner.{kindIn};
 
 pub enum Kind {
     Toe01,

@@ -11,7 +11,7 @@ use native.Mathlib.Nat.{zero-add}
 use native.Mathlib.Omega.{arith}
 use borrow.Author.Tests.{leb-true, le-leb, lt-leb}
 use Rattle.text.specs.Decimal.{fixed, plain}
-use Rattle.text.specs.Written.{written}
+use Rattle.text.specs.WrittenInner.{written}
 use Rattle.formats.specs.Format.{Res, got, bad}
 use Rattle.refusals.specs.Refusals.{Refusal, refused}
 use Rattle.refusals.specs.Buffers.{over, afterwards}

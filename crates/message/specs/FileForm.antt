@@ -7,7 +7,7 @@ use lib.ListN.{length}
 use lib.Dec.{leb}
 use native.Mathlib.Omega.{arith}
 use borrow.Author.Tests.{leb-true, le-leb}
-use Rattle.integers.specs.Tests.{and-left, and-right, and-both}
+use Rattle.integers.specs.TestsLaws.{and-left, and-right, and-both}
 use Rattle.text.specs.Ascii.{bytes}
 use Rattle.text.specs.Tag.{begins}
 use Rattle.text.specs.Decimal.{fixed, plain}
@@ -30,7 +30,8 @@ use Rattle.message.specs.Bytes.{opening, ending, closing, root, counter,
 use Rattle.message.specs.Valid.{isReal, isMoment, periods, IsFile}
 use Rattle.message.specs.ObservationForm.{plainNumber}
 use Rattle.message.specs.PartnerForm.{partnerForm, partner-bytes}
-use Rattle.message.specs.Months.{nextMonths, months-to, months-from, years, one-month, month-one}
+use Rattle.message.specs.Months.{nextMonths}
+use Rattle.message.specs.MonthsLaws.{months-to, months-from, years, one-month, month-one}
 
 -- ---- the kind, by the root's name
 

@@ -6,8 +6,9 @@ pub mod SeriesForm
 pub mod SeriesListForm
 pub mod PartnerForm
 pub mod Months
+pub mod MonthsLaws
 pub mod FileForm
-pub mod CaseF
+pub mod CaseFLaws
 pub mod Group
 pub mod GroupLaws
 pub mod Keys
@@ -22,4 +23,4 @@ pub mod CallsLaws
 pub mod Exact
 pub mod ExactLaws
 pub mod SizeLaws
-pub mod CaseFRead
+pub mod CaseFReadLaws

@@ -7,7 +7,7 @@ use lib.Dec.{leb, ltb}
 use lib.ListN.{length, drop}
 use native.Mathlib.Omega.{arith}
 use borrow.Author.Tests.{leb-true, le-leb, ltb-true, lt-ltb}
-use Rattle.integers.specs.Tests.{and-left, and-right, and-both}
+use Rattle.integers.specs.TestsLaws.{and-left, and-right, and-both}
 use Rattle.integers.specs.Rises.{rises}
 use Rattle.integers.specs.All.{All}
 use Rattle.text.specs.Ascii.{bytes}

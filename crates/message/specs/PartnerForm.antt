@@ -5,7 +5,7 @@ use mathlib.Core.List.{List, [], _∷_, _++_, append-assoc, append-nil, flatMap,
 use Prim.Native.Nat.{ℕ, _≤_, _<_}
 use lib.ListN.{length}
 use native.Mathlib.Omega.{arith}
-use Rattle.integers.specs.All.{All, all-map}
+use Rattle.integers.specs.All.{All}
 use Rattle.text.specs.Decimal.{fixed, plain}
 use Rattle.formats.specs.Format.{Format}
 use Rattle.formats.specs.Words.{wordAt, words}
@@ -18,6 +18,7 @@ use Rattle.message.specs.Bytes.{opening, ending, closing, group, partner
 use Rattle.message.specs.Valid.{monthOf, IsSeries, OneSupply, IsPartner}
 use Rattle.message.specs.SeriesForm.{counted, counted-to, counted-from, apart-supplies, ownSeries, Supplied, sharedSeries}
 use Rattle.message.specs.SeriesListForm.{agree, seriesList}
+use Rattle.integers.specs.AllLaws.{all-map}
 
 -- a valid partner whose series are of the month that was seen
 pub record Partnered (k : Kind) (seen : ℕ × ℕ) (p : Partner) : Type 0 where

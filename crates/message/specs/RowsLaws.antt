@@ -7,15 +7,17 @@ use lib.ListN.{length, length-append, length-map}
 use lib.Dec.{eqb}
 use native.Mathlib.Omega.{arith}
 use borrow.Author.Tests.{eqb-true}
-use Rattle.integers.specs.Tests.{and-left, and-right}
+use Rattle.integers.specs.TestsLaws.{and-left, and-right}
 use Rattle.integers.specs.Rises.{rises}
-use Rattle.integers.specs.All.{All, all-map, all-of, all-left, all-right, map-all}
+use Rattle.integers.specs.All.{All}
 use Rattle.kinds.specs.declared.Kind.{Kind}
 use Rattle.message.specs.Contents.{Observation, TimeSeries, Partner, place, number}
 use Rattle.message.specs.Valid.{monthOf, periods, firstOf, IsSeries, IsPartner}
 use Rattle.message.specs.Keys.{numberKeys, pairKeys}
-use Rattle.message.specs.Group.{group, spread, spread-group, group-spread, rising-groups, first-group}
+use Rattle.message.specs.Group.{group, spread}
 use Rattle.message.specs.Rows.{Row, seriesRows, partnerRows, rowsOf, seriesOf, partnerOf, partnersOf}
+use Rattle.integers.specs.AllLaws.{all-map, all-of, all-left, all-right, map-all}
+use Rattle.message.specs.GroupLaws.{spread-group, group-spread, rising-groups, first-group}
 
 map-undo : {A B : Type 0} (f : A → B) (g : B → A) (l : List A) → All (λ a. g (f a) ≡ a) l → map g (map f l) ≡ l
 unfolding All

@@ -1,19 +1,17 @@
 -- The format of a time series, with its supply direction (TOE01, TOE02) or without (TOE03).
 use mathlib.Core.Path.{_≡_, refl, sym, ap}
-use mathlib.Core.Bool.{Bool, true, false}
 use mathlib.Core.List.{List, [], _∷_, _++_, append-assoc, flatMap}
-use Prim.Native.Nat.{ℕ, zero, suc, _≤_}
-use lib.Dec.{leb, ltb}
+use Prim.Native.Nat.{ℕ, _≤_}
+use lib.Dec.{ltb}
 use lib.ListN.{length}
 use native.Mathlib.Omega.{arith}
-use borrow.Author.Tests.{leb-true, leb-false, ltb-true, lt-ltb}
+use borrow.Author.Tests.{ltb-true, lt-ltb}
 use Rattle.text.specs.Ascii.{bytes}
 use Rattle.text.specs.Decimal.{plain}
 use Rattle.text.specs.Tag.{begins}
 use Rattle.formats.specs.Format.{Format}
 use Rattle.formats.specs.Words.{Apart, apart-two, wordAt, words}
 use Rattle.formats.specs.Combine.{strip, pre, post, seq, seqBy, only, Recast, recast}
-use Rattle.quarters.specs.Quarters.{longestMonth}
 use Rattle.quarters.specs.QuartersLaws.{month-most}
 use Rattle.kinds.specs.declared.Kind.{Kind}
 use Rattle.kinds.specs.declared.Kind.the-variants.{Toe03}
@@ -21,6 +19,7 @@ use Rattle.message.specs.Contents.{Observation, TimeSeries}
 use Rattle.message.specs.Bytes.{opening, ending, closing, element, observationBytes, periodBytes, supplies, deliveries, supplyBytes, volumeBytes, seriesBytes, inSeries}
 use Rattle.message.specs.Valid.{most, IsVolume, IsSeries, IsCounter, lastPosition}
 use Rattle.message.specs.ObservationForm.{plainNumber, observations, observations-ok, ok-observations, period}
+use Rattle.quarters.specs.QuartersInner.{longestMonth}
 
 -- ---- a time series
 

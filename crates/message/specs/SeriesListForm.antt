@@ -5,7 +5,7 @@ use mathlib.Core.List.{List, [], _∷_, flatMap, map}
 use Prim.Native.Nat.{ℕ}
 use lib.Dec.{eqb}
 use lib.ListN.{length}
-use Rattle.integers.specs.Tests.{and-left, and-right, and-both}
+use Rattle.integers.specs.TestsLaws.{and-left, and-right, and-both}
 use Rattle.integers.specs.Rises.{rises}
 use Rattle.integers.specs.All.{All}
 use Rattle.text.specs.Ascii.{bytes}

@@ -9,7 +9,7 @@ use lib.Seq.{drop-cons, getD-append-add}
 use native.Mathlib.Omega.{arith}
 use native.Mathlib.Nat.{add-zero, add-suc}
 use borrow.Author.Tests.{eqb-true, eq-eqb}
-use Rattle.integers.specs.Tests.{and-left, and-right, and-both}
+use Rattle.integers.specs.TestsLaws.{and-left, and-right, and-both}
 use Rattle.message.specs.Rows.{Row, rowNumbers, numbers, rowsFrom, rowsIn, zeros, inSixes}
 
 -- ---- numbers in sixes

@@ -7,14 +7,13 @@ use lib.Dec.{leb}
 use lib.ListN.{length, length-append, length-map}
 use native.Mathlib.Omega.{arith}
 use borrow.Author.Tests.{leb-true, leb-false}
-use Rattle.integers.specs.Tests.{and-left, and-right}
+use Rattle.integers.specs.TestsLaws.{and-left, and-right}
 use Rattle.integers.specs.Rises.{rises}
-use Rattle.integers.specs.All.{All, all-map}
+use Rattle.integers.specs.All.{All}
 use Rattle.text.specs.Ascii.{bytes}
 use Rattle.text.specs.Decimal.{count, fixed, plain}
 use Rattle.text.specs.DecimalLaws.{above-none, below-within, length-fixed, length-plain, plain-has}
 use Rattle.formats.specs.Words.{wordAt}
-use Rattle.quarters.specs.Quarters.{longestMonth}
 use Rattle.moments.specs.Moments.{periodStart, periodEnd}
 use Rattle.moments.specs.MomentsLaws.{length-moment}
 use Rattle.moments.specs.Ids.{isTransactionId}
@@ -28,6 +27,8 @@ use Rattle.message.specs.SeriesForm.{position-small}
 use Rattle.message.specs.FileForm.{moment-length}
 use Rattle.message.specs.Group.{spread}
 use Rattle.message.specs.Rows.{seriesRows, partnerRows, rowsOf}
+use Rattle.integers.specs.AllLaws.{all-map}
+use Rattle.quarters.specs.QuartersInner.{longestMonth}
 
 -- ---- numbers
 

@@ -4,7 +4,7 @@ use kinds::Kind;
 ghost use mathlib.Core.Path.{_≡_};
 ghost use lib.ListN.{take};
 ghost use Rattle.formats.specs.Exactly.{exactlyParse};
-ghost use Rattle.formats.specs.Place.{Within, Parsed, left};
+ghost use Rattle.formats.specs.PlaceInner.{Within, Parsed, left};
 ghost use Rattle.moments.specs.Moments.{momentBytes};
 ghost use Rattle.message.specs.Valid.{isMoment, lastPosition};
 ghost use Rattle.message.specs.ObservationForm.{isPeriod};

@@ -1,7 +1,7 @@
 -- Moments: their bytes, which are real, how bytes are judged, the instant, the period of a month (document 01, "The file").
 use mathlib.Core.Bool.{Bool, true, false, _&&_}
 use mathlib.Core.List.{List, _++_}
-use Prim.Native.Nat.{ℕ, _+_, _-_, _*_}
+use Prim.Native.Nat.{ℕ, _+_, _-_}
 use lib.Dec.{eqb, leb}
 use lib.ListN.{length}
 use Rattle.text.specs.Ascii.{bytes}
@@ -9,7 +9,7 @@ use Rattle.text.specs.Decimal.{fixed, fixedAt}
 use Rattle.text.specs.Tag.{begins}
 use Rattle.text.specs.declared.Number.{Number}
 use Rattle.text.specs.declared.Number.the-variants.{Value, NotDigits}
-use Rattle.calendar.specs.Dates.{monthLength, dayNumber, offsetHours, nextYear, nextMonth}
+use Rattle.calendar.specs.Dates.{monthLength, offsetHours, nextYear, nextMonth}
 use Rattle.moments.specs.declared.Moment.{Moment}
 use Rattle.moments.specs.declared.MomentRead.{MomentRead}
 use Rattle.moments.specs.declared.MomentRead.the-variants.{Real, Malformed}
@@ -72,17 +72,6 @@ pickRead false r = Malformed
 -- moment, and the bytes of each real moment are read as it (`judged-is`, `is-judged` of MomentsLaws)
 unfoldable pub momentOf : List ℕ → MomentRead
 momentOf s = pickRead (eqb (length s) 29 && real (parts s) && begins (momentBytes (parts s)) s) (Real (parts s))
-
--- milliseconds from the start of day 0, of a day number and a time of that day
-abbrev pub millis : ℕ → ℕ → ℕ → ℕ → ℕ → ℕ
-millis days hour minute second milli = (((days * 24 + hour) * 60 + minute) * 60 + second) * 1000 + milli
-
--- what the clock shows, and the instant, "its offset taken off" (1 and 2 hours are less than a day, so nothing is cut off)
-unfoldable pub clock : Moment → ℕ
-clock m = millis (dayNumber (m .year) (m .month) (m .day)) (m .hour) (m .minute) (m .second) (m .milli)
-
-unfoldable pub instant : Moment → ℕ
-instant m = clock m - m .offset * 3600000
 
 -- "PeriodStart", "PeriodEnd": the first of the month and of the next one, each with its own date's offset
 unfoldable pub periodStart : ℕ → ℕ → Moment

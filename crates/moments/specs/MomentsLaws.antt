@@ -12,12 +12,14 @@ use Rattle.text.specs.Decimal.{above, fixed, fixedAt}
 use Rattle.text.specs.DecimalLaws.{digits-fixed, value-fixed}
 use Rattle.text.specs.Tag.{begins}
 use Rattle.text.specs.TagLaws.{begins-append, begins-split}
-use Rattle.text.specs.Written.{written}
-use Rattle.calendar.specs.Dates.{IsMonth, monthLength, dayNumber, nextYear, nextMonth}
+use Rattle.text.specs.WrittenInner.{written}
+use Rattle.calendar.specs.Dates.{monthLength, dayNumber, nextYear, nextMonth}
 use Rattle.calendar.specs.DatesLaws.{is-month, month-length, first-offset}
-use Rattle.moments.specs.Moments.{momentBytes, dateBytes, timeBytes, tailBytes, within, realDate, realTime, real, valueAt, parts, momentOf, pickRead, clock, instant, periodStart, periodEnd}
+use Rattle.moments.specs.Moments.{momentBytes, dateBytes, timeBytes, tailBytes, within, realDate, realTime, real, valueAt, parts, momentOf, pickRead, periodStart, periodEnd}
 use Rattle.moments.specs.declared.Moment.{Moment}
 use Rattle.moments.specs.declared.MomentRead.the-variants.{Real, Malformed}
+use Rattle.calendar.specs.DatesInner.{IsMonth}
+use Rattle.moments.specs.MomentsInner.{clock, instant}
 
 -- the form has 29 bytes
 pub length-moment : (m : Moment) → length (momentBytes m) ≡ 29

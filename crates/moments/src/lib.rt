@@ -10,9 +10,10 @@ ghost use mathlib.Core.Path.{_≡_};
 ghost use mathlib.Core.Bool.{true};
 ghost use Prim.Native.Nat.{_+_, _≤_};
 ghost use lib.ListN.{length};
-ghost use Rattle.text.specs.Written.{Wrote};
-ghost use Rattle.calendar.specs.Dates.{IsMonth};
-ghost use Rattle.moments.specs.Moments.{dateBytes, timeBytes, tailBytes, momentBytes, within, realDate, realTime, real, valueAt, parts, momentOf, millis, instant, periodStart, periodEnd};
+ghost use Rattle.text.specs.WrittenInner.{Wrote};
+ghost use Rattle.moments.specs.Moments.{dateBytes, timeBytes, tailBytes, momentBytes, within, realDate, realTime, real, valueAt, parts, momentOf, periodStart, periodEnd};
+ghost use Rattle.calendar.specs.DatesInner.{IsMonth};
+ghost use Rattle.moments.specs.MomentsInner.{millis, instant};
 
 // A date, a time of day and an offset in hours.
 pub struct Moment {

@@ -10,12 +10,12 @@ use lib.Seq.{take-all}
 use native.Mathlib.Nat.{zero-add}
 use native.Mathlib.Omega.{arith}
 use Rattle.text.specs.Decimal.{plain}
-use Rattle.text.specs.Written.{Wrote}
+use Rattle.text.specs.WrittenInner.{Wrote}
 use Rattle.formats.specs.Format.{got}
 use Rattle.refusals.specs.Refusals.{Refusal}
 use Rattle.requests.specs.declared.Asked.{Asked}
 use Rattle.requests.specs.declared.Request.the-variants.{Line, NoLine}
-use Rattle.requests.specs.Line.{Words, line, asked, requestOf}
+use Rattle.requests.specs.Line.{Words, line}
 use Rattle.requests.specs.LineLaws.{placed, found, found-none}
 use Rattle.book.specs.Book.{bookOf}
 use Rattle.volumes.specs.Settlement.{rows, rowCount}
@@ -27,6 +27,7 @@ use Rattle.message.specs.SizeLaws.{few-digits}
 use Rattle.reports.specs.declared.FileAnswer.{FileAnswer}
 use Rattle.reports.specs.declared.FileAnswer.the-variants.{File, Refused}
 use Rattle.outputs.specs.Output.{inputMost, rowsLent, fileLent, refusedLine, fileFor, refusalFor, judged, fileIn, rowsIn, output, Printed}
+use Rattle.requests.specs.LineInner.{asked, requestOf}
 
 -- a number of 64 bits has at most 20 digits
 pub digits-few : (v : ℕ) → v < 2 ^ 64 → length (plain v) ≤ 20

@@ -5,10 +5,10 @@ use requests::Request;
 ghost use mathlib.Core.Path.{_≡_};
 ghost use Prim.Native.Nat.{_≤_};
 ghost use lib.ListN.{length};
-ghost use Rattle.text.specs.Written.{Wrote};
-ghost use Rattle.requests.specs.Line.{requestOf};
+ghost use Rattle.text.specs.WrittenInner.{Wrote};
 ghost use Rattle.requests.specs.declared.Request.the-variants.{Line};
 ghost use Rattle.outputs.specs.Output.{inputMost, rowsLent, fileLent, refusedLine, CutAlike, Printed};
+ghost use Rattle.requests.specs.LineInner.{requestOf};
 
 // Writes `refused NUMBER ITEM` and a line feed; answers how many bytes.
 pub fn put_refused(out: &mut [u8], number: u64, item: u64) -> usize

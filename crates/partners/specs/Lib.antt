@@ -1,6 +1,6 @@
-pub mod Partners
+pub mod PartnersInner
 pub mod PartnersLaws
-pub mod Observations
+pub mod ObservationsInner
 pub mod ObservationsLaws
-pub mod PartnerRows
+pub mod PartnerRowsInner
 pub mod PartnerRowsLaws

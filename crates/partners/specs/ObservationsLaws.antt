@@ -6,11 +6,9 @@ use native.Mathlib.Numerals.{add-one}
 use native.Mathlib.Omega.{arith}
 use lib.ListN.{length, getD}
 use borrow.Author.Tests.{lt-ltb}
-use Rattle.integers.specs.Ranges.{range, range-more}
-use Rattle.calendar.specs.Dates.{calendarDays}
-use Rattle.calendar.specs.DatesLaws.{month-length}
+use Rattle.integers.specs.Ranges.{range}
 use Rattle.quarters.specs.declared.Calendar.{Calendar}
-use Rattle.quarters.specs.Quarters.{Ranged, monthQuarters, longestMonth}
+use Rattle.quarters.specs.Quarters.{monthQuarters}
 use Rattle.quarters.specs.QuartersLaws.{month-quarters-most}
 use Rattle.book.specs.Header.{calendarOf}
 use Rattle.book.specs.Book.{Book, bookOf}
@@ -24,10 +22,13 @@ use Rattle.message.specs.Valid.{IsPeriod}
 use Rattle.message.specs.ObservationForm.{observed}
 use Rattle.integers.specs.Keep.{keep}
 use Rattle.integers.specs.KeepLaws.{keep-append}
-use Rattle.reports.specs.FileRows.{isWritten, observationBy, observationsBy, observationsOf}
-use Rattle.series.specs.Sums.{byPosition, cellAt, DeliveredIn}
+use Rattle.reports.specs.FileRows.{isWritten, observationBy, observationsBy}
+use Rattle.series.specs.SumsInner.{byPosition, cellAt, DeliveredIn}
 use Rattle.series.specs.SumsLaws.{parts-of, cell-is}
-use Rattle.partners.specs.Observations.{observationIf, observationsIn}
+use Rattle.partners.specs.ObservationsInner.{observationIf, observationsIn}
+use Rattle.integers.specs.RangesLaws.{range-more}
+use Rattle.quarters.specs.QuartersInner.{Ranged, longestMonth}
+use Rattle.reports.specs.FileRowsInner.{observationsOf}
 
 -- ---- one position
 

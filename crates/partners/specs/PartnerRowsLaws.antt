@@ -11,17 +11,16 @@ use lib.ListN.{length, getD, drop, set, length-append, length-map}
 use lib.Seq.{sets, length-sets, sets-eq, getD-append-add}
 use lib.Dec.{ltb}
 use borrow.Author.Tests.{le-leb, le-ltb, lt-ltb}
-use Rattle.integers.specs.Counts.{times-mem}
-use Rattle.integers.specs.Tests.{and-both}
-use Rattle.integers.specs.Ranges.{range, length-range}
+use Rattle.integers.specs.TestsLaws.{and-both}
+use Rattle.integers.specs.Ranges.{range}
 use Rattle.integers.specs.Rises.{rises}
-use Rattle.integers.specs.All.{All, each-all, all-each, all-append}
+use Rattle.integers.specs.All.{All}
 use Rattle.integers.specs.Keep.{keep, isSome}
 use Rattle.integers.specs.KeepLaws.{keep-mem, mem-keep, keep-rises, keep-length}
 use Rattle.integers.specs.Ascending.{ascending}
 use Rattle.integers.specs.AscendingLaws.{ascending-once}
 use Rattle.message.specs.Keys.{numberKeys}
-use Rattle.message.specs.Group.{group, first-group}
+use Rattle.message.specs.Group.{group}
 use Rattle.message.specs.Rows.{partnerOf as regroupedOne}
 use Rattle.book.specs.declared.Supply.{Supply}
 use Rattle.book.specs.declared.Supply.the-variants.{OffTake, Injection}
@@ -30,7 +29,7 @@ use Rattle.book.specs.declared.Direction.the-variants.{Up, Down}
 use Rattle.book.specs.Book.{Book}
 use Rattle.volumes.specs.declared.Series.{Series}
 use Rattle.volumes.specs.Series.{Kind, grainsAt, seriesOf}
-use Rattle.volumes.specs.Sound.{Sound}
+use Rattle.volumes.specs.SoundInner.{Sound}
 use Rattle.volumes.specs.Settlement.{rows}
 use Rattle.settlement.specs.StoresLaws.{sets-append}
 use Rattle.message.specs.Contents.{Observation, TimeSeries, Partner, number}
@@ -42,17 +41,22 @@ use Rattle.message.specs.Rows.{Row, rowNumbers, numbers, rowsFrom, seriesRows, 
 use Rattle.message.specs.RowsLaws.{partners-undo}
 use Rattle.message.specs.SixesLaws.{length-numbers}
 use Rattle.volumes.specs.QuartersLaws.{flatMap-append}
-use Rattle.writer.specs.Rows.{rowAt, Paired}
-use Rattle.writer.specs.Contents.{partnersIn, Writable}
-use Rattle.reports.specs.FileRows.{supplyNumber, deliveryNumber, directions, partnerNumbers, observationsOf, isWritten, partnerAt, partnersOf, Volumes, observationsBy, timeSeriesBy, partnerBy, partnersBy}
-use Rattle.partners.specs.Partners.{partnerIf, partnerColumn, noPartner, Next}
-use Rattle.series.specs.Sums.{cellAt}
-use Rattle.partners.specs.Observations.{observationIf, observationsIn}
+use Rattle.writer.specs.ContentsInner.{partnersIn, Writable}
+use Rattle.reports.specs.FileRows.{supplyNumber, deliveryNumber, directions, partnerNumbers, isWritten, partnersOf, Volumes, observationsBy, timeSeriesBy, partnerBy, partnersBy}
+use Rattle.partners.specs.PartnersInner.{partnerIf, partnerColumn, noPartner, Next}
+use Rattle.series.specs.SumsInner.{cellAt}
+use Rattle.partners.specs.ObservationsInner.{observationIf, observationsIn}
 use Rattle.partners.specs.ObservationsLaws.{no-observation, one-observation, observations-none, observations-more}
-use Rattle.reports.specs.Registered.{Registered}
+use Rattle.reports.specs.RegisteredInner.{Registered}
 use Rattle.reports.specs.FormLaws.{partners-valid}
-use Rattle.partners.specs.PartnerRows.{rowOf, rowsBy, seriesRowsOf, partnerRowsOf, Filled, seriesRowsBy, partnerRowsBy}
+use Rattle.partners.specs.PartnerRowsInner.{rowOf, rowsBy, seriesRowsOf, partnerRowsOf, Filled, seriesRowsBy, partnerRowsBy}
 use Rattle.quarters.specs.Quarters.{monthQuarters}
+use Rattle.integers.specs.AllLaws.{each-all, all-each, all-append}
+use Rattle.integers.specs.CountsLaws.{times-mem}
+use Rattle.integers.specs.RangesLaws.{length-range}
+use Rattle.message.specs.GroupLaws.{first-group}
+use Rattle.reports.specs.FileRowsInner.{observationsOf, partnerAt}
+use Rattle.writer.specs.RowsInner.{rowAt, Paired}
 
 -- ---- lists
 

@@ -10,7 +10,7 @@ use lib.Dec.{leb, ltb}
 use borrow.Author.Count.{below-more}
 use borrow.Author.Tests.{leb-true, leb-false, ltb-true, ltb-false, le-leb}
 use Rattle.integers.specs.Ranges.{range}
-use Rattle.integers.specs.Tests.{both}
+use Rattle.integers.specs.TestsLaws.{both}
 use Rattle.integers.specs.Keep.{keep, isSome}
 use Rattle.integers.specs.KeepLaws.{mem-keep, keep-mem}
 use Rattle.integers.specs.ScanLaws.{next-least, all-from, no-next}
@@ -19,18 +19,19 @@ use Rattle.book.specs.Header.{registerSection}
 use Rattle.book.specs.Register.{pointAt}
 use Rattle.book.specs.Judged.{refusalOf}
 use Rattle.book.specs.Book.{Book, bookOf}
-use Rattle.settlement.specs.Sections.{pointCountIn}
+use Rattle.settlement.specs.SectionsInner.{pointCountIn}
 use Rattle.settlement.specs.SectionsLaws.{points-counted}
 use Rattle.volumes.specs.Series.{Kind, Toe01, Toe02, Toe03, receiverOf, partnerOf}
 use Rattle.volumes.specs.SoundLaws.{mem-range}
 use Rattle.volumes.specs.UsedLaws.{range-mem}
 use Rattle.message.specs.Contents.{Partner}
-use Rattle.reports.specs.FileRows.{isTaken, partnerNumbers, partnerAt, partnersOf, partnersBy}
-use Rattle.reports.specs.Registered.{NumbersFit, Registered}
+use Rattle.reports.specs.FileRows.{isTaken, partnerNumbers, partnersOf, partnersBy}
+use Rattle.reports.specs.RegisteredInner.{NumbersFit, Registered}
 use Rattle.reports.specs.Roles.{receivers}
 use Rattle.reports.specs.Calls.{stands}
 use Rattle.reports.specs.CallsLaws.{stands-mem, mem-stands}
-use Rattle.partners.specs.Partners.{pointsIn, partnerColumn, noPartner, Next, partnerIf, partnersFrom}
+use Rattle.partners.specs.PartnersInner.{pointsIn, partnerColumn, noPartner, Next, partnerIf, partnersFrom}
+use Rattle.reports.specs.FileRowsInner.{partnerAt}
 
 -- ---- the points of the register
 

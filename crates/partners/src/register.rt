@@ -3,11 +3,12 @@ use book::Point;
 use series::Role;
 ghost use mathlib.Core.Path.{_≡_};
 ghost use mathlib.Core.List.{map};
-ghost use Rattle.volumes.specs.Series.{Told, receiverOf};
+ghost use Rattle.volumes.specs.Series.{receiverOf};
 ghost use Rattle.reports.specs.FileRows.{isTaken};
 ghost use Rattle.reports.specs.Calls.{stands};
-ghost use Rattle.partners.specs.Partners.{pointsIn, partnerColumn, Next};
+ghost use Rattle.partners.specs.PartnersInner.{pointsIn, partnerColumn, Next};
 ghost use Rattle.partners.specs.PartnersLaws.{nearer};
+ghost use Rattle.volumes.specs.SeriesInner.{Told};
 
 // Partner numbers are company numbers and EANs: all are below this one.
 pub const NO_PARTNER: u64 = 1000000000000000000;

@@ -8,13 +8,13 @@ ghost use mathlib.Core.Path.{_≡_};
 ghost use mathlib.Core.List.{_∷_, []};
 ghost use Prim.Native.Nat.{_+_, _*_, _≤_};
 ghost use lib.ListN.{length};
-ghost use Rattle.quarters.specs.Quarters.{longestMonth};
 ghost use Rattle.book.specs.Book.{bookOf};
 ghost use Rattle.message.specs.ObservationForm.{observed};
 ghost use Rattle.reports.specs.FileRows.{supplyNumber, deliveryNumber};
-ghost use Rattle.series.specs.Sums.{DeliveredIn};
-ghost use Rattle.partners.specs.Observations.{observationIf, observationsIn};
-ghost use Rattle.partners.specs.PartnerRows.{rowOf, rowsBy, seriesRowsOf, partnerRowsOf, Filled};
+ghost use Rattle.series.specs.SumsInner.{DeliveredIn};
+ghost use Rattle.partners.specs.ObservationsInner.{observationIf, observationsIn};
+ghost use Rattle.partners.specs.PartnerRowsInner.{rowOf, rowsBy, seriesRowsOf, partnerRowsOf, Filled};
+ghost use Rattle.quarters.specs.QuartersInner.{longestMonth};
 
 // The directions as a file's rows have them.
 fn supply_number(supply: Supply) -> u64

@@ -1,7 +1,7 @@
 -- Quarter-hours: how many a day, a month and a calendar have, and where one of them lies (document 01, "The book", "Baseline", "Delivered volume,
 -- corrections, series", "The file"). Nothing else knows how many a day has.
 -- A Calendar is a year, a month, and the lead days L: document 01's own term.
-use Prim.Native.Nat.{ℕ, _+_, _-_, _*_, _≤_}
+use Prim.Native.Nat.{ℕ, _+_, _-_, _*_}
 use Rattle.calendar.specs.Dates.{monthLength, calendarDays}
 use Rattle.quarters.specs.declared.Calendar.{Calendar}
 
@@ -27,9 +27,6 @@ inCalendar c d q = dayStart c d + q
 unfoldable pub position : Calendar → ℕ → ℕ → ℕ
 position c d q = dayStart c d - dayStart c (c .lead) + q + 1
 
-abbrev pub cellOf : Calendar → ℕ → ℕ → ℕ
-cellOf c d q = position c d q - 1
-
 -- "each quarter-hour of the month": how many there are, which is the last position
 unfoldable pub monthQuarters : Calendar → ℕ
 monthQuarters c = quartersOf c - dayStart c (c .lead)
@@ -41,34 +38,3 @@ quartersInMonth year month = 96 * monthLength year month
 -- "by point, by day": the place among the readings where those of point p start
 abbrev pub originOf : Calendar → ℕ → ℕ
 originOf c p = quartersOf c * p
-
--- the years, months and lead days that a header may have
-pub record Ranged (c : Calendar) : Type 0 where
-  pub from : 2018 ≤ c .year
-  pub to : c .year ≤ 2099
-  pub january : 1 ≤ c .month
-  pub december : c .month ≤ 12
-  pub some : 1 ≤ c .lead
-  pub few : c .lead ≤ 33
-
--- no day, no month and no calendar has more quarter-hours
-abbrev pub longestDay : ℕ
-longestDay = 96
-
-abbrev pub longestMonth : ℕ
-longestMonth = 2976
-
-abbrev pub longestCalendar : ℕ
-longestCalendar = 6144
-
--- no book has more settlement rows: 512 engagements of a longest day
-abbrev pub mostRows : ℕ
-mostRows = 512 * longestDay
-
--- no book has more bytes of readings: 4 for each of 256 points and a longest calendar
-abbrev pub mostReadingBytes : ℕ
-mostReadingBytes = 4 * longestCalendar * 256
-
--- no point's readings start farther on: 255 longest calendars are fewer
-abbrev pub farthestOrigin : ℕ
-farthestOrigin = 2000000

@@ -10,7 +10,8 @@ use borrow.Author.Tests.{leb-true, leb-false}
 use Rattle.calendar.specs.Dates.{monthLength, calendarDays}
 use Rattle.calendar.specs.DatesLaws.{month-length, no-month}
 use Rattle.quarters.specs.declared.Calendar.{Calendar}
-use Rattle.quarters.specs.Quarters.{daysOf, quarters, dayStart, quartersOf, inCalendar, position, cellOf, monthQuarters, quartersInMonth, originOf, Ranged, longestDay, longestMonth, longestCalendar, mostReadingBytes, farthestOrigin}
+use Rattle.quarters.specs.Quarters.{daysOf, quarters, dayStart, quartersOf, inCalendar, position, monthQuarters, quartersInMonth, originOf}
+use Rattle.quarters.specs.QuartersInner.{cellOf, Ranged, longestDay, longestMonth, longestCalendar, mostReadingBytes, farthestOrigin}
 
 -- ---- days
 

@@ -1,7 +1,8 @@
 // Quarter-hours: how many a day, a month and a calendar have, and where one of them lies. Nothing else knows how many a day has.
 ghost use mathlib.Core.Path.{_≡_};
 ghost use Prim.Native.Nat.{_≤_, _<_};
-ghost use Rattle.quarters.specs.Quarters.{daysOf, quarters, dayStart, quartersOf, Ranged, inCalendar, cellOf, monthQuarters, quartersInMonth, originOf};
+ghost use Rattle.quarters.specs.Quarters.{daysOf, quarters, dayStart, quartersOf, inCalendar, monthQuarters, quartersInMonth, originOf};
+ghost use Rattle.quarters.specs.QuartersInner.{Ranged, cellOf};
 
 // The month, and the lead days before it.
 pub struct Calendar {

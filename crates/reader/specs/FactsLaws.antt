@@ -7,7 +7,7 @@ use lib.ListN.{length, take}
 use native.Mathlib.Omega.{arith}
 use borrow.Author.Tests.{le-leb}
 use Rattle.formats.specs.Name.{nameByte, span}
-use Rattle.formats.specs.Place.{left}
+use Rattle.formats.specs.PlaceInner.{left}
 use Rattle.formats.specs.declared.Mark.{Mark}
 use Rattle.formats.specs.declared.Mark.the-variants.{At, No}
 use Rattle.cursor.specs.MovesInner.{standing}

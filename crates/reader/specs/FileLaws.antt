@@ -9,8 +9,8 @@ use Rattle.formats.specs.FormatLaws.{got-bad}
 use Rattle.formats.specs.Combine.{strip}
 use Rattle.formats.specs.Words.{wordsParse}
 use Rattle.formats.specs.Name.{nameByte, span}
-use Rattle.formats.specs.Run.{run-map, run-seq, run-pre, run-post}
-use Rattle.formats.specs.Place.{Parsed, left}
+use Rattle.formats.specs.RunLaws.{run-map, run-seq, run-pre, run-post}
+use Rattle.formats.specs.PlaceInner.{Parsed, left}
 use Rattle.formats.specs.PlaceLaws.{parsed, not-there}
 use Rattle.formats.specs.declared.Mark.{Mark}
 use Rattle.formats.specs.declared.Mark.the-variants.{At, No}

@@ -7,7 +7,7 @@ use Rattle.text.specs.Ascii.{bytes}
 use Rattle.formats.specs.declared.Mark.{Mark}
 use Rattle.formats.specs.Combine.{strip}
 use Rattle.formats.specs.Exactly.{fixedDigits, exactlyParse}
-use Rattle.formats.specs.Place.{Parsed, left}
+use Rattle.formats.specs.PlaceInner.{Parsed, left}
 use Rattle.formats.specs.declared.Mark.the-variants.{At}
 use Rattle.cursor.specs.declared.Cursor.{Cursor}
 use Rattle.cursor.specs.MovesInner.{standing, pastTag}

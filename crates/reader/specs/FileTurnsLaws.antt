@@ -8,7 +8,7 @@ use lib.ListN.{length, take}
 use Rattle.text.specs.Ascii.{bytes}
 use Rattle.formats.specs.Combine.{strip, mapParse}
 use Rattle.formats.specs.Exactly.{exactlyParse}
-use Rattle.formats.specs.Place.{Parsed, left}
+use Rattle.formats.specs.PlaceInner.{Parsed, left}
 use Rattle.formats.specs.declared.Mark.{Mark}
 use Rattle.formats.specs.declared.Mark.the-variants.{At, No}
 use Rattle.cursor.specs.declared.Cursor.{Cursor}

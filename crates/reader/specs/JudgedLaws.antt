@@ -8,7 +8,7 @@ use native.Mathlib.Omega.{arith}
 use Rattle.formats.specs.Format.{Res, got, bad, readAll}
 use Rattle.formats.specs.FormatLaws.{got-bad, sound-of}
 use Rattle.formats.specs.Combine.{mapParse}
-use Rattle.formats.specs.Place.{Parsed}
+use Rattle.formats.specs.PlaceInner.{Parsed}
 use Rattle.formats.specs.declared.Mark.the-variants.{At, No}
 use Rattle.kinds.specs.declared.Kind.{Kind}
 use Rattle.message.specs.declared.ReadAnswer.the-variants.{File, Refused}

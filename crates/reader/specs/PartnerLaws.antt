@@ -10,8 +10,8 @@ use Rattle.formats.specs.FormatLaws.{got-bad}
 use Rattle.formats.specs.Combine.{strip, strip-sound, strip-complete, pre, post, seq, preParse, postParse, seqParse, mapParse}
 use Rattle.formats.specs.Exactly.{fixedDigits}
 use Rattle.formats.specs.Words.{words, wordsParse}
-use Rattle.formats.specs.Run.{run-pre, run-post, run-seq, run-map}
-use Rattle.formats.specs.Place.{Within, Parsed}
+use Rattle.formats.specs.RunLaws.{run-pre, run-post, run-seq, run-map}
+use Rattle.formats.specs.PlaceInner.{Within, Parsed}
 use Rattle.formats.specs.declared.Mark.{Mark}
 use Rattle.formats.specs.declared.Mark.the-variants.{At, No}
 use Rattle.kinds.specs.declared.Kind.{Kind}

@@ -9,8 +9,8 @@ use native.Mathlib.Omega.{arith}
 use Rattle.formats.specs.Format.{Res, got, bad}
 use Rattle.formats.specs.Combine.{strip, mapParse}
 use Rattle.formats.specs.Items.{itemsParse, items-bad}
-use Rattle.formats.specs.Run.{run-map}
-use Rattle.formats.specs.Place.{Parsed}
+use Rattle.formats.specs.RunLaws.{run-map}
+use Rattle.formats.specs.PlaceInner.{Parsed}
 use Rattle.formats.specs.declared.Mark.{Mark}
 use Rattle.formats.specs.declared.Mark.the-variants.{At}
 use Rattle.kinds.specs.declared.Kind.{Kind}

@@ -9,8 +9,8 @@ use Rattle.formats.specs.Format.{Res, got, bad, bind}
 use Rattle.formats.specs.Combine.{mapParse}
 use Rattle.formats.specs.Items.{itemsParse}
 use Rattle.formats.specs.Rising.{rise}
-use Rattle.formats.specs.Run.{run-only, run-fail}
-use Rattle.formats.specs.Place.{Parsed}
+use Rattle.formats.specs.RunLaws.{run-only, run-fail}
+use Rattle.formats.specs.PlaceInner.{Parsed}
 use Rattle.formats.specs.declared.Mark.{Mark}
 use Rattle.kinds.specs.declared.Kind.{Kind}
 use Rattle.message.specs.Contents.{TimeSeries, Partner, number}

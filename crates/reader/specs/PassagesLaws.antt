@@ -6,7 +6,7 @@ use Rattle.text.specs.Ascii.{bytes}
 use Rattle.formats.specs.declared.Mark.{Mark}
 use Rattle.formats.specs.Combine.{strip}
 use Rattle.formats.specs.Name.{nameByte, span, nameParse}
-use Rattle.formats.specs.Place.{Parsed, left}
+use Rattle.formats.specs.PlaceInner.{Parsed, left}
 use Rattle.cursor.specs.declared.Cursor.{Cursor}
 use Rattle.cursor.specs.MovesInner.{standing, pastTag, pastNumber, pastCounter, pastFixed, pastWord, pastName}
 use Rattle.cursor.specs.ParsedLaws.{tag-parsed, fixed-parsed, word-parsed, name-parsed, word-fits}

@@ -9,7 +9,7 @@ use Rattle.formats.specs.FormatLaws.{got-bad}
 use Rattle.formats.specs.Combine.{strip, mapParse}
 use Rattle.formats.specs.Exactly.{exactlyParse, fixedDigits}
 use Rattle.formats.specs.Name.{nameByte, span, nameParse, name}
-use Rattle.formats.specs.Place.{Within, Parsed, left}
+use Rattle.formats.specs.PlaceInner.{Within, Parsed, left}
 use Rattle.formats.specs.PlaceLaws.{no-at, same-at}
 use Rattle.formats.specs.declared.Mark.{Mark}
 use Rattle.formats.specs.declared.Mark.the-variants.{At, No}

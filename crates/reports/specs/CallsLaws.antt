@@ -7,8 +7,8 @@ use Prim.Native.Nat.{ℕ, zero, suc, _*_, _≤_}
 use native.Mathlib.Omega.{arith}
 use lib.ListN.{length}
 use borrow.Author.Tests.{leb-true, le-leb}
-use Rattle.integers.specs.Counts.{times, mem-times, times-mem}
-use Rattle.integers.specs.Tests.{both}
+use Rattle.integers.specs.Counts.{times}
+use Rattle.integers.specs.TestsLaws.{both}
 use Rattle.moments.specs.Ids.{isTransactionId}
 use Rattle.book.specs.Book.{Book, bookOf}
 use Rattle.refusals.specs.Refusals.{Refusal, unless, orElse, short}
@@ -28,6 +28,7 @@ use Rattle.reports.specs.declared.SheetAnswer.the-variants.{Sheet}
 use Rattle.reports.specs.declared.FileAnswer.the-variants.{File}
 use Rattle.reports.specs.Demand3.{isSheet, isFile, written}
 use Rattle.quarters.specs.Quarters.{monthQuarters}
+use Rattle.integers.specs.CountsLaws.{mem-times, times-mem}
 
 pub stands-mem : (x : ℕ) (l : List ℕ) → stands x l ≡ true → List·Memᴰ x l
 unfolding stands

@@ -6,10 +6,10 @@ use Prim.Native.Nat.{ℕ, zero, suc, _+_, _≤_, _<_}
 use native.Mathlib.Omega.{arith}
 use lib.Dec.{eqb}
 use borrow.Author.Tests.{ltb-false, ne-eqb, eqb-true, eqb-false}
-use Rattle.integers.specs.Counts.{times, times-mem}
+use Rattle.integers.specs.Counts.{times}
 use Rattle.integers.specs.Ranges.{range}
-use Rattle.integers.specs.Running.{upTo, upTo-cong}
-use Rattle.integers.specs.Sums.{naturals, sumBy, sumOf, sum-zero, sum-all, sum-map, sum-flatMap, sum-once, sum-absent}
+use Rattle.integers.specs.Running.{upTo}
+use Rattle.integers.specs.Sums.{naturals, sumBy, sumOf}
 use Rattle.integers.specs.Keep.{isSome}
 use Rattle.integers.specs.KeepLaws.{keep-sum, not-some}
 use Rattle.integers.specs.AscendingLaws.{ascending-once}
@@ -25,9 +25,13 @@ use Rattle.volumes.specs.SeriesLaws.{series-prefix, pair-watts}
 use Rattle.message.specs.Contents.{Observation, TimeSeries, Partner}
 use Rattle.message.specs.Group.{spread}
 use Rattle.message.specs.Rows.{Row, seriesRows, partnerRows, rowsOf}
-use Rattle.reports.specs.FileRows.{supplyNumber, deliveryNumber, partnerNumbers, directions, positions, observationAt, isWritten, observationsOf, timeSeries, timeSeriesOf, partnerAt, partnersOf, fileRows, observationBy, observationsBy, timeSeriesBy, partnerBy, partnersBy}
+use Rattle.reports.specs.FileRows.{supplyNumber, deliveryNumber, partnerNumbers, directions, isWritten, partnersOf, fileRows, observationBy, observationsBy, timeSeriesBy, partnerBy, partnersBy}
 use Rattle.reports.specs.Watts.{wattsOf, wattsIn}
 use Rattle.reports.specs.PointsLaws.{Inside, no-watts}
+use Rattle.integers.specs.CountsLaws.{times-mem}
+use Rattle.integers.specs.RunningLaws.{upTo-cong}
+use Rattle.integers.specs.SumsLaws.{sum-zero, sum-all, sum-map, sum-flatMap, sum-once, sum-absent}
+use Rattle.reports.specs.FileRowsInner.{positions, observationAt, observationsOf, timeSeries, timeSeriesOf, partnerAt}
 
 -- ---- a sum over the rows is a sum over partners, directions and positions
 

@@ -9,10 +9,10 @@ use lib.Dec.{eqb}
 use lib.IntN.{pos}
 use lib.ListN.{length, take, drop, getD, List·getD-append}
 use borrow.Author.Tests.{eqb-true, eq-eqb}
-use Rattle.integers.specs.Once.{Once}
+use Rattle.integers.specs.OnceLaws.{Once}
 use Rattle.integers.specs.Running.{upTo}
-use Rattle.integers.specs.Sums.{naturals, integers, sumOf, sumZ, sum-cong, sum-map}
-use Rattle.integers.specs.Tests.{both, and-both}
+use Rattle.integers.specs.Sums.{naturals, integers, sumOf, sumZ}
+use Rattle.integers.specs.TestsLaws.{both, and-both}
 use Rattle.integers.specs.Keep.{keep}
 use Rattle.integers.specs.KeepLaws.{keep-sum, mem-keep}
 use Rattle.formats.specs.Format.{got}
@@ -23,9 +23,8 @@ use Rattle.volumes.specs.SettlementLaws.{accepted, passing}
 use Rattle.volumes.specs.Sheets.{parties, sheetAt, sheet}
 use Rattle.volumes.specs.SheetsLaws.{balance, sheet-length}
 use Rattle.volumes.specs.Series.{Kind, Toe01, Toe02}
-use Rattle.volumes.specs.Sound.{Sound}
+use Rattle.volumes.specs.SoundInner.{Sound}
 use Rattle.volumes.specs.SoundLaws.{sound}
-use Rattle.integers.specs.Ranges.{getD-map-range}
 use Rattle.message.specs.Rows.{Row}
 use Rattle.message.specs.Messages.{readMessage}
 use Rattle.kinds.specs.Numbers.{kindNumbered, kindNumber}
@@ -35,7 +34,7 @@ use Rattle.reports.specs.Watts.{wattsIn, directedIn, totalIn}
 use Rattle.reports.specs.PointsLaws.{Inside}
 use Rattle.reports.specs.CarryLaws.{carries-floor, pair-carries}
 use Rattle.reports.specs.TotalsLaws.{directed-totals, totals}
-use Rattle.reports.specs.Registered.{Registered}
+use Rattle.reports.specs.RegisteredInner.{Registered}
 use Rattle.reports.specs.RegisteredLaws.{registered}
 use Rattle.reports.specs.ReadLaws.{file-read}
 use Rattle.refusals.specs.Buffers.{over, afterwards}
@@ -43,6 +42,8 @@ use Rattle.reports.specs.Calls.{sheetRefusal, textOf, fileRefusal, fileA
 use Rattle.refusals.specs.BuffersLaws.{over-first}
 use Rattle.reports.specs.CallsLaws.{sheet-not-refused, sheet-party, sheet-answered, kind-is, InForm, file-in-form, file-written, file-answered}
 use Rattle.reports.specs.Demand3.{SheetCall, FileCall, isSheet, isFile, filled, wrote, sumAt, written, rowsRead, carried, filledFor, wroteFor, Whole, Agreed, Answered, Demand3}
+use Rattle.integers.specs.RangesLaws.{getD-map-range}
+use Rattle.integers.specs.SumsLaws.{sum-cong, sum-map}
 
 -- ---- a sheet that was filled
 

@@ -78,26 +78,6 @@ partnerBy volumes q last partner = record { number = partner; series = keep (λ 
 unfoldable pub partnersBy : Volumes → ℕ × ℕ → ℕ → List ℕ → List Partner
 partnersBy volumes q last partners = keep (λ p. isSome (p .series)) (map (partnerBy volumes q last) partners)
 
--- ---- a book's own: its grains in its month
-
-unfoldable pub positions : Book → List ℕ
-positions book = range 1 (monthQuarters (book .calendar))
-
-unfoldable pub observationAt : Book → Kind → ℕ → Series → ℕ → Observation
-observationAt book kind receiver s p = observationBy (grainsAt book kind receiver s) p
-
-unfoldable pub observationsOf : Book → Kind → ℕ → Series → List Observation
-observationsOf book kind receiver s = observationsBy (grainsAt book kind receiver s) (monthQuarters (book .calendar))
-
-unfoldable pub timeSeries : Book → Kind → ℕ → ℕ → Supply × Direction → TimeSeries
-timeSeries book kind receiver partner d = timeSeriesBy (grainsAt book kind receiver) (book .calendar .year, book .calendar .month) (monthQuarters (book .calendar)) partner d
-
-unfoldable pub partnerAt : Book → Kind → ℕ → ℕ → Partner
-partnerAt book kind receiver partner = partnerBy (grainsAt book kind receiver) (book .calendar .year, book .calendar .month) (monthQuarters (book .calendar)) partner
-
-unfoldable pub timeSeriesOf : Book → Kind → ℕ → ℕ → List TimeSeries
-timeSeriesOf book kind receiver partner = partnerAt book kind receiver partner .series
-
 unfoldable pub partnersOf : Book → Kind → ℕ → List Partner
 partnersOf book kind receiver = partnersBy (grainsAt book kind receiver) (book .calendar .year, book .calendar .month) (monthQuarters (book .calendar)) (partnerNumbers book kind receiver)
 

@@ -7,17 +7,15 @@ use native.Mathlib.Nat.{mul-suc, mul-le-mul-left}
 use native.Mathlib.Omega.{arith}
 use lib.ListN.{length, length-map}
 use borrow.Author.Tests.{ltb-true, le-leb}
-use Rattle.integers.specs.Ranges.{range, length-range}
+use Rattle.integers.specs.Ranges.{range}
 use Rattle.integers.specs.Running.{upTo, floorAt}
 use Rattle.integers.specs.Sums.{sumBy, sumOf}
-use Rattle.integers.specs.Tests.{and-both}
+use Rattle.integers.specs.TestsLaws.{and-both}
 use Rattle.integers.specs.Rises.{rises}
-use Rattle.integers.specs.All.{All, all-map, each-all, all-append}
+use Rattle.integers.specs.All.{All}
 use Rattle.integers.specs.Keep.{keep, isSome}
 use Rattle.integers.specs.KeepLaws.{keep-length, mem-keep, keep-rises, some-length, some-member}
 use Rattle.integers.specs.AscendingLaws.{ascending-rises, ascending-once, ascending-length}
-use Rattle.calendar.specs.Dates.{calendarDays}
-use Rattle.calendar.specs.DatesLaws.{month-length}
 use Rattle.moments.specs.Ids.{isTransactionId}
 use Rattle.quarters.specs.declared.Calendar.{Calendar}
 use Rattle.book.specs.declared.Supply.{Supply}
@@ -26,22 +24,26 @@ use Rattle.book.specs.declared.Direction.{Direction}
 use Rattle.book.specs.declared.Direction.the-variants.{Up, Down}
 use Rattle.book.specs.declared.Point.{Point}
 use Rattle.book.specs.declared.Engagement.{Engagement}
-use Rattle.quarters.specs.Quarters.{monthQuarters, longestMonth}
+use Rattle.quarters.specs.Quarters.{monthQuarters}
 use Rattle.quarters.specs.QuartersLaws.{month-quarters, month-quarters-most}
 use Rattle.book.specs.Book.{Book}
 use Rattle.volumes.specs.Sheets.{covers, quarterAt}
 use Rattle.volumes.specs.declared.Series.{Series}
 use Rattle.volumes.specs.Series.{Kind, Toe01, Toe02, Toe03, receiverOf, partnerOf, isEngagement, grainsOf, grainsAt, seriesWatts, seriesOf}
-use Rattle.volumes.specs.Sound.{Sound}
+use Rattle.volumes.specs.SoundInner.{Sound}
 use Rattle.volumes.specs.SoundLaws.{mem-range}
 use Rattle.volumes.specs.WidthsLaws.{most, delivered-most}
 use Rattle.message.specs.Contents.{Observation, TimeSeries, Partner, place, position, number}
 use Rattle.message.specs.Bytes.{digits, supplyOf}
 use Rattle.message.specs.Valid.{lastPosition, IsObservation, IsVolume, IsSeries, OneSupply, IsPartner, isMoment, monthOf, periods, firstOf, IsFile}
-use Rattle.reports.specs.FileRows.{supplyNumber, deliveryNumber, isTaken, partnerNumbers, directions, positions, observationAt, isWritten, observationsOf, timeSeries, timeSeriesOf, partnerAt, partnersOf, fileOf, observationBy, observationsBy, timeSeriesBy, partnerBy, partnersBy}
+use Rattle.reports.specs.FileRows.{supplyNumber, deliveryNumber, isTaken, partnerNumbers, directions, isWritten, partnersOf, fileOf, observationBy, observationsBy, timeSeriesBy, partnerBy, partnersBy}
 use Rattle.reports.specs.Roles.{receivers}
-use Rattle.reports.specs.Registered.{NumbersFit, Registered}
+use Rattle.reports.specs.RegisteredInner.{NumbersFit, Registered}
 use Rattle.reports.specs.PointsLaws.{Of, Inside, watts-point}
+use Rattle.integers.specs.AllLaws.{all-map, each-all, all-append}
+use Rattle.integers.specs.RangesLaws.{length-range}
+use Rattle.quarters.specs.QuartersInner.{longestMonth}
+use Rattle.reports.specs.FileRowsInner.{positions, observationAt, observationsOf, timeSeries, timeSeriesOf, partnerAt}
 
 -- ---- lists
 

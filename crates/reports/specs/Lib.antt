@@ -1,10 +1,11 @@
 pub mod FileRows
+pub mod FileRowsInner
 pub mod Watts
 pub mod PointsLaws
 pub mod CarryLaws
 pub mod Roles
 pub mod TotalsLaws
-pub mod Registered
+pub mod RegisteredInner
 pub mod RegisteredLaws
 pub mod FormLaws
 pub mod ReadLaws

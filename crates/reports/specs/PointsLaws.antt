@@ -8,9 +8,9 @@ use lib.Dec.{eqb}
 use lib.ListN.{length}
 use borrow.Author.Tests.{eqb-true}
 use Rattle.integers.specs.Counts.{times}
-use Rattle.integers.specs.Running.{upTo, floorAt, floorAt-zero}
+use Rattle.integers.specs.Running.{upTo, floorAt}
 use Rattle.integers.specs.Sums.{sumBy, sumOf}
-use Rattle.integers.specs.Tests.{both}
+use Rattle.integers.specs.TestsLaws.{both}
 use Rattle.integers.specs.Keep.{keep}
 use Rattle.integers.specs.KeepLaws.{keep-mem}
 use Rattle.integers.specs.AscendingLaws.{ascending-once}
@@ -25,8 +25,9 @@ use Rattle.volumes.specs.Settlement.{delivered}
 use Rattle.volumes.specs.Sheets.{covers, quarterAt}
 use Rattle.volumes.specs.declared.Series.{Series}
 use Rattle.volumes.specs.Series.{Kind, takes, receiverOf, partnerOf, sameSupply, sameDirection, isPoint, isEngagement, grainsOf, grainsAt, seriesWatts}
-use Rattle.integers.specs.Ranges.{getD-mem}
 use Rattle.reports.specs.FileRows.{isTaken, partnerNumbers}
+use Rattle.integers.specs.RangesLaws.{getD-mem}
+use Rattle.integers.specs.RunningLaws.{floorAt-zero}
 
 -- a sum that isn't 0 has a term that isn't
 some-term : {A : Type 0} (f : A → ℕ) (l : List A) → 1 ≤ sumOf f l → (a : A) × List·Memᴰ a l × (1 ≤ f a)

@@ -8,7 +8,7 @@ use lib.Dec.{eqb}
 use lib.IntN.{ℤ, pos}
 use lib.ListN.{length, replicate, length-replicate}
 use borrow.Author.Tests.{eq-eqb}
-use Rattle.integers.specs.Counts.{times, times-append}
+use Rattle.integers.specs.Counts.{times}
 use Rattle.integers.specs.Keep.{keep}
 use Rattle.integers.specs.KeepLaws.{keep-append}
 use Rattle.integers.specs.Ascending.{ascending}
@@ -27,6 +27,7 @@ use Rattle.refusals.specs.Buffers.{afterwards}
 use Rattle.reports.specs.Calls.{sheetRefusal, sheetAnswer, textOf, fileRefusal, fileAnswer}
 use Rattle.reports.specs.Demand3.{SheetCall, FileCall, isSheet, isFile, filled, wrote, filledFor, wroteFor, Answered, Calls, Possible}
 use Rattle.reports.specs.Demand3Laws.{demand-3}
+use Rattle.integers.specs.CountsLaws.{times-append}
 
 -- ---- numbers of calls
 

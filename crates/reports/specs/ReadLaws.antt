@@ -9,7 +9,7 @@ use Rattle.formats.specs.Format.{got}
 use Rattle.moments.specs.Ids.{isTransactionId}
 use Rattle.book.specs.Book.{Book}
 use Rattle.volumes.specs.Series.{Kind}
-use Rattle.volumes.specs.Sound.{Sound}
+use Rattle.volumes.specs.SoundInner.{Sound}
 use Rattle.message.specs.Contents.{Partner}
 use Rattle.message.specs.Bytes.{fileBytes}
 use Rattle.message.specs.Valid.{isMoment, periods, firstOf}
@@ -21,7 +21,7 @@ use Rattle.message.specs.Messages.{readMessage}
 use Rattle.message.specs.FileLaws.{written-is-read}
 use Rattle.reports.specs.FileRows.{partnersOf, fileOf, fileText, fileRows, monthIn, messageOf}
 use Rattle.reports.specs.Roles.{receivers}
-use Rattle.reports.specs.Registered.{Registered}
+use Rattle.reports.specs.RegisteredInner.{Registered}
 use Rattle.reports.specs.FormLaws.{book-month, partners-rise, partners-valid, file-valid}
 
 module _ (book : Book) (sound : Sound book) (registered : Registered book) (kind : Kind) (receiver : ℕ) (id moment : List ℕ) (role : List·Memᴰ receiver (receivers book kind)) (named : isTransactionId id ≡ true) (timed : isMoment moment ≡ true) where

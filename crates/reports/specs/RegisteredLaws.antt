@@ -7,8 +7,8 @@ use Prim.Native.Nat.{ℕ, _^_, _<_}
 use native.Mathlib.Omega.{arith}
 use lib.Dec.{eqb, leb, ltb}
 use borrow.Author.Tests.{eqb-true, eq-eqb, ltb-true, ltb-false, not-false}
-use Rattle.integers.specs.Tests.{both, neither}
-use Rattle.integers.specs.First.{anyBelow, any-of}
+use Rattle.integers.specs.TestsLaws.{both, neither}
+use Rattle.integers.specs.First.{anyBelow}
 use Rattle.integers.specs.Ranges.{range}
 use Rattle.quarters.specs.Quarters.{daysOf}
 use Rattle.book.specs.Header.{calendarOf, pointCount, registerSection}
@@ -19,7 +19,8 @@ use Rattle.book.specs.Book.{bookOf}
 use Rattle.book.specs.declared.Point.{Point}
 use Rattle.volumes.specs.SoundLaws.{passes, first-none, mem-range}
 use Rattle.volumes.specs.BookLaws.{points-length}
-use Rattle.reports.specs.Registered.{NumbersFit, Registered}
+use Rattle.reports.specs.RegisteredInner.{NumbersFit, Registered}
+use Rattle.integers.specs.FirstLaws.{any-of}
 
 module _ (days : ℕ) (register : List ℕ) where
   numbered-row : (i : ℕ) → badPoint days register i ≡ false → NumbersFit (pointAt register i)

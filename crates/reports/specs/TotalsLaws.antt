@@ -5,9 +5,9 @@ use mathlib.Core.List.{List, map, List·Memᴰ, Memᴰ·map, Memᴰ·of-map, Mem
 use Prim.Native.Nat.{ℕ, zero, suc}
 use native.Mathlib.Omega.{arith}
 use lib.Dec.{eqb}
-use Rattle.integers.specs.Counts.{times, eqb-sym, times-mem}
-use Rattle.integers.specs.Once.{Once}
-use Rattle.integers.specs.Sums.{naturals, sumOf, sum-zero, sum-all, sum-cong, sum-swap, sum-once, sum-absent}
+use Rattle.integers.specs.Counts.{times}
+use Rattle.integers.specs.OnceLaws.{Once}
+use Rattle.integers.specs.Sums.{naturals, sumOf}
 use Rattle.integers.specs.Keep.{keep}
 use Rattle.integers.specs.KeepLaws.{mem-keep}
 use Rattle.integers.specs.AscendingLaws.{ascending-once}
@@ -18,11 +18,14 @@ use Rattle.book.specs.Book.{Book}
 use Rattle.volumes.specs.Series.{Kind, Toe01, Toe02, receiverOf, partnerOf, seriesWatts, seriesOf}
 use Rattle.volumes.specs.SeriesLaws.{pair-watts}
 use Rattle.message.specs.Rows.{Row}
-use Rattle.reports.specs.FileRows.{supplyNumber, deliveryNumber, isTaken, partnerNumbers, directions, positions, observationAt, fileRows, observationBy}
+use Rattle.reports.specs.FileRows.{supplyNumber, deliveryNumber, isTaken, partnerNumbers, directions, fileRows, observationBy}
 use Rattle.reports.specs.Roles.{receivers}
 use Rattle.reports.specs.Watts.{wattsOf, directedIn, totalIn}
 use Rattle.reports.specs.PointsLaws.{Inside, no-watts}
 use Rattle.reports.specs.CarryLaws.{nought, rows-sum}
+use Rattle.integers.specs.CountsLaws.{eqb-sym, times-mem}
+use Rattle.integers.specs.SumsLaws.{sum-zero, sum-all, sum-cong, sum-swap, sum-once, sum-absent}
+use Rattle.reports.specs.FileRowsInner.{positions, observationAt}
 
 -- a list that holds each number of a part once, and one that holds each of the whole: their sums are the same where the rest adds nothing
 part-sum : (f : ℕ → ℕ) (l part m whole : List ℕ) → Once l part → Once m whole → ((x : ℕ) → List·Memᴰ x part → List·Memᴰ x whole) → ((x : ℕ) → times x l ≡ 0 → f x ≡ 0) → sumOf f l ≡ sumOf f m

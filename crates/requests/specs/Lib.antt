@@ -1,2 +1,3 @@
 pub mod Line
+pub mod LineInner
 pub mod LineLaws

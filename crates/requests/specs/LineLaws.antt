@@ -14,8 +14,8 @@ use Rattle.formats.specs.FormatLaws.{sound-of}
 use Rattle.formats.specs.Combine.{strip, onlyParse}
 use Rattle.formats.specs.Exactly.{exactlyParse, fixedDigits}
 use Rattle.formats.specs.Name.{nameByte, span, nameParse}
-use Rattle.formats.specs.Run.{run-seq, run-post, run-only, run-fail}
-use Rattle.formats.specs.Place.{Parsed, left}
+use Rattle.formats.specs.RunLaws.{run-seq, run-post, run-only, run-fail}
+use Rattle.formats.specs.PlaceInner.{Parsed, left}
 use Rattle.formats.specs.PlaceLaws.{parsed}
 use Rattle.formats.specs.declared.Mark.{Mark}
 use Rattle.formats.specs.declared.Mark.the-variants.{At, No}
@@ -24,7 +24,8 @@ use Rattle.requests.specs.declared.Asked.{Asked}
 use Rattle.requests.specs.declared.Request.the-variants.{Line, NoLine}
 use Rattle.kinds.specs.Numbers.{isKind}
 use Rattle.kinds.specs.NumbersLaws.{kind-most}
-use Rattle.requests.specs.Line.{Words, line, asked, requestBy, requestOf}
+use Rattle.requests.specs.Line.{Words, line}
+use Rattle.requests.specs.LineInner.{asked, requestBy, requestOf}
 
 -- ---- a kind
 

@@ -5,10 +5,10 @@ use kinds::Numbered;
 ghost use mathlib.Core.Path.{_≡_};
 ghost use Rattle.formats.specs.Combine.{onlyParse};
 ghost use Rattle.formats.specs.Exactly.{fixedDigits};
-ghost use Rattle.formats.specs.Place.{Within, Parsed};
+ghost use Rattle.formats.specs.PlaceInner.{Within, Parsed};
 ghost use Rattle.kinds.specs.Numbers.{isKind};
-ghost use Rattle.requests.specs.Line.{requestOf};
 ghost use Rattle.requests.specs.LineLaws.{Lined};
+ghost use Rattle.requests.specs.LineInner.{requestOf};
 
 // What a line asks for: the file's kind and receiver, where ID and moment stand, and where the book starts.
 pub struct Asked {

@@ -6,12 +6,13 @@ use native.Mathlib.Omega.{arith}
 use lib.Dec.{eqb, leb}
 use lib.IntN.{ℤ, pos, negsuc}
 use borrow.Author.Tests.{eqb-true, eqb-false, eq-eqb, ne-eqb, leb-true, leb-false, lt-ltb, le-ltb}
-use Rattle.integers.specs.Z.{Within}
-use Rattle.wire.specs.Readings.{readingOf, missingIf, raised, raise}
+use Rattle.integers.specs.ZLaws.{Within}
+use Rattle.wire.specs.Readings.{readingOf, missingIf}
 use Rattle.wire.specs.ReadingsLaws.{raised-over}
 use Rattle.wire.specs.declared.Reading.the-variants.{Watts}
 use Rattle.book.specs.Metering.{readingGood}
 use Rattle.searches.specs.MeteringInner.{isOutside}
+use Rattle.wire.specs.ReadingsInner.{raised, raise}
 
 pub outside-is : (z : ℤ) (r : ℕ) → Within z raise → r ≡ raised (readingOf z) → isOutside r ≡ not (readingGood (readingOf z))
 unfolding readingGood readingOf

@@ -6,9 +6,9 @@ ghost use mathlib.Core.Bool.{not, _||_};
 ghost use Prim.Native.Nat.{_+_, _*_, _≤_};
 ghost use lib.ListN.{length};
 ghost use Rattle.integers.specs.First.{first};
-ghost use Rattle.quarters.specs.Quarters.{Ranged};
 ghost use Rattle.searches.specs.FoundInner.{foundAt};
 ghost use Rattle.book.specs.Engagements.{placeGood, termsGood, rises, overlaps, outOfOrder, badEngagement};
+ghost use Rattle.quarters.specs.QuartersInner.{Ranged};
 
 // The point, the day and the quarter-hours are those of the book.
 fn place_good(row: &[u8], c: Calendar, points: usize) -> bool

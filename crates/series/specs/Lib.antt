@@ -1,4 +1,4 @@
-pub mod Volumes
+pub mod VolumesInner
 pub mod VolumesLaws
-pub mod Sums
+pub mod SumsInner
 pub mod SumsLaws

@@ -10,10 +10,10 @@ use lib.Dec.{leb, ltb}
 use lib.ListN.{length, getD, take, drop, set, length-append, length-take, length-drop, length-map, length-set}
 use lib.Seq.{take-all, take-suc, drop-cons, drop-at, getD-at, getD-take, getD-set-other}
 use borrow.Author.Tests.{leb-true, ltb-true, ltb-false, le-leb, lt-ltb, le-ltb}
-use Rattle.integers.specs.Ranges.{range, length-range, range-more, getD-made, getD-mem}
-use Rattle.integers.specs.Running.{upTo, floorAt, floorAt-cong}
-use Rattle.integers.specs.Z.{inside}
-use Rattle.integers.specs.Sums.{naturals, sumBy, sumOf, sum-append}
+use Rattle.integers.specs.Ranges.{range}
+use Rattle.integers.specs.Running.{upTo, floorAt}
+use Rattle.integers.specs.ZLaws.{inside}
+use Rattle.integers.specs.Sums.{naturals, sumBy, sumOf}
 use Rattle.grains.specs.Grains.{perWatt}
 use Rattle.book.specs.declared.Takers.the-variants.{Aggregated, Individual, Neither, Refused}
 use Rattle.book.specs.declared.Supply.{Supply}
@@ -31,19 +31,23 @@ use Rattle.volumes.specs.Settlement.{delivered, rows, rowCount}
 use Rattle.volumes.specs.SettlementLaws.{passing}
 use Rattle.volumes.specs.Sheets.{startPosition, covers, quarterAt}
 use Rattle.volumes.specs.declared.Series.{Series}
-use Rattle.volumes.specs.Series.{Kind, Toe01, Toe02, Toe03, takenBy, sameSupply, sameDirection, isEngagement, grainsOf, grainsAt, seriesWatts}
+use Rattle.volumes.specs.Series.{Kind, Toe01, Toe02, Toe03, sameSupply, sameDirection, isEngagement, grainsOf, grainsAt, seriesWatts}
 use Rattle.volumes.specs.Baseline.{pointOf}
-use Rattle.volumes.specs.Sound.{Placed}
+use Rattle.volumes.specs.SoundInner.{Placed}
 use Rattle.volumes.specs.SoundLaws.{sound}
 use Rattle.volumes.specs.WidthsLaws.{most, delivered-most}
-use Rattle.settlement.specs.Sections.{engagementCountIn, engagementsIn, rowCountIn}
+use Rattle.settlement.specs.SectionsInner.{engagementCountIn, engagementsIn, rowCountIn}
 use Rattle.settlement.specs.SectionsLaws.{rows-counted, same-book, opened}
 use Rattle.settlement.specs.EngagedLaws.{engaged}
 use Rattle.settlement.specs.PartsLaws.{rowCountTo, count-more, count-most}
 use Rattle.baseline.specs.FillsLaws.{next-cell}
-use Rattle.series.specs.Sums.{byPosition, cellAt, grainsTo, added, VolumesAddable, Parts, DeliveredIn}
-use Rattle.series.specs.Volumes.{bookVolumes}
+use Rattle.series.specs.SumsInner.{byPosition, cellAt, grainsTo, added, VolumesAddable, Parts, DeliveredIn}
+use Rattle.series.specs.VolumesInner.{bookVolumes}
 use Rattle.series.specs.VolumesLaws.{volumes-length, volume-of}
+use Rattle.integers.specs.RangesLaws.{length-range, range-more, getD-made, getD-mem}
+use Rattle.integers.specs.RunningLaws.{floorAt-cong}
+use Rattle.integers.specs.SumsLaws.{sum-append}
+use Rattle.volumes.specs.SeriesInner.{takenBy}
 
 -- ---- kinds and directions
 

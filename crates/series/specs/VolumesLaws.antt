@@ -12,10 +12,9 @@ use lib.ListN.{length, getD, take, drop, set, length-map, List·getD-append}
 use lib.Seq.{sets, sets-eq, split-at, getD-append-add, take-at}
 use mir.Syntax.{w64}
 use mir.Val.{Fits, SFits}
-use Rattle.integers.specs.Ranges.{range, length-range, range-more, getD-made}
+use Rattle.integers.specs.Ranges.{range}
 use Rattle.integers.specs.Sums.{sumOf}
-use Rattle.integers.specs.Z.{up, dn, inside}
-use Rattle.quarters.specs.Quarters.{mostRows}
+use Rattle.integers.specs.ZLaws.{up, dn, inside}
 use Rattle.book.specs.declared.Engagement.{Engagement}
 use Rattle.book.specs.Book.{Book, bookOf}
 use Rattle.volumes.specs.Quarters.{quarterHours}
@@ -24,10 +23,12 @@ use Rattle.volumes.specs.Settlement.{delivered, rowWidth, row, rowsOf, rowCount
 use Rattle.volumes.specs.SettlementLaws.{row-length, rowsOf-length, passing}
 use Rattle.volumes.specs.SoundLaws.{sound}
 use Rattle.volumes.specs.RunningLaws.{rows-few}
-use Rattle.settlement.specs.Sections.{engagementCountIn, bookWith}
+use Rattle.settlement.specs.SectionsInner.{engagementCountIn, bookWith}
 use Rattle.settlement.specs.StoresLaws.{sets-append}
 use Rattle.settlement.specs.PartsLaws.{partsTo, parts-all, parts-length}
-use Rattle.series.specs.Volumes.{volumesOf, bookVolumes, volumeIn}
+use Rattle.series.specs.VolumesInner.{volumesOf, bookVolumes, volumeIn}
+use Rattle.integers.specs.RangesLaws.{length-range, range-more, getD-made}
+use Rattle.quarters.specs.QuartersInner.{mostRows}
 
 -- number j of the k-th of parts of one length
 getD-parts : {A : Type 0} (w : ℕ) (f : ℕ → List A) → ((i : ℕ) → length (f i) ≡ w) → (a n k j : ℕ) (d : A) → k < n → j < w → getD (flatMap f (range a n)) (w * k + j) d ≡ getD (f (a + k)) j d

@@ -9,13 +9,13 @@ ghost use lib.IntN.{pos};
 ghost use lib.ListN.{length, getD};
 ghost use lib.Seq.{sets};
 ghost use Rattle.integers.specs.Ranges.{range};
-ghost use Rattle.integers.specs.Z.{up, dn};
+ghost use Rattle.integers.specs.ZLaws.{up, dn};
 ghost use Rattle.book.specs.Header.{calendarOf};
 ghost use Rattle.book.specs.Engagements.{engagementAt};
 ghost use Rattle.book.specs.Book.{bookOf};
 ghost use Rattle.volumes.specs.Settlement.{refusalNumber, settlementRefusal, rowWidth, rowCount, bookRefusal};
-ghost use Rattle.settlement.specs.Sections.{engagementCountIn, rowCountIn, bookWith, Opened};
-ghost use Rattle.series.specs.Volumes.{volumesOf, bookVolumes, volumeIn};
+ghost use Rattle.settlement.specs.SectionsInner.{engagementCountIn, rowCountIn, bookWith, Opened};
+ghost use Rattle.series.specs.VolumesInner.{volumesOf, bookVolumes, volumeIn};
 
 // A delivered volume, which isn't negative.
 fn volume_at(rows: &[i64], i: usize) -> u64

@@ -1,6 +1,5 @@
 // The watts of a series by position, from a book's delivered volumes.
 use crate::Role;
-use quarters::Calendar;
 use book::Direction;
 use book::Engagement;
 use book::Point;
@@ -8,13 +7,14 @@ use book::Supply;
 use book::Takers;
 use grains::Grains;
 use kinds::Kind;
+use quarters::Calendar;
 use volumes::Series;
 ghost use mathlib.Core.Path.{_≡_};
 ghost use mathlib.Core.Bool.{cond};
 ghost use Prim.Native.Nat.{ℕ, _+_, _*_, _^_, _≤_, _<_};
 ghost use lib.ListN.{length, getD};
 ghost use Rattle.integers.specs.Running.{floorAt};
-ghost use Rattle.integers.specs.Z.{up};
+ghost use Rattle.integers.specs.ZLaws.{up};
 ghost use Rattle.grains.specs.Grains.{perWatt};
 ghost use Rattle.book.specs.declared.Supply.the-variants.{OffTake};
 ghost use Rattle.book.specs.declared.Direction.the-variants.{Up};
@@ -23,8 +23,9 @@ ghost use Rattle.book.specs.Register.{pointAt};
 ghost use Rattle.book.specs.Book.{Book, bookOf};
 ghost use Rattle.quarters.specs.Quarters.{monthQuarters};
 ghost use Rattle.volumes.specs.Baseline.{pointOf};
-ghost use Rattle.volumes.specs.Series.{takenBy, Told, receiverOf, partnerOf, sameSupply, sameDirection, isPoint, isEngagement, grainsAt, seriesWatts};
-ghost use Rattle.series.specs.Sums.{byPosition, cellAt, added, VolumesAddable, Parts, Parted, DeliveredIn};
+ghost use Rattle.volumes.specs.Series.{receiverOf, partnerOf, sameSupply, sameDirection, isPoint, isEngagement, grainsAt, seriesWatts};
+ghost use Rattle.series.specs.SumsInner.{byPosition, cellAt, added, VolumesAddable, Parts, Parted, DeliveredIn};
+ghost use Rattle.volumes.specs.SeriesInner.{takenBy, Told};
 
 // Whether a kind's files are aggregated: those take transfer points, and the individual ones pass-through points.
 fn is_aggregated(kind: Kind) -> bool

@@ -3,7 +3,7 @@ use mathlib.Core.Path.{_≡_}
 use mathlib.Core.List.{List, [], _∷_, flatMap}
 use Prim.Native.Nat.{ℕ, _+_, _*_, _≤_}
 use lib.ListN.{length, drop}
-use Rattle.text.specs.Written.{written}
+use Rattle.text.specs.WrittenInner.{written}
 use Rattle.formats.specs.Format.{Res, got}
 use Rattle.formats.specs.declared.Mark.{Mark}
 use Rattle.formats.specs.declared.Mark.the-variants.{At}

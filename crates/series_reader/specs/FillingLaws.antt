@@ -7,13 +7,13 @@ use lib.ListN.{length, drop, set, length-append, length-set}
 use lib.Seq.{sets, sets-eq}
 use native.Mathlib.Numerals.{add-one, add-two}
 use native.Mathlib.Omega.{arith}
-use Rattle.text.specs.Written.{written}
+use Rattle.text.specs.WrittenInner.{written}
 use Rattle.text.specs.WrittenLaws.{written-nil, written-both}
 use Rattle.formats.specs.Format.{Res, got, bad, Format, bind, pick}
 use Rattle.formats.specs.FormatLaws.{got-bad}
 use Rattle.formats.specs.Combine.{strip, mapParse, onlyParse}
 use Rattle.formats.specs.Items.{itemsParse, items-end, items-step}
-use Rattle.formats.specs.Place.{Parsed}
+use Rattle.formats.specs.PlaceInner.{Parsed}
 use Rattle.formats.specs.PlaceLaws.{no-at, same-at}
 use Rattle.formats.specs.declared.Mark.{Mark}
 use Rattle.formats.specs.declared.Mark.the-variants.{At, No}

@@ -9,8 +9,8 @@ use Rattle.formats.specs.Format.{Res, got, bad, Format, bind, pick}
 use Rattle.formats.specs.FormatLaws.{got-bad, sound-of}
 use Rattle.formats.specs.Combine.{mapParse, onlyParse}
 use Rattle.formats.specs.Items.{itemsParse, items-end, items-bad, items-step}
-use Rattle.formats.specs.Run.{Run}
-use Rattle.formats.specs.Place.{Parsed}
+use Rattle.formats.specs.RunLaws.{Run}
+use Rattle.formats.specs.PlaceInner.{Parsed}
 use Rattle.formats.specs.PlaceLaws.{no-at, parsed, not-there}
 use Rattle.formats.specs.declared.Mark.{Mark}
 use Rattle.formats.specs.declared.Mark.the-variants.{At, No}

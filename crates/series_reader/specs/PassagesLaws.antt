@@ -9,7 +9,7 @@ use Rattle.formats.specs.declared.Mark.{Mark}
 use Rattle.formats.specs.Combine.{strip}
 use Rattle.formats.specs.Words.{wordsParse}
 use Rattle.formats.specs.Exactly.{fixedDigits}
-use Rattle.formats.specs.Place.{Parsed}
+use Rattle.formats.specs.PlaceInner.{Parsed}
 use Rattle.cursor.specs.declared.Cursor.{Cursor}
 use Rattle.cursor.specs.MovesInner.{standing, pastTag, pastNumber, pastCounter, pastFixed, pastWord}
 use Rattle.cursor.specs.ParsedLaws.{tag-parsed, number-parsed, fixed-parsed, word-parsed, number-fits, fixed-fits, word-fits}

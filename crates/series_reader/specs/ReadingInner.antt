@@ -5,8 +5,8 @@ use Prim.Native.Nat.{ℕ}
 use lib.Dec.{leb}
 use lib.ListN.{length}
 use Rattle.formats.specs.Format.{Res}
-use Rattle.formats.specs.Run.{Ran}
-use Rattle.formats.specs.Place.{placed, Within, Parsed}
+use Rattle.formats.specs.RunLaws.{Ran}
+use Rattle.formats.specs.PlaceInner.{placed, Within, Parsed}
 use Rattle.formats.specs.declared.Mark.{Mark}
 use Rattle.message.specs.Contents.{Observation, TimeSeries}
 use Rattle.message.specs.Valid.{lastPosition}

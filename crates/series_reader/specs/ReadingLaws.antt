@@ -16,8 +16,8 @@ use Rattle.formats.specs.Numbers.{number}
 use Rattle.formats.specs.Words.{wordsParse}
 use Rattle.formats.specs.Items.{itemsParse, items-end, items-bad, ends-step}
 use Rattle.formats.specs.Rising.{fromLow, rise}
-use Rattle.formats.specs.Run.{Run, run-tags, ran-of, run-pre, run-post, run-seq, run-map, run-only, run-fail, run-none}
-use Rattle.formats.specs.Place.{placed, Within, Parsed}
+use Rattle.formats.specs.RunLaws.{Run, run-tags, ran-of, run-pre, run-post, run-seq, run-map, run-only, run-fail, run-none}
+use Rattle.formats.specs.PlaceInner.{placed, Within, Parsed}
 use Rattle.formats.specs.declared.Mark.{Mark}
 use Rattle.formats.specs.declared.Mark.the-variants.{At, No}
 use Rattle.text.specs.Ascii.{bytes}

@@ -7,13 +7,13 @@ use lib.ListN.{length, drop}
 use native.Mathlib.Numerals.{add-one}
 use native.Mathlib.Omega.{arith}
 use Rattle.text.specs.Ascii.{bytes}
-use Rattle.text.specs.Written.{written}
+use Rattle.text.specs.WrittenInner.{written}
 use Rattle.formats.specs.Format.{Res, got, bad, bind}
 use Rattle.formats.specs.Combine.{strip, mapParse}
 use Rattle.formats.specs.Words.{wordsParse}
 use Rattle.formats.specs.Items.{itemsParse, items-bad}
-use Rattle.formats.specs.Run.{run-map}
-use Rattle.formats.specs.Place.{Parsed}
+use Rattle.formats.specs.RunLaws.{run-map}
+use Rattle.formats.specs.PlaceInner.{Parsed}
 use Rattle.formats.specs.declared.Mark.{Mark}
 use Rattle.formats.specs.declared.Mark.the-variants.{At}
 use Rattle.kinds.specs.declared.Kind.{Kind}

@@ -15,8 +15,8 @@ use Rattle.formats.specs.FormatLaws.{got-bad, sound-of}
 use Rattle.formats.specs.Combine.{mapParse, onlyParse}
 use Rattle.formats.specs.Items.{itemsParse}
 use Rattle.formats.specs.Rising.{rise}
-use Rattle.formats.specs.Run.{run-only, run-fail, run-none}
-use Rattle.formats.specs.Place.{Parsed}
+use Rattle.formats.specs.RunLaws.{run-only, run-fail, run-none}
+use Rattle.formats.specs.PlaceInner.{Parsed}
 use Rattle.formats.specs.declared.Mark.{Mark}
 use Rattle.formats.specs.declared.Mark.the-variants.{At, No}
 use Rattle.kinds.specs.declared.Kind.{Kind}

@@ -4,7 +4,7 @@ use mathlib.Core.List.{List, flatMap}
 use Prim.Native.Nat.{ℕ, _+_, _-_, _*_, _^_, _≤_, _<_}
 use Rattle.text.specs.Ascii.{bytes}
 use Rattle.formats.specs.Combine.{mapParse}
-use Rattle.formats.specs.Place.{Parsed}
+use Rattle.formats.specs.PlaceInner.{Parsed}
 use Rattle.formats.specs.declared.Mark.{Mark}
 use Rattle.formats.specs.declared.Mark.the-variants.{At, No}
 use Rattle.cursor.specs.declared.Cursor.{Cursor}

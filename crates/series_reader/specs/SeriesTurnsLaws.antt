@@ -12,7 +12,7 @@ use Rattle.formats.specs.declared.Mark.the-variants.{At, No}
 use Rattle.formats.specs.Format.{Res}
 use Rattle.formats.specs.FormatLaws.{got-bad}
 use Rattle.formats.specs.Combine.{strip, mapParse}
-use Rattle.formats.specs.Place.{Within, Parsed}
+use Rattle.formats.specs.PlaceInner.{Within, Parsed}
 use Rattle.formats.specs.PlaceLaws.{parsed, not-there}
 use Rattle.cursor.specs.declared.Cursor.{Cursor}
 use Rattle.cursor.specs.MovesInner.{keep, standing, pastTag}

@@ -9,7 +9,7 @@ use Rattle.formats.specs.declared.Mark.{Mark}
 use Rattle.formats.specs.declared.Mark.the-variants.{At, No}
 use Rattle.formats.specs.FormatLaws.{got-bad}
 use Rattle.formats.specs.Items.{itemsParse, items-bad}
-use Rattle.formats.specs.Place.{placed, Within, Parsed}
+use Rattle.formats.specs.PlaceInner.{placed, Within, Parsed}
 use Rattle.cursor.specs.declared.Cursor.{Cursor}
 use Rattle.cursor.specs.MovesInner.{keep, standing}
 use Rattle.cursor.specs.MovesLaws.{standing-within, stands-at}

@@ -6,11 +6,10 @@ use Prim.Native.Nat.{ℕ, _^_, _<_}
 use lib.ListN.{length, drop}
 use native.Mathlib.Omega.{arith}
 use Rattle.text.specs.Ascii.{bytes}
-use Rattle.formats.specs.Place.{Parsed}
+use Rattle.formats.specs.PlaceInner.{Parsed}
 use Rattle.cursor.specs.declared.Cursor.{Cursor}
 use Rattle.cursor.specs.MovesInner.{standing, lost, pastTag}
 use Rattle.moments.specs.Moments.{momentBytes, periodStart, periodEnd}
-use Rattle.calendar.specs.Dates.{IsMonth}
 use Rattle.message.specs.Valid.{IsPeriod}
 use Rattle.message.specs.ObservationForm.{isPeriod, period}
 use Rattle.passages.specs.declared.MonthFound.{MonthFound}
@@ -22,6 +21,7 @@ use Rattle.series_reader.specs.ReadingLaws.{period-none, period-parsed}
 use Rattle.series_reader.specs.SeriesFillingLaws.{volume-filled}
 use Rattle.series_reader.specs.TurnsInner.{Whole}
 use Rattle.series_reader.specs.VolumesInner.{MonthPassed, VolumeDone}
+use Rattle.calendar.specs.DatesInner.{IsMonth}
 
 -- ---- what stands behind a month
 

@@ -13,7 +13,7 @@ use Rattle.volumes.specs.Settlement.{rowWidth, rowCount, bookRefusal, settlingR
 use Rattle.settlement.specs.Calls.{settleSays, settleAnswer, SettleCalled}
 use Rattle.settlement.specs.declared.settle.Settled.{Settled}
 use Rattle.settlement.specs.declared.settle.Settled.the-variants.{Rows}
-use Rattle.settle_vectors.specs.Fits.{RowsFit}
+use Rattle.settle_vectors.specs.FitsInner.{RowsFit}
 
 -- refusal 10 is where the rows are too short, so without a refusal they are long enough
 room : (bytes : List ℕ) (lent : ℕ) → settlingRefusal bytes lent ≡ none → rowWidth * rowCount (bookOf bytes) ≤ lent

@@ -5,7 +5,7 @@ use settlement::settle::Settled;
 use text::Number;
 ghost use Prim.Native.Nat.{_*_, _≤_};
 ghost use lib.ListN.{length};
-ghost use Rattle.settle_vectors.specs.Fits.{RowsFit};
+ghost use Rattle.settle_vectors.specs.FitsInner.{RowsFit};
 
 // The number of rows, and the rows; the numbers behind them are to be kept.
 fn answer_rows(rows: &[i64], count: usize)

@@ -9,7 +9,6 @@ use native.Mathlib.Omega.{arith}
 use lib.Dec.{ltb}
 use lib.ListN.{length, getD, length-map, List·getD-eq-default}
 use borrow.Author.Tests.{ltb-true, ltb-false}
-use Rattle.integers.specs.Ranges.{length-range, getD-made, getD-mem}
 use Rattle.quarters.specs.declared.Calendar.{Calendar}
 use Rattle.book.specs.declared.Engagement.{Engagement}
 use Rattle.quarters.specs.Quarters.{quartersOf}
@@ -21,12 +20,13 @@ use Rattle.book.specs.Engagements.{engagementAt}
 use Rattle.book.specs.Book.{Book}
 use Rattle.volumes.specs.Baseline.{pointOf, noPoint, xOf, yOf}
 use Rattle.volumes.specs.Settlement.{refusalNumber, rowRefusal}
-use Rattle.volumes.specs.Sound.{Paired, Placed}
+use Rattle.volumes.specs.SoundInner.{Paired, Placed}
 use Rattle.volumes.specs.SoundLaws.{passes}
 use Rattle.volumes.specs.SettlementLaws.{refusalAt, refusal-next, refusal-end}
-use Rattle.baseline.specs.Shown.{Shows, Fits}
-use Rattle.settlement.specs.Sections.{engagementCountIn, engagementsIn, bookWith, Opened}
+use Rattle.baseline.specs.ShownInner.{Shows, Fits}
+use Rattle.settlement.specs.SectionsInner.{engagementCountIn, engagementsIn, bookWith, Opened}
 use Rattle.settlement.specs.SectionsLaws.{all-held}
+use Rattle.integers.specs.RangesLaws.{length-range, getD-made, getD-mem}
 
 -- a calendar and sections that show engagement e of a book: all that judging and settling it ask
 pub record Engaged (c : Calendar) (calendar pairs register readings : List ℕ) (e : Engagement) (book : Book) : Type 0 where

@@ -2,9 +2,9 @@
 use mathlib.Core.Path.{_≡_, sym, ap, _∙_}
 use mathlib.Core.Bool.{true}
 use mathlib.Core.List.{List, map}
-use Prim.Native.Nat.{ℕ, _+_, _*_}
+use Prim.Native.Nat.{ℕ, _+_}
 use native.Mathlib.Omega.{arith}
-use Rattle.integers.specs.Tests.{both}
+use Rattle.integers.specs.TestsLaws.{both}
 use Rattle.integers.specs.Ranges.{range}
 use Rattle.wire.specs.Readings.{readingAt}
 use Rattle.quarters.specs.declared.Calendar.{Calendar}
@@ -19,8 +19,8 @@ use Rattle.volumes.specs.Settlement.{neededBy, needed, rowsOf}
 use Rattle.volumes.specs.SettlementLaws.{settles}
 use Rattle.volumes.specs.QuartersLaws.{map-range-cong}
 use Rattle.baseline.specs.ShownLaws.{start-at}
-use Rattle.baseline.specs.Filled.{Unrefused, Filled}
-use Rattle.settlement.specs.Rows.{readingsFrom, rowsFrom}
+use Rattle.baseline.specs.FilledInner.{Unrefused, Filled}
+use Rattle.settlement.specs.RowsInner.{readingsFrom, rowsFrom}
 use Rattle.settlement.specs.RowsLaws.{rows-from}
 
 module _ {c : Calendar} {calendar readings : List ℕ} {point : Point} {e : Engagement} {x y : ℕ} {book : Book} (s : Unrefused c calendar readings point e x y book) where

@@ -1,13 +1,13 @@
-pub mod Raised
+pub mod RaisedInner
 pub mod RaisedLaws
-pub mod Rows
+pub mod RowsInner
 pub mod RowsLaws
 pub mod StoresLaws
 pub mod FillLaws
-pub mod Sections
+pub mod SectionsInner
 pub mod SectionsLaws
 pub mod EngagedLaws
-pub mod Verdicts
+pub mod VerdictsInner
 pub mod VerdictsLaws
 pub mod Calls
 pub mod PartsLaws

@@ -8,18 +8,19 @@ use native.Mathlib.Nat.{eq-or-lt-of-le}
 use native.Mathlib.Omega.{arith}
 use lib.Dec.{eqb}
 use lib.IntN.{ℤ, pos, negsuc, negℤ, _-ℤ_}
-use Rattle.integers.specs.Tests.{both}
+use Rattle.integers.specs.TestsLaws.{both}
 use Rattle.integers.specs.Ranges.{range}
-use Rattle.integers.specs.Z.{up, Over, over-sub, is-sub, mul, neg, dif}
+use Rattle.integers.specs.ZLaws.{up, Over, over-sub, is-sub, mul, neg, dif}
 use Rattle.wire.specs.declared.Reading.{Reading}
 use Rattle.wire.specs.declared.Reading.the-variants.{Watts}
-use Rattle.wire.specs.Readings.{wattsAt, readingOf, readingAt, missingIf, Raised, raise}
+use Rattle.wire.specs.Readings.{wattsAt, readingOf, readingAt, missingIf}
 use Rattle.wire.specs.ReadingsLaws.{raised-over}
 use Rattle.grains.specs.Grains.{perWatt, grains, grainsZ}
 use Rattle.volumes.specs.Baseline.{watts, known, complete}
-use Rattle.volumes.specs.Sound.{Bounded}
+use Rattle.volumes.specs.SoundInner.{Bounded}
 use Rattle.volumes.specs.WidthsLaws.{most}
-use Rattle.settlement.specs.Raised.{bias, greatest, baselineOf, wattsOf}
+use Rattle.settlement.specs.RaisedInner.{bias, greatest, baselineOf, wattsOf}
+use Rattle.wire.specs.ReadingsInner.{Raised, raise}
 
 -- a baseline, raised
 pub over-level : (level : ℕ) → Over bias (baselineOf level) level

@@ -2,14 +2,14 @@
 use mathlib.Core.Path.{_≡_, refl, sym, ap, _∙_}
 use mathlib.Core.Bool.{true}
 use mathlib.Core.List.{List, map}
-use Prim.Native.Nat.{ℕ, _+_, _*_, _<_, min}
+use Prim.Native.Nat.{ℕ, _+_, _<_, min}
 use native.Mathlib.Nat.{add-assoc}
 use native.Mathlib.Omega.{arith}
 use lib.IntN.{ℤ, pos, negsuc, negℤ, _-ℤ_}
 use lib.ListN.{length, getD}
-use Rattle.integers.specs.Tests.{both}
+use Rattle.integers.specs.TestsLaws.{both}
 use Rattle.integers.specs.Ranges.{range}
-use Rattle.integers.specs.Z.{up, Over, eqZ, neg, dif}
+use Rattle.integers.specs.ZLaws.{up, Over, eqZ, neg, dif}
 use Rattle.wire.specs.Readings.{readingAt}
 use Rattle.grains.specs.Grains.{grains}
 use Rattle.book.specs.declared.Direction.{Direction}
@@ -25,9 +25,9 @@ use Rattle.volumes.specs.Baseline.{pointOf, watts, complete, ownReading, baseli
 use Rattle.volumes.specs.BaselineLaws.{complete-append}
 use Rattle.volumes.specs.Settlement.{neededBy, needed, requestedAt, limited, deliveredBy, delivered, signed, sourceCorrection, fspCorrection, corrections, rowWidth, row, rowsOf}
 use Rattle.volumes.specs.SettlementLaws.{Settles}
-use Rattle.settlement.specs.Raised.{bias}
+use Rattle.settlement.specs.RaisedInner.{bias}
 use Rattle.settlement.specs.RaisedLaws.{is-level}
-use Rattle.settlement.specs.Rows.{rowFrom, firstReading, readingsFrom, rowAt, rowsFrom, largest}
+use Rattle.settlement.specs.RowsInner.{rowFrom, firstReading, readingsFrom, rowAt, rowsFrom, largest}
 use Rattle.settlement.specs.StoresLaws.{flatMap-range-cong}
 
 pub row-from : (book : Book) (e : Engagement) (k : ℕ) → row book e k ≡ rowFrom (e .direction) (pointOf book e) (requestedAt e k) (baseline book e k) (watts (ownReading book e k))

@@ -12,7 +12,7 @@ use Rattle.book.specs.Judged.{refusalOf}
 use Rattle.volumes.specs.Settlement.{settlementRefusal, rowCount, bookRefusal}
 use Rattle.volumes.specs.SoundLaws.{passes, sound}
 use Rattle.volumes.specs.SettlementLaws.{passing}
-use Rattle.settlement.specs.Sections.{pointCountIn, engagementCountIn, engagementsIn, rowCountIn, bookWith, Opened}
+use Rattle.settlement.specs.SectionsInner.{pointCountIn, engagementCountIn, engagementsIn, rowCountIn, bookWith, Opened}
 
 -- the sections, as a good layout says
 pub all-held : (bytes : List ℕ) → refusalOf bytes ≡ none → LaidOut bytes (calendarOf bytes) (pointCount bytes) (engagementCount bytes)

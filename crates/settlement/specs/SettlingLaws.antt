@@ -13,8 +13,8 @@ use Rattle.book.specs.Engagements.{engagementAt}
 use Rattle.book.specs.Book.{Book}
 use Rattle.volumes.specs.Settlement.{refusalNumber, settlementRefusal, rowsOf, rows}
 use Rattle.volumes.specs.SettlementLaws.{all-settle}
-use Rattle.baseline.specs.Filled.{Unrefused, Accepts}
-use Rattle.settlement.specs.Sections.{engagementCountIn, bookWith, Opened}
+use Rattle.baseline.specs.FilledInner.{Unrefused, Accepts}
+use Rattle.settlement.specs.SectionsInner.{engagementCountIn, bookWith, Opened}
 use Rattle.settlement.specs.EngagedLaws.{Engaged, member}
 use Rattle.settlement.specs.PartsLaws.{partsTo, parts-all}
 

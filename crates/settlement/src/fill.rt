@@ -8,7 +8,7 @@ ghost use lib.ListN.{length};
 ghost use lib.Seq.{sets};
 ghost use Rattle.book.specs.Book.{Book};
 ghost use Rattle.volumes.specs.Settlement.{rowWidth, rowsOf};
-ghost use Rattle.baseline.specs.Filled.{Unrefused, Accepts};
+ghost use Rattle.baseline.specs.FilledInner.{Unrefused, Accepts};
 
 // Fills the rows of an engagement that is not refused, from place `at` on.
 pub fn settle_engagement(

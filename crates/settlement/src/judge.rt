@@ -1,16 +1,16 @@
 // Refusals 1 to 9: those of the book, then by engagement.
 use baseline::judge::Lack;
-use quarters::Calendar;
 use judging::Judged;
+use quarters::Calendar;
 ghost use mathlib.Core.Path.{_≡_};
 ghost use Prim.Native.Nat.{_<_};
 ghost use Rattle.book.specs.Header.{calendarOf};
 ghost use Rattle.book.specs.Engagements.{engagementAt};
 ghost use Rattle.judging.specs.JudgedInner.{sentBack};
 ghost use Rattle.volumes.specs.Settlement.{refusalNumber, settlementRefusal, bookRefusal};
-ghost use Rattle.baseline.specs.Needs.{numberOf};
-ghost use Rattle.settlement.specs.Sections.{engagementCountIn, bookWith, Opened};
-ghost use Rattle.settlement.specs.Verdicts.{refusalIn};
+ghost use Rattle.baseline.specs.NeedsInner.{numberOf};
+ghost use Rattle.settlement.specs.SectionsInner.{engagementCountIn, bookWith, Opened};
+ghost use Rattle.settlement.specs.VerdictsInner.{refusalIn};
 
 // Passed, or refused with a number and its item.
 pub enum Verdict {

@@ -9,12 +9,12 @@ ghost use Prim.Native.Nat.{_+_, _-_, _*_, _≤_, _<_, min};
 ghost use lib.IntN.{pos, _-ℤ_};
 ghost use lib.ListN.{length};
 ghost use lib.Seq.{sets};
-ghost use Rattle.wire.specs.Readings.{raise};
 ghost use Rattle.grains.specs.Grains.{grains, grainsZ};
 ghost use Rattle.volumes.specs.Baseline.{complete};
 ghost use Rattle.volumes.specs.Settlement.{rowWidth, limited, signed};
-ghost use Rattle.settlement.specs.Raised.{bias, greatest, baselineOf, wattsOf};
-ghost use Rattle.settlement.specs.Rows.{rowFrom, rowsFrom, largest, readingsFrom, AllAtMost};
+ghost use Rattle.settlement.specs.RaisedInner.{bias, greatest, baselineOf, wattsOf};
+ghost use Rattle.settlement.specs.RowsInner.{rowFrom, rowsFrom, largest, readingsFrom, AllAtMost};
+ghost use Rattle.wire.specs.ReadingsInner.{raise};
 
 // The numbers of a row.
 pub const ROW_WIDTH: usize = 4;

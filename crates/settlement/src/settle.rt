@@ -12,7 +12,7 @@ ghost use Rattle.book.specs.Engagements.{engagementAt};
 ghost use Rattle.book.specs.Judged.{refusalOf};
 ghost use Rattle.book.specs.Book.{bookOf};
 ghost use Rattle.volumes.specs.Settlement.{refusalNumber, settlementRefusal, rowWidth, rowsOf, rows, rowCount, bookRefusal};
-ghost use Rattle.settlement.specs.Sections.{engagementCountIn, rowCountIn, bookWith, Opened};
+ghost use Rattle.settlement.specs.SectionsInner.{engagementCountIn, rowCountIn, bookWith, Opened};
 ghost use Rattle.settlement.specs.Calls.{SettleCalled};
 
 // The number of rows, or a refusal with its item.

@@ -14,7 +14,7 @@ use Rattle.volumes.specs.Sheets.{parties}
 use Rattle.reports.specs.Calls.{stands, sheetRefusal, sheetSays, sheetAnswer, SheetCalled}
 use Rattle.reports.specs.declared.SheetAnswer.{SheetAnswer}
 use Rattle.reports.specs.declared.SheetAnswer.the-variants.{Sheet}
-use Rattle.sheet_vectors.specs.Fits.{SumsFit}
+use Rattle.sheet_vectors.specs.FitsInner.{SumsFit}
 use Rattle.quarters.specs.Quarters.{monthQuarters}
 
 -- refusal 10 is where the sums are too short, so without a refusal they are long enough

@@ -5,7 +5,7 @@ use reports::SheetAnswer;
 use text::Number;
 ghost use Prim.Native.Nat.{_≤_};
 ghost use lib.ListN.{length};
-ghost use Rattle.sheet_vectors.specs.Fits.{SumsFit};
+ghost use Rattle.sheet_vectors.specs.FitsInner.{SumsFit};
 
 // A place and its sum, where that isn't 0.
 fn print_sum(place: usize, sum: i64) {

@@ -9,9 +9,10 @@ use lib.IntN.{ℤ, pos, _+ℤ_, +ℤ-idr}
 use lib.ListN.{length, getD, set, replicate, length-set, length-map, List·getD-append}
 use lib.Seq.{set-append-left, ext-getD}
 use borrow.Author.Tests.{ltb-true, ltb-false}
-use Rattle.integers.specs.Ranges.{range, length-range, range-shift, getD-made}
-use Rattle.sheets.specs.Adds.{addAt, adds}
+use Rattle.integers.specs.Ranges.{range}
+use Rattle.sheets.specs.AddsInner.{addAt, adds}
 use Rattle.sheets.specs.AddsLaws.{length-adds, adds-before, adds-behind, adds-within}
+use Rattle.integers.specs.RangesLaws.{length-range, range-shift, getD-made}
 
 -- what stands behind is left
 pub adds-front : (a rest : List ℤ) (at : ℕ) (zs : List ℤ) → at + length zs ≤ length a → adds (a ++ rest) at zs ≡ adds a at zs ++ rest

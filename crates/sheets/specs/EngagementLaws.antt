@@ -9,20 +9,21 @@ use lib.Seq.{sets, drop-at}
 use Rattle.quarters.specs.declared.Calendar.{Calendar}
 use Rattle.book.specs.declared.Engagement.{Engagement}
 use Rattle.book.specs.declared.Point.{Point}
-use Rattle.quarters.specs.Quarters.{Ranged, monthQuarters, longestDay}
+use Rattle.quarters.specs.Quarters.{monthQuarters}
 use Rattle.quarters.specs.QuartersLaws.{days-few, quarters-most}
 use Rattle.book.specs.Header.{calendarOf, registerSection}
 use Rattle.book.specs.Register.{pointAt}
 use Rattle.book.specs.Engagements.{engagementAt}
 use Rattle.volumes.specs.Settlement.{rowWidth, rowsOf}
 use Rattle.volumes.specs.Sheets.{sheet}
-use Rattle.settlement.specs.Sections.{engagementCountIn, bookWith, Opened}
+use Rattle.settlement.specs.SectionsInner.{engagementCountIn, bookWith, Opened}
 use Rattle.settlement.specs.EngagedLaws.{member, row-count, row-named, engaged}
-use Rattle.sheets.specs.Adds.{adds, Addable}
-use Rattle.sheets.specs.Shares.{getsOf, Both, correctionsFor, firstCell}
+use Rattle.sheets.specs.AddsInner.{adds, Addable}
+use Rattle.sheets.specs.SharesInner.{getsOf, Both, correctionsFor, firstCell}
 use Rattle.sheets.specs.RowsLaws.{rows-get, rows-both}
-use Rattle.sheets.specs.Parts.{sheetTo}
+use Rattle.sheets.specs.PartsInner.{sheetTo}
 use Rattle.sheets.specs.SheetLaws.{sheet-none, sheet-all, sheet-more, sheet-addable}
+use Rattle.quarters.specs.QuartersInner.{Ranged, longestDay}
 
 -- its day is a settled one of the calendar, its rows are those of a day at most
 pub record Placing (c : Calendar) (e : Engagement) : Type 0 where

@@ -1,11 +1,11 @@
-pub mod Adds
+pub mod AddsInner
 pub mod AddsLaws
-pub mod Shares
+pub mod SharesInner
 pub mod SharesLaws
-pub mod Parties
+pub mod PartiesInner
 pub mod PartiesLaws
 pub mod RowsLaws
 pub mod CellsLaws
-pub mod Parts
+pub mod PartsInner
 pub mod SheetLaws
 pub mod EngagementLaws

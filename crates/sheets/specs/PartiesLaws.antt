@@ -9,8 +9,8 @@ use native.Mathlib.Nat.{eq-or-lt-of-le}
 use native.Mathlib.Numerals.{add-one}
 use native.Mathlib.Omega.{arith}
 use borrow.Author.Tests.{ne-eqb, leb-true, leb-false, le-leb, lt-leb}
-use Rattle.integers.specs.Counts.{times, stands, times-append, mem-times}
-use Rattle.integers.specs.Ranges.{range, range-more}
+use Rattle.integers.specs.Counts.{times, stands}
+use Rattle.integers.specs.Ranges.{range}
 use Rattle.book.specs.declared.Point.{Point}
 use Rattle.book.specs.Register.{pointAt}
 use Rattle.book.specs.Book.{bookOf}
@@ -18,9 +18,11 @@ use Rattle.book.specs.Header.{registerSection}
 use Rattle.book.specs.Judged.{refusalOf}
 use Rattle.volumes.specs.QuartersLaws.{flatMap-append}
 use Rattle.volumes.specs.Sheets.{partiesOf, parties}
-use Rattle.settlement.specs.Sections.{pointCountIn}
+use Rattle.settlement.specs.SectionsInner.{pointCountIn}
 use Rattle.settlement.specs.SectionsLaws.{points-counted}
-use Rattle.sheets.specs.Parties.{partiesTo, partiesIn}
+use Rattle.sheets.specs.PartiesInner.{partiesTo, partiesIn}
+use Rattle.integers.specs.CountsLaws.{times-append, mem-times}
+use Rattle.integers.specs.RangesLaws.{range-more}
 
 -- in the columns of one point
 module _ (party : ℕ) (point : Point) where

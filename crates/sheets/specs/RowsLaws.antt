@@ -17,9 +17,9 @@ use Rattle.volumes.specs.Settlement.{rowWidth, sourceCorrection, fspCorrection,
 use Rattle.volumes.specs.SettlementLaws.{row-length, rowsOf-length}
 use Rattle.volumes.specs.Sheets.{startPosition, correctionAt}
 use Rattle.volumes.specs.SheetsLaws.{correction-inside}
-use Rattle.volumes.specs.Sound.{OnTerms, Sound}
+use Rattle.volumes.specs.SoundInner.{OnTerms, Sound}
 use Rattle.volumes.specs.WidthsLaws.{bounded-add, bounded-fits, source-bounded, fsp-bounded}
-use Rattle.sheets.specs.Shares.{gets, sourceIn, fspIn, getsOf, Both, correctionsFor}
+use Rattle.sheets.specs.SharesInner.{gets, sourceIn, fspIn, getsOf, Both, correctionsFor}
 
 -- the j-th of the k-th part, where all parts have one width
 getD-part : {A : Type 0} (w : ℕ) (f : ℕ → List A) (a n k j : ℕ) (d : A) → ((i : ℕ) → length (f i) ≡ w) → k < n → j < w → getD (flatMap f (range a n)) (w * k + j) d ≡ getD (f (a + k)) j d

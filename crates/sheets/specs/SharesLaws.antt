@@ -10,13 +10,14 @@ use lib.ListN.{length, getD, length-map}
 use mir.Syntax.{w64}
 use mir.Val.{SFits}
 use borrow.Author.Needs.{needs}
-use Rattle.integers.specs.Ranges.{range, length-range, getD-made}
+use Rattle.integers.specs.Ranges.{range}
 use Rattle.integers.specs.Sums.{sumBy}
 use Rattle.book.specs.declared.Point.{Point}
 use Rattle.volumes.specs.Sheets.{partiesOf, shareOf}
-use Rattle.sheets.specs.Adds.{adds, Addable}
+use Rattle.sheets.specs.AddsInner.{adds, Addable}
 use Rattle.sheets.specs.AddsLaws.{adds-next, adds-behind}
-use Rattle.sheets.specs.Shares.{gets, sourceIn, fspIn, getsOf}
+use Rattle.sheets.specs.SharesInner.{gets, sourceIn, fspIn, getsOf}
+use Rattle.integers.specs.RangesLaws.{length-range, getD-made}
 
 pub gets-is : (party : ℕ) (point : Point) (source fsp : ℤ) → gets party point source fsp ≡ cond (eqb (point .sourceparty) party) source (pos 0) +ℤ cond (eqb (point .fspparty) party) fsp (pos 0)
 unfolding gets shareOf partiesOf zip zipWith sumBy

@@ -8,8 +8,8 @@ use native.Mathlib.Omega.{arith}
 use lib.IntN.{ℤ, pos, _+ℤ_, +ℤ-idr}
 use lib.ListN.{length, getD, take, drop, replicate, take-append-drop, length-append, length-take, length-map, List·getD-append}
 use lib.Seq.{take-all, take-suc}
-use Rattle.integers.specs.Ranges.{range, length-range, getD-made}
-use Rattle.integers.specs.Sums.{integers, sumBy, sumZ, sum-append}
+use Rattle.integers.specs.Ranges.{range}
+use Rattle.integers.specs.Sums.{integers, sumBy, sumZ}
 use Rattle.quarters.specs.declared.Calendar.{Calendar}
 use Rattle.book.specs.declared.Engagement.{Engagement}
 use Rattle.book.specs.Book.{Book}
@@ -19,12 +19,14 @@ use Rattle.volumes.specs.Quarters.{quarterHours}
 use Rattle.volumes.specs.QuartersLaws.{map-range-cong, position-inside}
 use Rattle.volumes.specs.Sheets.{startPosition, covers, correctionAt, sheetAt, sheet}
 use Rattle.volumes.specs.SheetsLaws.{covers-before, covers-after}
-use Rattle.volumes.specs.Sound.{Placed, Sound}
+use Rattle.volumes.specs.SoundInner.{Placed, Sound}
 use Rattle.volumes.specs.WidthsLaws.{sheet-part-fits}
-use Rattle.sheets.specs.Adds.{adds, Addable}
-use Rattle.sheets.specs.Shares.{correctionsFor, firstCell}
+use Rattle.sheets.specs.AddsInner.{adds, Addable}
+use Rattle.sheets.specs.SharesInner.{correctionsFor, firstCell}
 use Rattle.sheets.specs.CellsLaws.{cells-length, cell, cells-zero, adds-cells}
-use Rattle.sheets.specs.Parts.{partAt, sheetTo}
+use Rattle.sheets.specs.PartsInner.{partAt, sheetTo}
+use Rattle.integers.specs.RangesLaws.{length-range, getD-made}
+use Rattle.integers.specs.SumsLaws.{sum-append}
 
 -- no engagement, and all of them
 part-none : (book : Book) (party p : ℕ) → partAt book party 0 p ≡ pos 0

@@ -10,8 +10,8 @@ ghost use lib.ListN.{length, getD, drop, replicate};
 ghost use mir.Syntax.{w64};
 ghost use mir.Val.{SFits};
 ghost use Rattle.volumes.specs.Settlement.{rowWidth};
-ghost use Rattle.sheets.specs.Adds.{addAt, adds, Addable};
-ghost use Rattle.sheets.specs.Shares.{gets, getsOf, Both};
+ghost use Rattle.sheets.specs.AddsInner.{addAt, adds, Addable};
+ghost use Rattle.sheets.specs.SharesInner.{gets, getsOf, Both};
 
 // The first n cells of a sheet are 0.
 pub fn clear(sums: &mut [i64], n: usize)

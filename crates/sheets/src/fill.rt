@@ -12,9 +12,9 @@ ghost use Rattle.book.specs.Judged.{refusalOf};
 ghost use Rattle.quarters.specs.Quarters.{monthQuarters};
 ghost use Rattle.volumes.specs.Settlement.{refusalNumber, settlementRefusal, bookRefusal};
 ghost use Rattle.volumes.specs.Sheets.{sheet};
-ghost use Rattle.settlement.specs.Sections.{engagementCountIn, bookWith, Opened};
-ghost use Rattle.sheets.specs.Adds.{adds, Addable};
-ghost use Rattle.sheets.specs.Shares.{correctionsFor, firstCell};
+ghost use Rattle.settlement.specs.SectionsInner.{engagementCountIn, bookWith, Opened};
+ghost use Rattle.sheets.specs.AddsInner.{adds, Addable};
+ghost use Rattle.sheets.specs.SharesInner.{correctionsFor, firstCell};
 
 // Adds a party's corrections of engagement i. A longest day has no more rows.
 fn add_engagement(

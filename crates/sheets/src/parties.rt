@@ -3,7 +3,7 @@ use book::Point;
 ghost use mathlib.Core.Path.{_≡_};
 ghost use Rattle.volumes.specs.Sheets.{partiesOf};
 ghost use Rattle.integers.specs.Counts.{stands};
-ghost use Rattle.sheets.specs.Parties.{partiesIn};
+ghost use Rattle.sheets.specs.PartiesInner.{partiesIn};
 
 // It is a point's source balance party or its FSP balance party.
 fn in_columns(point: Point, party: u16) -> bool

@@ -3,5 +3,5 @@ pub mod Tag
 pub mod TagLaws
 pub mod Decimal
 pub mod DecimalLaws
-pub mod Written
+pub mod WrittenInner
 pub mod WrittenLaws

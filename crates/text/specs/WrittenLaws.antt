@@ -6,7 +6,7 @@ use native.Mathlib.Omega.{arith}
 use native.Mathlib.Nat.{add-zero, add-assoc, add-suc, suc-add}
 use lib.ListN.{length, take, drop, set, getD, length-append, length-drop, take-append-drop, drop-of-length-le}
 use lib.Seq.{length-take-le, take-at, set-at, take-suc, take-add, drop-drop, drop-append-add, drop-cons}
-use Rattle.text.specs.Written.{written, Wrote}
+use Rattle.text.specs.WrittenInner.{written, Wrote}
 
 pub written-nil : (d : List ℕ) (at : ℕ) → written d at [] ≡ d
 unfolding written

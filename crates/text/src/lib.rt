@@ -4,7 +4,7 @@ ghost use Prim.Native.Nat.{_+_, _≤_};
 ghost use lib.ListN.{length, drop};
 ghost use Rattle.text.specs.Tag.{begins};
 ghost use Rattle.text.specs.Decimal.{digit, fixed, plain, fixedAt};
-ghost use Rattle.text.specs.Written.{Wrote};
+ghost use Rattle.text.specs.WrittenInner.{Wrote};
 
 // What stands where a number is to stand.
 pub enum Number {

@@ -9,11 +9,11 @@ use lib.Dec.{eqb, leb, ltb}
 use lib.ListN.{length}
 use native.Mathlib.Omega.{arith}
 use borrow.Author.Tests.{lt-ltb, leb-true, ltb-true}
-use Rattle.integers.specs.Counts.{times, times-mem}
+use Rattle.integers.specs.Counts.{times}
 use Rattle.integers.specs.Ranges.{range}
 use Rattle.integers.specs.Running.{upTo, floorAt}
-use Rattle.integers.specs.Sums.{naturals, sumBy, sumOf, sum-zero, sum-all, sum-swap, sum-once, sum-absent}
-use Rattle.integers.specs.All.{All, all-map, all-of-map, all-append}
+use Rattle.integers.specs.Sums.{naturals, sumBy, sumOf}
+use Rattle.integers.specs.All.{All}
 use Rattle.integers.specs.Keep.{keep}
 use Rattle.integers.specs.Ascending.{ascending}
 use Rattle.integers.specs.AscendingLaws.{ascending-once}
@@ -29,7 +29,7 @@ use Rattle.book.specs.Book.{Book, bookOf}
 use Rattle.quarters.specs.Quarters.{monthQuarters}
 use Rattle.volumes.specs.Baseline.{pointOf}
 use Rattle.volumes.specs.Settlement.{delivered, rowCount, bookRefusal}
-use Rattle.volumes.specs.Sound.{Sound}
+use Rattle.volumes.specs.SoundInner.{Sound}
 use Rattle.refusals.specs.RefusalsLaws.{not-first}
 use Rattle.volumes.specs.SoundLaws.{sound}
 use Rattle.volumes.specs.Sheets.{startPosition, covers, quarterAt}
@@ -41,9 +41,9 @@ use Rattle.message.specs.Valid.{IsPartner}
 use Rattle.message.specs.Group.{spread}
 use Rattle.message.specs.Rows.{Row, seriesRows, partnerRows, rowsOf}
 use Rattle.message.specs.SizeLaws.{file-most}
-use Rattle.reports.specs.Registered.{Registered}
+use Rattle.reports.specs.RegisteredInner.{Registered}
 use Rattle.reports.specs.RegisteredLaws.{registered}
-use Rattle.reports.specs.FileRows.{isTaken, partnerNumbers, directions, positions, observationAt, partnersOf, fileOf, fileText, fileRows, observationBy}
+use Rattle.reports.specs.FileRows.{isTaken, partnerNumbers, directions, partnersOf, fileOf, fileText, fileRows, observationBy}
 use Rattle.reports.specs.CarryLaws.{rowAt, rows-sum}
 use Rattle.reports.specs.FormLaws.{partners-few, partners-valid, file-valid}
 use Rattle.series.specs.VolumesLaws.{volumes-most}
@@ -52,7 +52,11 @@ use Rattle.reports.specs.CallsLaws.{kind-is, InForm, file-in-form}
 use Rattle.reports.specs.Demand3.{isFile}
 use Rattle.kinds.specs.Numbers.{kindNumbered, kindNumber}
 use Rattle.kinds.specs.NumbersLaws.{kind-numbered}
-use Rattle.toe_c.specs.FileSize.{fileMost}
+use Rattle.toe_c.specs.FileSizeInner.{fileMost}
+use Rattle.integers.specs.AllLaws.{all-map, all-of-map, all-append}
+use Rattle.integers.specs.CountsLaws.{times-mem}
+use Rattle.integers.specs.SumsLaws.{sum-zero, sum-all, sum-swap, sum-once, sum-absent}
+use Rattle.reports.specs.FileRowsInner.{positions, observationAt}
 
 -- ---- sums
 

@@ -1,7 +1,7 @@
 pub mod Codes
-pub mod Small
+pub mod SmallInner
 pub mod SmallLaws
 pub mod CodesLaws
-pub mod FileSize
+pub mod FileSizeInner
 pub mod FileSizeLaws
 pub mod ToldLaws

@@ -10,7 +10,7 @@ use lib.ListN.{length, length-map}
 use native.Mathlib.Nat.{div-le-of-le-mul}
 use native.Mathlib.Omega.{arith}
 use Rattle.integers.specs.First.{first}
-use Rattle.integers.specs.Ranges.{range, length-range}
+use Rattle.integers.specs.Ranges.{range}
 use Rattle.quarters.specs.declared.Calendar.{Calendar}
 use Rattle.book.specs.declared.Engagement.{Engagement}
 use Rattle.quarters.specs.Quarters.{daysOf, quartersOf, monthQuarters}
@@ -49,7 +49,8 @@ use Rattle.reports.specs.FileRows.{fileText}
 use Rattle.reports.specs.Roles.{receivers}
 use Rattle.reports.specs.Calls.{stands, sheetRefusal, sheetSays, sheetAnswer, SheetCalled, textOf, shortRefusal, askedRefusal, fileRefusal, fileSays, fileAnswer, FileCalled}
 use Rattle.volumes.specs.Series.{Kind}
-use Rattle.toe_c.specs.Small.{Small, SmallReply}
+use Rattle.toe_c.specs.SmallInner.{Small, SmallReply}
+use Rattle.integers.specs.RangesLaws.{length-range}
 
 abbrev pub AllSmall : Option Refusal → Type 0
 AllSmall none = Unit {0}

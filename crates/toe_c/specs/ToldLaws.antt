@@ -17,8 +17,6 @@ use Rattle.book.specs.Book.{bookOf}
 use Rattle.quarters.specs.Quarters.{monthQuarters}
 use Rattle.quarters.specs.QuartersLaws.{month-quarters-most}
 use Rattle.volumes.specs.Settlement.{rowCount, bookRefusal, settlingRefusal}
-use Rattle.volumes.specs.SettlementLaws.{passing}
-use Rattle.volumes.specs.SoundLaws.{sound}
 use Rattle.volumes.specs.Series.{Kind}
 use Rattle.settlement.specs.declared.settle.Settled.{Settled}
 use Rattle.settlement.specs.Calls.{settleAnswer, SettleCalled}
@@ -39,7 +37,7 @@ use Rattle.reports.specs.declared.FileAnswer.{FileAnswer}
 use Rattle.reports.specs.Calls.{sheetRefusal, sheetAnswer, SheetCalled, textOf, fileRefusal, fileAnswer, FileCalled}
 use Rattle.series.specs.VolumesLaws.{volumes-most}
 use Rattle.toe_c.specs.Codes.{Reply, counts, refuses, settleReply, sheetReply, fileReply, readReply, writeReply, codeOf, Tells, withFacts}
-use Rattle.toe_c.specs.Small.{SmallReply}
+use Rattle.toe_c.specs.SmallInner.{SmallReply}
 use Rattle.toe_c.specs.SmallLaws.{replyBy, settle-by, sheet-by, file-by, write-by, read-by, decoded}
 use Rattle.toe_c.specs.FileSizeLaws.{file-few}
 

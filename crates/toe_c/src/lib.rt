@@ -10,7 +10,7 @@ ghost use Prim.Native.Nat.{_≤_};
 ghost use lib.ListN.{length};
 ghost use Rattle.refusals.specs.Buffers.{over};
 ghost use Rattle.toe_c.specs.Codes.{settleReply, sheetReply, fileReply, readReply, writeReply, refusalCode, codeOf, SettleCoded, SheetCoded, FileCoded, WriteCoded, factNumbers, withFacts, ReadCoded};
-ghost use Rattle.toe_c.specs.Small.{Small, SmallReply};
+ghost use Rattle.toe_c.specs.SmallInner.{Small, SmallReply};
 
 // A refusal as one number.
 fn refusal_code(number: u64, item: usize) -> u64

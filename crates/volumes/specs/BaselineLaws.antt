@@ -10,20 +10,22 @@ use lib.IntN.{ℤ, pos, _+ℤ_, _-ℤ_, _*ℤ_, +ℤ-idr}
 use lib.ListN.{length, length-take, length-map}
 use lib.Signed.{_≤ℤ_}
 use borrow.Author.Tests.{le-leb, lt-leb}
-use Rattle.integers.specs.Z.{up, dn, eqZ, sum, dif, mul}
+use Rattle.integers.specs.ZLaws.{up, dn, eqZ, sum, dif, mul}
 use Rattle.integers.specs.Ranges.{range}
-use Rattle.integers.specs.Sums.{integers, sumBy, sumZ, sum-append, sum-cong, sum-swap, sum-map, sum-flatMap}
+use Rattle.integers.specs.Sums.{integers, sumBy, sumZ}
 use Rattle.wire.specs.declared.Reading.{Reading}
-use Rattle.grains.specs.Grains.{perWatt, grainsZ, share, Shares}
+use Rattle.grains.specs.Grains.{perWatt, grainsZ, share}
 use Rattle.grains.specs.GrainsLaws.{shares-x, shares-12x}
 use Rattle.book.specs.declared.Engagement.{Engagement}
 use Rattle.book.specs.Book.{Book}
-use Rattle.volumes.specs.Order.{le-library}
+use Rattle.volumes.specs.OrderLaws.{le-library}
 use Rattle.volumes.specs.Quarters.{quarterHours}
 use Rattle.volumes.specs.QuartersLaws.{map-range-next, map-range-cong, length-flatMap}
-use Rattle.volumes.specs.Ranking.{sumOfLargest}
 use Rattle.volumes.specs.RankingLaws.{length-ranked, largest}
 use Rattle.volumes.specs.Baseline.{watts, known, complete, mean, readingBefore, window, dayReading, dayReadings, ownWindow, dayWindow, eligibleDays, xOf, yOf, latest, daySum, taken, high, addend}
+use Rattle.grains.specs.GrainsInner.{Shares}
+use Rattle.integers.specs.SumsLaws.{sum-append, sum-cong, sum-swap, sum-map, sum-flatMap}
+use Rattle.volumes.specs.RankingInner.{sumOfLargest}
 
 pub complete-append : (l m : List Reading) → complete (l ++ m) ≡ (complete l && complete m)
 unfolding complete

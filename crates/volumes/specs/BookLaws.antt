@@ -4,13 +4,14 @@ use mathlib.Core.List.{List}
 use Prim.Native.Nat.{ℕ, _<_}
 use native.Mathlib.Nat.{zero-add}
 use lib.ListN.{length, getD, length-map}
-use Rattle.integers.specs.Ranges.{range, length-range, getD-map-range}
+use Rattle.integers.specs.Ranges.{range}
 use Rattle.book.specs.declared.Engagement.{Engagement}
 use Rattle.book.specs.Header.{pointCount, engagementCount, registerSection, engagementSection}
 use Rattle.book.specs.Register.{pointAt}
 use Rattle.book.specs.Engagements.{engagementAt}
 use Rattle.book.specs.Book.{bookOf}
 use Rattle.volumes.specs.Baseline.{noPoint, pointOf}
+use Rattle.integers.specs.RangesLaws.{length-range, getD-map-range}
 
 module _ (bytes : List ℕ) where
   pub points-length : length (bookOf bytes .points) ≡ pointCount bytes

@@ -12,7 +12,8 @@ use Rattle.volumes.specs.Baseline.{pointOf, watts, known, complete, mean
 use Rattle.volumes.specs.Settlement.{neededBy, needed, tooFew, refusalNumber, rowRefusal, refusalFrom, settlementRefusal, requestedAt, limited, deliveredBy, delivered, signed, sourceCorrection, fspCorrection, corrections, row, rowsOf, rows}
 use Rattle.volumes.specs.Sheets.{covers, quarterAt, partiesOf, shareOf, correctionAt, sheetAt, requestedBy, requestedVolume}
 use Rattle.volumes.specs.Series.{takes, receiverOf, partnerOf, sameSupply, sameDirection, isPoint, isEngagement, grainsOf, grainsAt, seriesWatts}
-use Rattle.volumes.specs.Examples.{june, pointFor, point, engagement, book, plain, byDay, byQuarter, engagementF, bookF, caseF, series, thirds, halves, risen, equalSums, shifted, windows, Checked, one, next, flat, gap, turns, oneParty, Further}
+use Rattle.volumes.specs.Examples.{june, pointFor, point, engagement, book, plain, byDay, byQuarter, engagementF, bookF, caseF, series, thirds, halves, risen, equalSums, shifted, windows, Checked}
+use Rattle.volumes.specs.FurtherLaws.{one, next, flat, gap, turns, oneParty, Further}
 
 pub checked : Checked
 unfolding june pointFor point engagement book plain byDay byQuarter engagementF bookF caseF series thirds halves risen equalSums shifted windows quarters dayStart quarterHours start referenceQuarter reference position insert ranked pointOf watts known complete mean readingBefore window ownReading dayReading dayReadings ownWindow dayWindow windowed allowed eligible before keep eligibleDays latest daySum taken high addend lastReading baselineBy baseline neededBy needed tooFew refusalNumber rowRefusal refusalFrom settlementRefusal requestedAt limited deliveredBy delivered signed sourceCorrection fspCorrection corrections row rowsOf rows covers quarterAt takes receiverOf partnerOf sameSupply sameDirection isPoint isEngagement grainsOf grainsAt seriesWatts range sumBy upTo floorAt flatMap

@@ -12,11 +12,12 @@ use lib.IntN.{ℤ, pos, _+ℤ_, _-ℤ_}
 use lib.ListN.{length, take}
 use lib.Seq.{take-length}
 use lib.Signed.{leZ}
-use Rattle.integers.specs.Z.{eqZ, sum, dif, le-yes}
+use Rattle.integers.specs.ZLaws.{eqZ, sum, dif, le-yes}
 use Rattle.integers.specs.Sums.{sumBy, sumZ}
-use Rattle.volumes.specs.Order.{Le, le-refl, le-trans, le-of-no, add-le, maxZ, max-left, max-right, over-left, over-right, max-under, max-add}
-use Rattle.volumes.specs.Ranking.{insert, ranked, sumOfLargest}
+use Rattle.volumes.specs.OrderLaws.{Le, le-refl, le-trans, le-of-no, add-le, maxZ, max-left, max-right, over-left, over-right, max-under, max-add}
+use Rattle.volumes.specs.Ranking.{insert, ranked}
 use Rattle.volumes.specs.RankingLaws.{AtMost, Falling, next, falling-ranked, length-ranked}
+use Rattle.volumes.specs.RankingInner.{sumOfLargest}
 
 module _ {ℓ} {A : Type ℓ} (key : A → ℤ) where
   -- one more of elements that are at most m

@@ -1,12 +1,15 @@
 pub mod Quarters
 pub mod Ranking
+pub mod RankingInner
 pub mod Baseline
 pub mod Settlement
 pub mod Sheets
 pub mod Series
-pub mod Sound
+pub mod SeriesInner
+pub mod SoundInner
 pub mod Examples
-pub mod Order
+pub mod FurtherLaws
+pub mod OrderLaws
 pub mod QuartersLaws
 pub mod RankingLaws
 pub mod DaysLaws

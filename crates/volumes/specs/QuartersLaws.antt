@@ -11,7 +11,7 @@ use Rattle.book.specs.declared.Engagement.{Engagement}
 use Rattle.quarters.specs.Quarters.{daysOf, quarters, quartersOf, inCalendar, position, monthQuarters}
 use Rattle.quarters.specs.QuartersLaws.{day-inside, settled-inside}
 use Rattle.volumes.specs.Quarters.{start, referenceQuarter, reference}
-use Rattle.volumes.specs.Sound.{Placed}
+use Rattle.volumes.specs.SoundInner.{Placed}
 
 pub range-next : (a n : ℕ) → range a (suc n) ≡ range a n ++ ((a + n) ∷ [])
 unfolding range

@@ -1,11 +1,8 @@
 -- A list ranked by falling numbers, and the sum of its largest.
 use mathlib.Core.Bool.{cond}
 use mathlib.Core.List.{List, [], _∷_}
-use Prim.Native.Nat.{ℕ}
 use lib.IntN.{ℤ}
-use lib.ListN.{take}
 use lib.Signed.{leZ}
-use Rattle.integers.specs.Sums.{sumZ}
 
 -- a goes before the first that is no greater: of equal ones that which stood first stays first
 unfoldable pub insert {ℓ} : {A : Type ℓ} → (A → ℤ) → A → List A → List A
@@ -15,7 +12,3 @@ insert key a (b ∷ l) = cond (leZ (key b) (key a)) (a ∷ b ∷ l) (b ∷ inser
 unfoldable pub ranked {ℓ} : {A : Type ℓ} → (A → ℤ) → List A → List A
 ranked key [] = []
 ranked key (a ∷ l) = insert key a (ranked key l)
-
--- the sum of the n largest, of which LargestLaws speaks
-unfoldable pub sumOfLargest {ℓ} : {A : Type ℓ} → (A → ℤ) → ℕ → List A → ℤ
-sumOfLargest key n l = sumZ key (take n (ranked key l))

@@ -9,10 +9,10 @@ use native.Mathlib.Omega.{arith}
 use lib.IntN.{ℤ}
 use lib.ListN.{length, take, drop, getD, take-append-drop}
 use lib.Signed.{leZ}
-use Rattle.integers.specs.Ranges.{getD-mem}
-use Rattle.integers.specs.Z.{le-yes, le-no}
-use Rattle.volumes.specs.Order.{Le, le-refl, le-trans, le-of-no}
+use Rattle.integers.specs.ZLaws.{le-yes, le-no}
+use Rattle.volumes.specs.OrderLaws.{Le, le-refl, le-trans, le-of-no}
 use Rattle.volumes.specs.Ranking.{insert, ranked}
+use Rattle.integers.specs.RangesLaws.{getD-mem}
 
 module _ {ℓ} {A : Type ℓ} (key : A → ℤ) where
   pub length-insert : (a : A) (l : List A) → length (insert key a l) ≡ suc (length l)

@@ -9,17 +9,18 @@ use lib.Dec.{leb, ltb}
 use lib.ListN.{length}
 use borrow.Author.Tests.{leb-true, ltb-true}
 use Rattle.integers.specs.Sums.{sumBy, sumOf}
-use Rattle.integers.specs.Running.{upTo, upTo-zero, upTo-add}
+use Rattle.integers.specs.Running.{upTo}
 use Rattle.book.specs.declared.Engagement.{Engagement}
 use Rattle.book.specs.Book.{Book}
 use Rattle.volumes.specs.Settlement.{delivered, rowCount}
-use Rattle.quarters.specs.Quarters.{longestDay, mostRows}
 use Rattle.quarters.specs.QuartersLaws.{quarters-most}
 use Rattle.volumes.specs.Sheets.{startPosition, covers, quarterAt}
 use Rattle.volumes.specs.declared.Series.{Series}
 use Rattle.volumes.specs.Series.{Kind, isEngagement, grainsOf, grainsAt}
-use Rattle.volumes.specs.Sound.{Placed, Sound}
+use Rattle.volumes.specs.SoundInner.{Placed, Sound}
 use Rattle.volumes.specs.WidthsLaws.{most, delivered-most}
+use Rattle.integers.specs.RunningLaws.{upTo-zero, upTo-add}
+use Rattle.quarters.specs.QuartersInner.{longestDay, mostRows}
 
 -- at most m at each of the n positions from a on, and nothing elsewhere
 pub record Only (m a n : ℕ) (g : ℕ → ℕ) : Type 0 where

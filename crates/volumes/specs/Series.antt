@@ -1,5 +1,4 @@
 -- Document 01, "Delivered volume, corrections, series": the series of a file.
-use mathlib.Core.Path.{_≡_}
 use mathlib.Core.Bool.{Bool, true, false, cond, _&&_}
 use Prim.Native.Nat.{ℕ}
 use lib.Dec.{eqb}
@@ -8,8 +7,6 @@ use Rattle.integers.specs.Running.{floorAt}
 use Rattle.grains.specs.Grains.{perWatt}
 use Rattle.book.specs.declared.Situation.{Situation}
 use Rattle.book.specs.declared.Situation.the-variants.{Transfer, PassThrough, OptOut, NetInjector}
-use Rattle.book.specs.declared.Takers.{Takers}
-use Rattle.book.specs.declared.Takers.the-variants.{Aggregated, Individual, Neither, Refused}
 use Rattle.book.specs.declared.Supply.{Supply}
 use Rattle.book.specs.declared.Supply.the-variants.{OffTake, Injection}
 use Rattle.book.specs.declared.Direction.{Direction}
@@ -38,25 +35,6 @@ takes Toe03 Transfer = false
 takes Toe03 PassThrough = true
 takes Toe03 OptOut = false
 takes Toe03 NetInjector = false
-
--- the same by what the register's byte says; a byte that is no situation is refused, and no file takes its row
-unfoldable pub takenBy : Kind → Takers → Bool
-takenBy Toe01 Aggregated = true
-takenBy Toe01 Individual = false
-takenBy Toe01 Neither = false
-takenBy Toe01 Refused = false
-takenBy Toe02 Aggregated = true
-takenBy Toe02 Individual = false
-takenBy Toe02 Neither = false
-takenBy Toe02 Refused = false
-takenBy Toe03 Aggregated = false
-takenBy Toe03 Individual = true
-takenBy Toe03 Neither = false
-takenBy Toe03 Refused = false
-
--- a point's takers are those of its situation: so with each register row (`told-at`)
-pub record Told (point : Point) : Type 0 where
-  pub law : (kind : Kind) → takenBy kind (point .takers) ≡ takes kind (point .situation)
 
 -- "TOE01 (one FSP, by supplier) and TOE02 (one supplier, by FSP) ..; TOE03 (one supplier, by access point)"
 unfoldable pub receiverOf : Kind → Point → ℕ

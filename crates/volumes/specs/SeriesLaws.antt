@@ -4,8 +4,8 @@ use mathlib.Core.Bool.{Bool, true, false, cond, _&&_}
 use mathlib.Core.List.{List}
 use Prim.Native.Nat.{ℕ, zero, suc}
 use lib.Dec.{eqb}
-use Rattle.integers.specs.Sums.{naturals, sum-all}
-use Rattle.integers.specs.Running.{upTo, telescope, floorAt-cong}
+use Rattle.integers.specs.Sums.{naturals}
+use Rattle.integers.specs.Running.{upTo}
 use Rattle.grains.specs.Grains.{perWatt, wholeWatts}
 use Rattle.book.specs.declared.Situation.{Situation}
 use Rattle.book.specs.declared.Situation.the-variants.{Transfer, PassThrough, OptOut, NetInjector}
@@ -18,7 +18,10 @@ use Rattle.volumes.specs.Baseline.{pointOf}
 use Rattle.volumes.specs.Settlement.{delivered}
 use Rattle.volumes.specs.Sheets.{covers, quarterAt}
 use Rattle.volumes.specs.declared.Series.{Series}
-use Rattle.volumes.specs.Series.{Kind, Toe01, Toe02, Toe03, takes, takenBy, Told, receiverOf, partnerOf, sameSupply, sameDirection, isPoint, isEngagement, grainsOf, grainsAt, seriesWatts, seriesOf}
+use Rattle.volumes.specs.Series.{Kind, Toe01, Toe02, Toe03, takes, receiverOf, partnerOf, sameSupply, sameDirection, isPoint, isEngagement, grainsOf, grainsAt, seriesWatts, seriesOf}
+use Rattle.integers.specs.RunningLaws.{telescope, floorAt-cong}
+use Rattle.integers.specs.SumsLaws.{sum-all}
+use Rattle.volumes.specs.SeriesInner.{takenBy, Told}
 
 -- up to each position: "the series' grains up to it, over 30,240 rounded down"
 pub series-prefix : (book : Book) (kind : Kind) (receiver : ℕ) (s : Series) (p : ℕ) → upTo (seriesWatts book kind receiver s) p ≡ wholeWatts (upTo (grainsAt book kind receiver s) p)

@@ -9,8 +9,8 @@ use native.Mathlib.Omega.{arith}
 use lib.ListN.{length, take, drop, getD, length-append, drop-of-length-le}
 use lib.Seq.{take-suc, drop-cons}
 use borrow.Author.Tests.{ltb-false, le-leb}
-use Rattle.integers.specs.Ranges.{range, length-range}
-use Rattle.integers.specs.Sums.{naturals, sumBy, sumOf, sum-append}
+use Rattle.integers.specs.Ranges.{range}
+use Rattle.integers.specs.Sums.{naturals, sumBy, sumOf}
 use Rattle.book.specs.declared.Method.{Method}
 use Rattle.book.specs.declared.Method.the-variants.{LastQuarter, HighXOfY, Adjusted}
 use Rattle.book.specs.declared.Engagement.{Engagement}
@@ -23,6 +23,8 @@ use Rattle.volumes.specs.QuartersLaws.{range-next, flatMap-append, lengt
 use Rattle.volumes.specs.Baseline.{pointOf, complete, eligibleDays, taken, xOf, yOf}
 use Rattle.volumes.specs.BaselineLaws.{taken-length}
 use Rattle.volumes.specs.Settlement.{needed, tooFew, refusalNumber, rowRefusal, refusalFrom, settlementRefusal, corrections, rowWidth, row, rowsOf, rows, rowCount, bookRefusal, settlingRefusal, Accepted}
+use Rattle.integers.specs.RangesLaws.{length-range}
+use Rattle.integers.specs.SumsLaws.{sum-append}
 
 -- an engagement that is not refused
 pub record Settles (book : Book) (e : Engagement) : Type 0 where

@@ -9,11 +9,11 @@ use lib.Dec.{eqb, leb}
 use lib.IntN.{ℤ, pos, negℤ, _+ℤ_, _-ℤ_}
 use lib.ListN.{length, getD, length-map}
 use borrow.Author.Tests.{le-leb, lt-leb, lt-ltb, le-ltb}
-use Rattle.integers.specs.Z.{eqZ, sum, dif, neg}
+use Rattle.integers.specs.ZLaws.{eqZ, sum, dif, neg}
 use Rattle.integers.specs.Counts.{times}
-use Rattle.integers.specs.Ranges.{range, length-range}
-use Rattle.integers.specs.Sums.{integers, sumBy, sumZ, sum-zero, sum-cong, sum-swap, sum-once}
-use Rattle.integers.specs.Once.{Once}
+use Rattle.integers.specs.Ranges.{range}
+use Rattle.integers.specs.Sums.{integers, sumBy, sumZ}
+use Rattle.integers.specs.OnceLaws.{Once}
 use Rattle.quarters.specs.declared.Calendar.{Calendar}
 use Rattle.book.specs.declared.Direction.{Direction}
 use Rattle.book.specs.declared.Direction.the-variants.{Up, Down}
@@ -24,6 +24,8 @@ use Rattle.quarters.specs.Quarters.{monthQuarters}
 use Rattle.volumes.specs.Baseline.{noPoint, pointOf}
 use Rattle.volumes.specs.Settlement.{delivered, requestedAt, signed, sourceCorrection, fspCorrection, corrections}
 use Rattle.volumes.specs.Sheets.{startPosition, covers, quarterAt, partiesOf, parties, shareOf, correctionAt, sheetAt, sheet, requestedBy, requestedVolume}
+use Rattle.integers.specs.RangesLaws.{length-range}
+use Rattle.integers.specs.SumsLaws.{sum-zero, sum-cong, sum-swap, sum-once}
 
 -- the corrections of a quarter-hour make up what was requested
 two : (d : Direction) (r v : ℤ) → signed d v +ℤ (signed d (r -ℤ v) +ℤ pos 0) ≡ signed d r

@@ -12,10 +12,10 @@ use lib.IntN.{ℤ, pos, negℤ}
 use lib.ListN.{length, length-take, length-map, drop-of-length-le, List·getD-eq-default}
 use lib.Signed.{leZ}
 use borrow.Author.Tests.{eqb-true, eqb-false, leb-true, ltb-true, ltb-false, not-true, not-false}
-use Rattle.integers.specs.Tests.{both, neither}
-use Rattle.integers.specs.First.{first, anyBelow, any-of}
-use Rattle.integers.specs.Ranges.{range, length-range}
-use Rattle.integers.specs.Z.{up, dn, one-0, le-yes}
+use Rattle.integers.specs.TestsLaws.{both, neither}
+use Rattle.integers.specs.First.{first, anyBelow}
+use Rattle.integers.specs.Ranges.{range}
+use Rattle.integers.specs.ZLaws.{up, dn, one-0, le-yes}
 use Rattle.wire.specs.Numbers.{numberAt}
 use Rattle.wire.specs.Readings.{readingAt, readingOf}
 use Rattle.wire.specs.declared.Reading.{Reading}
@@ -35,7 +35,9 @@ use Rattle.book.specs.Book.{bookOf}
 use Rattle.book.specs.declared.Point.{Point}
 use Rattle.book.specs.declared.Engagement.{Engagement}
 use Rattle.volumes.specs.Baseline.{watts}
-use Rattle.volumes.specs.Sound.{Bounded, Paired, Limited, Placed, OnTerms, Sound}
+use Rattle.volumes.specs.SoundInner.{Bounded, Paired, Limited, Placed, OnTerms, Sound}
+use Rattle.integers.specs.FirstLaws.{any-of}
+use Rattle.integers.specs.RangesLaws.{length-range}
 
 -- a search that found nothing: the test names none
 pub first-none : (test : ℕ → Bool) (a n : ℕ) → first test a n ≡ none → (i : ℕ) → a ≤ i → i < a + n → test i ≡ false

@@ -12,7 +12,7 @@ use lib.IntN.{ℤ, pos, negsuc, negℤ, _+ℤ_, _-ℤ_, _*ℤ_}
 use lib.ListN.{length, getD}
 use mir.Syntax.{w64}
 use mir.Val.{SFits}
-use Rattle.integers.specs.Z.{one-0, sum, dif, neg, mul, sfits}
+use Rattle.integers.specs.ZLaws.{one-0, sum, dif, neg, mul, sfits}
 use Rattle.integers.specs.Ranges.{range}
 use Rattle.integers.specs.Sums.{sumBy, sumZ}
 use Rattle.wire.specs.declared.Reading.{Reading}
@@ -29,7 +29,7 @@ use Rattle.volumes.specs.Quarters.{start, reference}
 use Rattle.volumes.specs.Baseline.{noPoint, pointOf, watts, mean, readingBefore, window, dayReading, ownReading, ownWindow, dayWindow, taken, high, addend, lastReading, baselineBy, baseline}
 use Rattle.volumes.specs.Settlement.{requestedAt, limited, deliveredBy, delivered, signed, sourceCorrection, fspCorrection, corrections}
 use Rattle.volumes.specs.Sheets.{covers, quarterAt, partiesOf, shareOf, correctionAt, sheetAt}
-use Rattle.volumes.specs.Sound.{Bounded, Limited, OnTerms, Sound}
+use Rattle.volumes.specs.SoundInner.{Bounded, Limited, OnTerms, Sound}
 
 -- bounds of sums, differences and multiples
 pub bounded-add : {m n : ℕ} {a b : ℤ} → Bounded m a → Bounded n b → Bounded (m + n) (a +ℤ b)

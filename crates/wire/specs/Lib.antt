@@ -1,4 +1,5 @@
 pub mod Numbers
 pub mod NumbersLaws
 pub mod Readings
+pub mod ReadingsInner
 pub mod ReadingsLaws

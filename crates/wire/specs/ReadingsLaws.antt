@@ -8,9 +8,10 @@ use lib.IntN.{ℤ, pos, negsuc}
 use mir.Syntax.{w32}
 use mir.Val.{toZ}
 use borrow.Author.Tests.{eqb-true, eqb-false, ltb-true, ltb-false}
-use Rattle.integers.specs.Z.{sum, Over, Within, low, high}
-use Rattle.wire.specs.Readings.{readingOf, missingIf, raised, raise}
+use Rattle.integers.specs.ZLaws.{sum, Over, Within, low, high}
+use Rattle.wire.specs.Readings.{readingOf, missingIf}
 use Rattle.wire.specs.declared.Reading.the-variants.{Watts, Missing}
+use Rattle.wire.specs.ReadingsInner.{raised, raise}
 
 -- the raised reading of z is z + 2^31
 pub raised-over : (z : ℤ) → Within z raise → Over raise z (raised (readingOf z))

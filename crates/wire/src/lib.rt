@@ -3,7 +3,7 @@ ghost use mathlib.Core.Path.{_≡_};
 ghost use Prim.Native.Nat.{_+_, _*_, _≤_};
 ghost use lib.ListN.{length};
 ghost use Rattle.wire.specs.Numbers.{numberAt};
-ghost use Rattle.wire.specs.Readings.{Raised};
+ghost use Rattle.wire.specs.ReadingsInner.{Raised};
 
 pub fn u8_at(s: &[u8], at: usize) -> u8
     requires { ⌜ at + 1 ≤ length (now s) ⌝ }

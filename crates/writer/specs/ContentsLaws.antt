@@ -7,22 +7,24 @@ use lib.Dec.{ltb}
 use lib.ListN.{length, length-map, getD}
 use native.Mathlib.Omega.{arith}
 use borrow.Author.Tests.{ltb-true}
-use Rattle.integers.specs.Tests.{and-left, and-right}
+use Rattle.integers.specs.TestsLaws.{and-left, and-right}
 use Rattle.kinds.specs.declared.Kind.{Kind}
 use Rattle.message.specs.Contents.{Observation}
 use Rattle.message.specs.Valid.{lastPosition}
 use Rattle.message.specs.Bytes.{observationBytes, seriesBytes, supplyOf, partnerBytes}
 use Rattle.message.specs.ObservationForm.{observed, isPeriod, to-period}
 use Rattle.message.specs.Keys.{numberKeys, pairKeys}
-use Rattle.message.specs.Group.{group, first-group}
+use Rattle.message.specs.Group.{group}
 use Rattle.message.specs.Rows.{rowsFrom, rowsIn, inSixes, seriesOf, partnerOf, partnersOf, contents}
 use Rattle.message.specs.Messages.{messageBytes}
 use Rattle.writer.specs.Order.{every, ordered}
-use Rattle.writer.specs.Rows.{isObservation, isPair, isNumber, isRow, rowBefore, ofMonth, isRows, rowsMessage, rowAt, Paired}
-use Rattle.writer.specs.Runs.{PartnerRun, PairRun}
-use Rattle.emitter.specs.Parts.{fileHead, fileEnd}
+use Rattle.writer.specs.Rows.{isObservation, isPair, isNumber, isRow, rowBefore, ofMonth, isRows, rowsMessage}
+use Rattle.writer.specs.RunsInner.{PartnerRun, PairRun}
+use Rattle.emitter.specs.PartsInner.{fileHead, fileEnd}
 use Rattle.emitter.specs.PartsLaws.{file-parts}
-use Rattle.writer.specs.Contents.{observationsIn, seriesAt, seriesIn, partnerAt, partnersIn, Writable}
+use Rattle.writer.specs.ContentsInner.{observationsIn, seriesAt, seriesIn, partnerAt, partnersIn, Writable}
+use Rattle.message.specs.GroupLaws.{first-group}
+use Rattle.writer.specs.RowsInner.{rowAt, Paired}
 
 -- ---- observations
 

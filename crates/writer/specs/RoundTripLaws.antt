@@ -7,7 +7,7 @@ use Prim.Native.Nat.{ℕ, _*_, _^_, _≤_}
 use lib.Dec.{ltb}
 use lib.ListN.{length, take, drop}
 use native.Mathlib.Omega.{arith}
-use Rattle.integers.specs.Tests.{and-left, and-right, and-both}
+use Rattle.integers.specs.TestsLaws.{and-left, and-right, and-both}
 use Rattle.formats.specs.Format.{got}
 use Rattle.formats.specs.FormatLaws.{got-bad}
 use Rattle.text.specs.DecimalLaws.{true-false}

@@ -1,10 +1,8 @@
 -- Which rows a file has, row by row: each row by itself, and each behind the one before it (document 01, "The file").
-use mathlib.Core.Path.{_≡_}
 use mathlib.Core.Bool.{Bool, true, _&&_}
 use mathlib.Core.List.{List, [], _∷_}
-use Prim.Native.Nat.{ℕ, zero, suc, _+_, _*_, _%_, _^_, _≤_, _<_}
+use Prim.Native.Nat.{ℕ, _+_, _*_, _^_}
 use lib.Dec.{eqb, leb, ltb}
-use lib.ListN.{length, getD}
 use Rattle.kinds.specs.declared.Kind.{Kind}
 use Rattle.kinds.specs.declared.Kind.the-variants.{Toe01, Toe02, Toe03}
 use Rattle.message.specs.Contents.{Observation}
@@ -62,27 +60,3 @@ isRows k receiver year month l = ltb receiver (10 ^ 10) && (inSixes l && ofMonth
 -- a file by its rows' numbers
 abbrev pub rowsMessage : Kind → ℕ → ℕ → ℕ → List ℕ → List ℕ → List ℕ → Message
 rowsMessage k receiver year month l id moment = record { kind = k; receiver = receiver; id = id; moment = moment; year = year; month = month; rows = rowsIn l }
-
--- ---- the same by the numbers' places
-
-abbrev pub rowAt : List ℕ → ℕ → Row
-rowAt l at = (getD l at 0, ((getD l (at + 1) 0, getD l (at + 2) 0), record { position = getD l (at + 3) 0; watts = getD l (at + 4) 0 }))
-
--- six numbers that are a row
-unfoldable pub sixAt : Kind → ℕ → List ℕ → ℕ → Bool
-sixAt k last l at = isRow k last (rowAt l at) && eqb (getD l (at + 5) 0) 0
-
--- n rows that may stand behind the row at a place
-unfoldable pub behind : Kind → ℕ → List ℕ → ℕ → ℕ → Bool
-behind k last l at zero = true
-behind k last l at (suc n) = (sixAt k last l (at + 6) && rowBefore k (rowAt l at) (rowAt l (at + 6))) && behind k last l (at + 6) n
-
--- both directions at a place are 0 or 1
-pub record Paired (l : List ℕ) (at : ℕ) : Type 0 where
-  pub supply : getD l (at + 1) 0 < 2
-  pub delivery : getD l (at + 2) 0 < 2
-
--- six numbers a row, and a row
-pub record Sixes (l : List ℕ) : Type 0 where
-  pub whole : length l % 6 ≡ 0
-  pub some : 6 ≤ length l

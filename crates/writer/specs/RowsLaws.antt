@@ -7,9 +7,9 @@ use lib.Dec.{eqb, leb, ltb}
 use lib.ListN.{length, getD, length-map}
 use native.Mathlib.Omega.{arith}
 use borrow.Author.Tests.{leb-true, le-leb, ltb-true, lt-ltb, eqb-true, eq-eqb}
-use Rattle.integers.specs.Tests.{and-left, and-right, and-both}
+use Rattle.integers.specs.TestsLaws.{and-left, and-right, and-both}
 use Rattle.integers.specs.Rises.{rises}
-use Rattle.integers.specs.All.{All, all-map, all-of, all-append, all-both, all-of-map, map-all}
+use Rattle.integers.specs.All.{All}
 use Rattle.kinds.specs.declared.Kind.{Kind}
 use Rattle.kinds.specs.declared.Kind.the-variants.{Toe01, Toe02, Toe03}
 use Rattle.message.specs.Contents.{Observation, TimeSeries, Partner, position, place, number}
@@ -18,12 +18,17 @@ use Rattle.message.specs.Valid.{most, lastPosition, IsObservation, IsPeriod, Is
 use Rattle.message.specs.SeriesForm.{position-small}
 use Rattle.message.specs.ObservationForm.{isPeriod, to-period, from-period}
 use Rattle.message.specs.Keys.{numberKeys, pairKeys}
-use Rattle.message.specs.Group.{Keys, group, first-group}
+use Rattle.message.specs.Group.{Keys, group}
 use Rattle.message.specs.Rows.{Row, rowsFrom, rowsIn, zeros, inSixes, seriesOf, partnerOf, partnersOf, Message, contents, IsMessage}
 use Rattle.message.specs.RowsLaws.{first-month}
 use Rattle.moments.specs.Ids.{isTransactionId}
-use Rattle.writer.specs.Order.{every, follow, ordered, by, both, keysOf, inOrder, order-groups, every-group, full-groups, every-all, all-every, ordered-map, ordered-both, rises-follow, rises-few}
-use Rattle.writer.specs.Rows.{isObservation, isPair, isNumber, oneSupply, laterPair, later, isRow, rowBefore, ofMonth, isRows, rowsMessage, rowAt, sixAt, behind}
+use Rattle.writer.specs.Order.{every, follow, ordered, by, both}
+use Rattle.writer.specs.Rows.{isObservation, isPair, isNumber, oneSupply, laterPair, later, isRow, rowBefore, ofMonth, isRows, rowsMessage}
+use Rattle.integers.specs.AllLaws.{all-map, all-of, all-append, all-both, all-of-map, map-all}
+use Rattle.message.specs.GroupLaws.{first-group}
+use Rattle.writer.specs.OrderInner.{keysOf, inOrder, order-groups}
+use Rattle.writer.specs.OrderLaws.{every-group, full-groups, every-all, all-every, ordered-map, ordered-both, rises-follow, rises-few}
+use Rattle.writer.specs.RowsInner.{rowAt, sixAt, behind}
 
 -- ---- observations
 

@@ -13,8 +13,8 @@ use Rattle.message.specs.Keys.{numberKeys, pairKeys}
 use Rattle.message.specs.Group.{Keys, group}
 use Rattle.message.specs.GroupLaws.{Ends, leading}
 use Rattle.message.specs.Rows.{Row, rowsFrom}
-use Rattle.writer.specs.Rows.{rowAt}
-use Rattle.writer.specs.Runs.{PartnerRun, PairRun}
+use Rattle.writer.specs.RunsInner.{PartnerRun, PairRun}
+use Rattle.writer.specs.RowsInner.{rowAt}
 
 -- rows are the first r of them and those behind
 pub rows-split : (l : List ℕ) (at n r m : ℕ) → n ≡ r + m → rowsFrom l at n ≡ rowsFrom l at r ++ rowsFrom l (at + 6 * r) m

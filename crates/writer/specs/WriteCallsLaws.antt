@@ -8,7 +8,7 @@ use lib.Dec.{leb}
 use lib.ListN.{length}
 use native.Mathlib.Omega.{arith}
 use borrow.Author.Tests.{le-leb, lt-leb}
-use Rattle.integers.specs.Tests.{and-left, and-right}
+use Rattle.integers.specs.TestsLaws.{and-left, and-right}
 use Rattle.refusals.specs.Refusals.{refused, unless}
 use Rattle.refusals.specs.Buffers.{over, afterwards}
 use Rattle.moments.specs.Ids.{isTransactionId}

@@ -5,7 +5,8 @@ ghost use mathlib.Core.Bool.{_&&_};
 ghost use Prim.Native.Nat.{_+_, _-_, _/_, _^_, _≤_};
 ghost use lib.ListN.{length};
 ghost use Rattle.message.specs.Bytes.{digits};
-ghost use Rattle.writer.specs.Rows.{oneSupply, pairBefore, rowBefore, rowAt, sixAt, behind, isRows, Paired, Sixes};
+ghost use Rattle.writer.specs.Rows.{oneSupply, pairBefore, rowBefore, isRows};
+ghost use Rattle.writer.specs.RowsInner.{rowAt, sixAt, behind, Paired, Sixes};
 
 // One more than the greatest number of a partner.
 fn number_limit(kind: Kind) -> u64

@@ -6,7 +6,7 @@ ghost use lib.ListN.{length};
 ghost use Rattle.message.specs.Keys.{numberKeys, pairKeys};
 ghost use Rattle.message.specs.Group.{group};
 ghost use Rattle.message.specs.Rows.{rowsFrom};
-ghost use Rattle.writer.specs.Runs.{Stand, PartnerRun, PairRun};
+ghost use Rattle.writer.specs.RunsInner.{Stand, PartnerRun, PairRun};
 
 // How many of n rows from `at` on are the first one's partner's.
 pub fn partner_run(rows: &[u64], at: usize, n: usize) -> usize

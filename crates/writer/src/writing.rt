@@ -29,8 +29,8 @@ ghost use Rattle.message.specs.Messages.{messageBytes};
 ghost use Rattle.kinds.specs.Numbers.{kindNumber};
 ghost use Rattle.writer.specs.Rows.{isRows, rowsMessage};
 ghost use Rattle.writer.specs.WriteCalls.{WriteCalled};
-ghost use Rattle.writer.specs.Contents.{observationsIn, seriesAt, seriesIn, partnerAt, partnersIn, Writable};
-ghost use Rattle.emitter.specs.Laid.{Laid, Stands};
+ghost use Rattle.writer.specs.ContentsInner.{observationsIn, seriesAt, seriesIn, partnerAt, partnersIn, Writable};
+ghost use Rattle.emitter.specs.LaidLaws.{Laid, Stands};
 
 // The observations of n rows.
 fn emit_observations(out: &mut [u8], m: Mark, rows: &[u64], at: usize, n: usize, live: bool) -> Mark

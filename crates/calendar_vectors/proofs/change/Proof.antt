@@ -1,11 +1,11 @@
 -- `change` is safe and ends: the next month is a month, and the lead stays within this one's days.
 use Prim.Native.Nat.{_-_, _≤_}
-use Rattle.calendar.specs.Dates.{IsMonth}
 use Rattle.calendar.specs.DatesLaws.{month-length, next-is-month}
 use borrow.Author.Needs.{needs}
 use native.Mathlib.Omega.{arith}
 use Rattle.calendar_vectors.proofs.change.Statement.{statement}
 use Rattle.calendar_vectors.proofs.change.Tie as tie
+use Rattle.calendar.specs.DatesInner.{IsMonth}
 
 abbrev Inv-loop : tie.InvT-loop
 Inv-loop year month next days lead₀ lead = IsMonth (next .year) (next .month) × (days ≤ 31) × (lead ≤ days)

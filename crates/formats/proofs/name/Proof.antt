@@ -7,7 +7,7 @@ use borrow.Author.Needs.{needs}
 use Rattle.formats.specs.declared.Mark.the-variants.{At}
 use Rattle.formats.specs.Combine.{strip}
 use Rattle.formats.specs.Name.{nameByte, nameParse}
-use Rattle.formats.specs.Place.{Parsed}
+use Rattle.formats.specs.PlaceInner.{Parsed}
 use Rattle.formats.specs.PlaceLaws.{not-there, span-room, name-short, name-long, name-there}
 use Rattle.formats.proofs.name.Statement.{statement}
 use Rattle.formats.proofs.name.Tie as tie

@@ -14,7 +14,7 @@ use Rattle.text.specs.DecimalLaws.{digit-is}
 use Rattle.formats.specs.Format.{got, bad, pick}
 use Rattle.formats.specs.declared.Mark.the-variants.{At, No}
 use Rattle.formats.specs.Numbers.{numberParse, moreParse}
-use Rattle.formats.specs.Place.{Parsed}
+use Rattle.formats.specs.PlaceInner.{Parsed}
 use Rattle.formats.specs.PlaceLaws.{parsed, not-there, number-short, number-step, more-short, more-step}
 use Rattle.formats.proofs.number_at.Statement.{statement}
 use Rattle.formats.proofs.number_at.Tie as tie

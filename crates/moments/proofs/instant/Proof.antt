@@ -1,12 +1,12 @@
 use mathlib.Core.Path.{_≡_, ap}
 use Prim.Native.Nat.{_-_, _*_}
-use Rattle.moments.specs.Moments.{clock, instant}
 -- `instant` meets its contract: what is read of a real moment keeps every sum in range.
 use Rattle.calendar.specs.DatesLaws.{number-most}
 use Rattle.moments.specs.MomentsLaws.{real-is, real-month, real-day, instant-clock}
 use native.Mathlib.Omega.{arith}
 use Rattle.moments.proofs.instant.Statement.{statement}
 use Rattle.moments.proofs.instant.Tie as tie
+use Rattle.moments.specs.MomentsInner.{clock, instant}
 
 day-number-requires : tie.Need-day-number-requires
 day-number-requires c κs =

@@ -1,10 +1,11 @@
 -- A kind is a number of two digits that is a kind's.
 use mathlib.Core.Path.{sym, ap, _∙_}
-use Rattle.kinds.specs.Numbers.{kindIn, isThere}
+use Rattle.kinds.specs.Numbers.{isThere}
 use Rattle.requests.specs.LineLaws.{kind-is, kind-none}
 use borrow.Author.Needs.{needs}
 use Rattle.requests.proofs.kind.Statement.{statement}
 use Rattle.requests.proofs.kind.Tie as tie
+use Rattle.kinds.specs.NumbersInner.{kindIn}
 
 fixed-requires : tie.Need-fixed-requires
 fixed-requires c κs = search needs

@@ -7,7 +7,7 @@ use lib.Seq.{take-all, take-suc, length-take-le}
 use native.Mathlib.Omega.{arith}
 use native.Mathlib.Numerals.{add-one}
 use borrow.Author.Needs.{needs}
-use Rattle.text.specs.Written.{written}
+use Rattle.text.specs.WrittenInner.{written}
 use Rattle.text.specs.WrittenLaws.{written-nil, written-snoc}
 use Rattle.text.proofs.put.Statement.{statement}
 use Rattle.text.proofs.put.Tie as tie

@@ -7,7 +7,7 @@ use native.Mathlib.Omega.{arith}
 use borrow.Author.Needs.{needs}
 use Rattle.text.specs.Decimal.{above, fixed}
 use Rattle.text.specs.DecimalLaws.{above-zero, above-suc, length-fixed}
-use Rattle.text.specs.Written.{written}
+use Rattle.text.specs.WrittenInner.{written}
 use Rattle.text.specs.WrittenLaws.{written-nil, written-cons}
 use Rattle.text.proofs.put_fixed.Statement.{statement}
 use Rattle.text.proofs.put_fixed.Tie as tie

@@ -2,12 +2,13 @@
 use mathlib.Core.Path.{ap, _∙_}
 use mir.Syntax.{w32}
 use mir.Val.{toZ}
-use Rattle.wire.specs.Readings.{readingOf, raised}
+use Rattle.wire.specs.Readings.{readingOf}
 use Rattle.wire.specs.ReadingsLaws.{raised-bits, in-range}
 use native.Mathlib.Omega.{arith}
 use borrow.Author.Needs.{needs}
 use Rattle.wire.proofs.raised_at.Statement.{statement}
 use Rattle.wire.proofs.raised_at.Tie as tie
+use Rattle.wire.specs.ReadingsInner.{raised}
 
 mul-u32-at : tie.Need-mul-u32-at
 mul-u32-at c = search needs

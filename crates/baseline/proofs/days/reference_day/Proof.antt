@@ -6,9 +6,9 @@ use lib.Dec.{eqb}
 use lib.ListN.{length, getD}
 use borrow.Author.Tests.{not-true, not-false}
 use Rattle.volumes.specs.Baseline.{windowed}
-use Rattle.baseline.specs.Tally.{Tallied}
-use Rattle.baseline.specs.Runs.{standing}
-use Rattle.baseline.specs.Shown.{windowIn}
+use Rattle.baseline.specs.TallyInner.{Tallied}
+use Rattle.baseline.specs.RunsInner.{standing}
+use Rattle.baseline.specs.ShownInner.{windowIn}
 use Rattle.baseline.specs.ShownLaws.{DayStands, stands, StandsOn, stands-on}
 use Rattle.baseline.specs.RefersLaws.{refers-not, refers}
 use native.Mathlib.Omega.{arith}

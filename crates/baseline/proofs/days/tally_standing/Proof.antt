@@ -3,9 +3,8 @@ use mathlib.Core.Path.{sym, subst, ap, _∙_}
 use mathlib.Core.List.{List}
 use Prim.Native.Nat.{ℕ, _+_}
 use Rattle.wire.specs.declared.Reading.{Reading}
-use Rattle.baseline.specs.Tally.{inRun, Tallied}
+use Rattle.baseline.specs.TallyInner.{inRun, Tallied}
 use Rattle.baseline.specs.RunsLaws.{standing-run}
-use native.Mathlib.Omega.{arith}
 use borrow.Author.Needs.{needs}
 use Rattle.baseline.proofs.days.tally_standing.Statement.{statement}
 use Rattle.baseline.proofs.days.tally_standing.Tie as tie

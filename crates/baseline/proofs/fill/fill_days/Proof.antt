@@ -2,16 +2,16 @@
 use mathlib.Core.Path.{refl, sym, subst, _∙_}
 use Prim.Native.Nat.{ℕ, _≤_}
 use Rattle.volumes.specs.QuartersLaws.{start-is}
-use Rattle.baseline.specs.Shown.{windowIn}
-use Rattle.baseline.specs.Fills.{Raises, Added}
+use Rattle.baseline.specs.ShownInner.{windowIn}
+use Rattle.baseline.specs.FillsInner.{Raises, Added}
 use Rattle.baseline.specs.FillsLaws.{subst-both}
 use Rattle.baseline.specs.FilledLaws.{took-days, lie-quarters, lie-windows, by-days}
 use lib.ListN.{length, getD}
 use Rattle.book.specs.Book.{Book}
 use Rattle.baseline.specs.ShownLaws.{stands}
-use Rattle.baseline.specs.Runs.{daysIn, dayRuns, Lie}
-use Rattle.baseline.specs.Taken.{Took}
-use Rattle.baseline.specs.Filled.{Unrefused}
+use Rattle.baseline.specs.RunsInner.{daysIn, dayRuns, Lie}
+use Rattle.baseline.specs.TakenInner.{Took}
+use Rattle.baseline.specs.FilledInner.{Unrefused}
 use native.Mathlib.Omega.{arith}
 use borrow.Author.Needs.{needs}
 use Rattle.baseline.proofs.fill.fill_days.Statement.{statement}

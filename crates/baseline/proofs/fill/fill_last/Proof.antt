@@ -2,9 +2,9 @@
 use mathlib.Core.Path.{refl, sym, _∙_}
 use Prim.Native.Nat.{ℕ, _+_}
 use Rattle.volumes.specs.QuartersLaws.{start-is}
-use Rattle.baseline.specs.Shown.{beforeIn}
+use Rattle.baseline.specs.ShownInner.{beforeIn}
 use Rattle.baseline.specs.ShownLaws.{stands}
-use Rattle.baseline.specs.Levels.{Lasts}
+use Rattle.baseline.specs.LevelsInner.{Lasts}
 use Rattle.baseline.specs.FillsLaws.{subst-both, same-fills}
 use Rattle.baseline.specs.FilledLaws.{last-inside, method-0, by-last}
 use native.Mathlib.Omega.{arith}

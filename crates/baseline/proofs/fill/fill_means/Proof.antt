@@ -2,8 +2,8 @@
 use mathlib.Core.Path.{_≡_, refl, subst, _∙_}
 use Prim.Native.Nat.{ℕ, _+_, _-_, _≤_}
 use lib.ListN.{length, length-set}
-use Rattle.baseline.specs.Runs.{daysIn, dayRuns}
-use Rattle.baseline.specs.Fills.{Raises, Fills}
+use Rattle.baseline.specs.RunsInner.{daysIn, dayRuns}
+use Rattle.baseline.specs.FillsInner.{Raises, Fills}
 use Rattle.baseline.specs.FillsLaws.{fills-none, fills-more, raises}
 use borrow.Author.Needs.{needs}
 use native.Mathlib.Omega.{arith}

@@ -1,6 +1,6 @@
 -- A missing reading is told before too few days.
 use mathlib.Core.Path.{ap₂, _∙_}
-use Rattle.baseline.specs.Needs.{firstOf}
+use Rattle.baseline.specs.NeedsInner.{firstOf}
 use Rattle.baseline.specs.NeedsLaws.{first-lack}
 use borrow.Author.Needs.{needs}
 use Rattle.baseline.proofs.judge.judge_engagement.Statement.{statement}

@@ -1,5 +1,5 @@
 -- Method 0 looks at no reference days.
-use Rattle.baseline.specs.Needs.{looksBack}
+use Rattle.baseline.specs.NeedsInner.{looksBack}
 use borrow.Author.Needs.{needs}
 use Rattle.baseline.proofs.judge.looks_back.Statement.{statement}
 use Rattle.baseline.proofs.judge.looks_back.Tie as tie

@@ -3,8 +3,8 @@ use mathlib.Core.Path.{sym, _∙_}
 use mathlib.Core.Bool.{and-true}
 use Prim.Native.Nat.{_+_}
 use Rattle.volumes.specs.Baseline.{known, complete}
-use Rattle.baseline.specs.Shown.{beforeIn}
-use Rattle.baseline.specs.Needs.{neededIn}
+use Rattle.baseline.specs.ShownInner.{beforeIn}
+use Rattle.baseline.specs.NeedsInner.{neededIn}
 use borrow.Author.Needs.{needs}
 use Rattle.baseline.proofs.judge.method_whole.Statement.{statement}
 use Rattle.baseline.proofs.judge.method_whole.Tie as tie

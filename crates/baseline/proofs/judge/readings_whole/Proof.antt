@@ -4,9 +4,9 @@ use mathlib.Core.Bool.{_&&_}
 use Prim.Native.Nat.{ℕ, _+_}
 use Rattle.volumes.specs.QuartersLaws.{start-is}
 use Rattle.volumes.specs.Baseline.{complete}
-use Rattle.baseline.specs.Tally.{inRun}
+use Rattle.baseline.specs.TallyInner.{inRun}
 use Rattle.baseline.specs.ShownLaws.{stands}
-use Rattle.baseline.specs.Needs.{neededIn}
+use Rattle.baseline.specs.NeedsInner.{neededIn}
 use Rattle.baseline.specs.NeedsLaws.{needed-is}
 use native.Mathlib.Omega.{arith}
 use borrow.Author.Needs.{needs}

@@ -2,13 +2,12 @@
 use mathlib.Core.Path.{_≡_, subst, ap₂, _∙_}
 use Prim.Native.Nat.{ℕ, _+_, _-_, _*_, _≤_}
 use lib.IntN.{pos, _*ℤ_}
-use Rattle.wire.specs.Readings.{raise}
 use Rattle.integers.specs.Sums.{sumZ}
-use Rattle.integers.specs.Z.{Over}
+use Rattle.integers.specs.ZLaws.{Over}
 use Rattle.volumes.specs.Baseline.{watts}
-use Rattle.grains.specs.Grains.{grains, share, Shares}
-use Rattle.baseline.specs.Shown.{windowIn}
-use Rattle.baseline.specs.Runs.{daysIn, dayRuns}
+use Rattle.grains.specs.Grains.{grains, share}
+use Rattle.baseline.specs.ShownInner.{windowIn}
+use Rattle.baseline.specs.RunsInner.{daysIn, dayRuns}
 use Rattle.baseline.specs.LevelLaws.{difference}
 use native.Mathlib.Nat.{mul-comm}
 use Rattle.grains.specs.GrainsLaws.{shares-12x, mean-over, mean-small}
@@ -16,6 +15,8 @@ use native.Mathlib.Omega.{arith}
 use borrow.Author.Needs.{needs}
 use Rattle.baseline.proofs.levels.addend_level.Statement.{statement}
 use Rattle.baseline.proofs.levels.addend_level.Tie as tie
+use Rattle.grains.specs.GrainsInner.{Shares}
+use Rattle.wire.specs.ReadingsInner.{raise}
 
 window-requires : tie.Need-window-requires
 window-requires c κs = search needs

@@ -2,7 +2,6 @@
 use mathlib.Core.Path.{_≡_, ap₂}
 use Prim.Native.Nat.{_+_, _*_}
 use borrow.Author.Tests.{le-leb}
-use Rattle.wire.specs.Readings.{raise}
 use Rattle.grains.specs.Grains.{grains}
 use Rattle.baseline.specs.TallyLaws.{there}
 use Rattle.baseline.specs.LevelLaws.{lifted}
@@ -10,6 +9,7 @@ use native.Mathlib.Omega.{arith}
 use borrow.Author.Needs.{needs}
 use Rattle.baseline.proofs.levels.last_level.Statement.{statement}
 use Rattle.baseline.proofs.levels.last_level.Tie as tie
+use Rattle.wire.specs.ReadingsInner.{raise}
 
 sub-raised-at : tie.Need-sub-raised-at
 sub-raised-at c = search needs

@@ -1,17 +1,17 @@
 -- A mean of X raised readings is raised by one reading.
-use Rattle.wire.specs.Readings.{raise}
 use Rattle.integers.specs.Sums.{sumZ}
 use Rattle.volumes.specs.Baseline.{watts}
-use Rattle.baseline.specs.Runs.{daysIn, dayRuns}
+use Rattle.baseline.specs.RunsInner.{daysIn, dayRuns}
 use mathlib.Core.Path.{subst, _∙_}
 use Prim.Native.Nat.{ℕ, _*_}
 use native.Mathlib.Nat.{mul-one}
-use Rattle.integers.specs.Z.{Over}
+use Rattle.integers.specs.ZLaws.{Over}
 use Rattle.grains.specs.GrainsLaws.{shares-x, mean-over, mean-small}
 use native.Mathlib.Omega.{arith}
 use borrow.Author.Needs.{needs}
 use Rattle.baseline.proofs.levels.mean_level.Statement.{statement}
 use Rattle.baseline.proofs.levels.mean_level.Tie as tie
+use Rattle.wire.specs.ReadingsInner.{raise}
 
 tally-days-requires : tie.Need-tally-days-requires
 tally-days-requires c κs = search needs

@@ -1,12 +1,11 @@
 -- The tally of the days passed grows by one day a turn.
-use Prim.Native.Nat.{ℕ, _+_, _-_, _*_, _%_, _≤_}
-use Rattle.baseline.specs.Tally.{inRun, Tallied}
+use Prim.Native.Nat.{ℕ, _+_, _-_, _*_, _≤_}
+use Rattle.baseline.specs.TallyInner.{inRun, Tallied}
 use mathlib.Core.Path.{_≡_, subst}
 use mathlib.Core.List.{flatMap}
 use native.Mathlib.Nat.{zero-mul}
-use lib.ListN.{getD}
 use Rattle.baseline.specs.TallyLaws.{tally-none}
-use Rattle.baseline.specs.Runs.{daysIn, dayRuns}
+use Rattle.baseline.specs.RunsInner.{daysIn, dayRuns}
 use Rattle.baseline.specs.RunsLaws.{runs-more, product-few}
 use borrow.Author.Needs.{needs}
 use native.Mathlib.Omega.{arith}

@@ -4,7 +4,7 @@ use Rattle.baseline.specs.ShownLaws.{stands}
 -- The days from A - 1 down to the present one have been scanned, and those that are eligible are ranked.
 use lib.ListN.{length}
 use Rattle.book.specs.Book.{Book}
-use Rattle.baseline.specs.Shown.{Shows}
+use Rattle.baseline.specs.ShownInner.{Shows}
 use Rattle.baseline.specs.RanksLaws.{Scanned, scan-start, scan-more, scan-full, scan-few}
 use borrow.Author.Needs.{needs}
 use native.Mathlib.Omega.{arith}

@@ -2,7 +2,7 @@
 use mathlib.Core.Path.{_≡_, subst}
 use Prim.Native.Nat.{ℕ, _-_, _≤_}
 use Rattle.integers.specs.Ranges.{range}
-use Rattle.baseline.specs.Tally.{inRun, Tallied}
+use Rattle.baseline.specs.TallyInner.{inRun, Tallied}
 use Rattle.baseline.specs.TallyLaws.{run-more, there, tally-none, tally-more}
 use borrow.Author.Needs.{needs}
 use native.Mathlib.Omega.{arith}

@@ -10,7 +10,7 @@ use mir.Val.{Fits, SFits}
 use mir.ValLaws.{toZ-ofZ}
 use borrow.Author.Needs.{needs}
 use native.Mathlib.Omega.{arith}
-use Rattle.integers.specs.Z.{up, dn, one-0, sum, dif, inside, sfits, le-yes, le-no}
+use Rattle.integers.specs.ZLaws.{up, dn, one-0, sum, dif, inside, sfits, le-yes, le-no}
 use Rattle.cases.proofs.answers.magnitude.Statement.{statement}
 use Rattle.cases.proofs.answers.magnitude.Tie as tie
 

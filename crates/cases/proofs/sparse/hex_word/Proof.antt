@@ -3,7 +3,7 @@ use mathlib.Core.Path.{_≡_, refl, sym, _∙_}
 use mathlib.Core.Bool.{true, false}
 use borrow.Author.Needs.{needs}
 use native.Mathlib.Omega.{arith}
-use Rattle.cases.specs.Sparse.{saysNone}
+use Rattle.cases.specs.SparseInner.{saysNone}
 use Rattle.cases.proofs.sparse.hex_word.Statement.{statement}
 use Rattle.cases.proofs.sparse.hex_word.Tie as tie
 

@@ -1,7 +1,7 @@
 -- The length is what its word says; the rest is what was filled.
 use mathlib.Core.Path.{sym, _∙_, subst}
 use mathlib.Core.Bool.{Bool}
-use Rattle.cases.specs.Sparse.{FilledBy}
+use Rattle.cases.specs.SparseInner.{FilledBy}
 use borrow.Author.Needs.{needs}
 use Rattle.cases.proofs.sparse.load.Statement.{statement}
 use Rattle.cases.proofs.sparse.load.Tie as tie

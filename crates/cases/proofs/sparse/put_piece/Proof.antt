@@ -1,8 +1,8 @@
 -- Each field of the piece is what a call found.
 use mathlib.Core.Path.{sym, _∙_, subst}
 use Rattle.cases.specs.declared.Loaded.{Loaded}
-use Rattle.cases.specs.Words.{wordIn}
-use Rattle.cases.specs.Sparse.{PutAtBy}
+use Rattle.cases.specs.WordsInner.{wordIn}
+use Rattle.cases.specs.SparseInner.{PutAtBy}
 use borrow.Author.Needs.{needs}
 use Rattle.cases.proofs.sparse.put_piece.Statement.{statement}
 use Rattle.cases.proofs.sparse.put_piece.Tie as tie

@@ -4,8 +4,7 @@ use Rattle.cases.specs.SparseLaws.{piece-behind, piece-within}
 use mathlib.Core.Path.{_≡_, refl, _∙_, subst}
 use Prim.Native.Nat.{ℕ, _-_, _≤_}
 use lib.ListN.{length}
-use Rattle.cases.specs.Sparse.{Piece, PieceBy, Pieces}
-use Rattle.cases.specs.Sparse.Pieces.{none, more}
+use Rattle.cases.specs.SparseInner.{Piece, PieceBy, Pieces, none, more}
 use borrow.Author.Needs.{needs}
 use native.Mathlib.Omega.{arith}
 use Rattle.cases.proofs.sparse.put_pieces.Statement.{statement}

@@ -7,7 +7,7 @@ use lib.ListN.{length, drop, getD}
 use borrow.Author.Tests.{le-leb, lt-leb}
 use Rattle.text.specs.declared.Number.the-variants.{NotDigits}
 use Rattle.text.specs.Decimal.{digit}
-use Rattle.cases.specs.Words.{numberFrom, numberOf}
+use Rattle.cases.specs.WordsInner.{numberFrom, numberOf}
 use Rattle.cases.specs.WordsLaws.{number-large, number-step, number-stop, number-end}
 use borrow.Author.Needs.{needs}
 use native.Mathlib.Omega.{arith}

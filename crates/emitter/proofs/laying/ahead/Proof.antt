@@ -1,7 +1,7 @@
 -- The place is reached where the sum is at most the length.
 use mathlib.Core.Path.{sym}
 use native.Mathlib.Omega.{arith}
-use Rattle.emitter.specs.Laid.{ahead, ahead-fits, ahead-over}
+use Rattle.emitter.specs.LaidLaws.{ahead, ahead-fits, ahead-over}
 use native.Mathlib.Omega.{arith}
 use borrow.Author.Needs.{needs}
 use Rattle.emitter.proofs.laying.ahead.Statement.{statement}

@@ -2,7 +2,7 @@
 use mathlib.Core.Path.{sym, _∙_}
 use lib.ListN.{length}
 use borrow.Author.Tests.{not-true, not-false}
-use Rattle.emitter.specs.Laid.{laid-dry, laid-full, laid-nowhere, laid-live, room-for}
+use Rattle.emitter.specs.LaidLaws.{laid-dry, laid-full, laid-nowhere, laid-live, room-for}
 use borrow.Author.Needs.{needs}
 use Rattle.emitter.proofs.laying.lay.Statement.{statement}
 use Rattle.emitter.proofs.laying.lay.Tie as tie

@@ -5,7 +5,7 @@ use lib.ListN.{length}
 use borrow.Author.Tests.{not-true, not-false}
 use Rattle.text.specs.Decimal.{fixed}
 use Rattle.text.specs.DecimalLaws.{length-fixed}
-use Rattle.emitter.specs.Laid.{ahead, laid-dry, laid-full, laid-nowhere, laid-live, room-for}
+use Rattle.emitter.specs.LaidLaws.{ahead, laid-dry, laid-full, laid-nowhere, laid-live, room-for}
 use borrow.Author.Needs.{needs}
 use Rattle.emitter.proofs.laying.lay_fixed.Statement.{statement}
 use Rattle.emitter.proofs.laying.lay_fixed.Tie as tie

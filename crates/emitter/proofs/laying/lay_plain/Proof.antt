@@ -3,7 +3,7 @@ use mathlib.Core.Path.{sym, ap, _∙_}
 use Prim.Native.Nat.{ℕ}
 use Rattle.text.specs.Decimal.{fixed, plain}
 use Rattle.text.specs.DecimalLaws.{plain-fixed}
-use Rattle.emitter.specs.Laid.{laid-is}
+use Rattle.emitter.specs.LaidLaws.{laid-is}
 use borrow.Author.Needs.{needs}
 use Rattle.emitter.proofs.laying.lay_plain.Statement.{statement}
 use Rattle.emitter.proofs.laying.lay_plain.Tie as tie

@@ -2,8 +2,8 @@
 use native.Mathlib.Omega.{arith}
 use Rattle.text.specs.Ascii.{bytes}
 use Rattle.message.specs.Bytes.{opening, ending, closing}
-use Rattle.emitter.specs.Laid.{laid-is}
-use Rattle.emitter.specs.Parts.{deliveryBytes}
+use Rattle.emitter.specs.LaidLaws.{laid-is}
+use Rattle.emitter.specs.PartsInner.{deliveryBytes}
 use Rattle.emitter.specs.PartsLaws.{up, down}
 use native.Mathlib.Omega.{arith}
 use borrow.Author.Needs.{needs}

@@ -2,7 +2,7 @@
 use borrow.Author.Needs.{needs}
 use Rattle.text.specs.Ascii.{bytes}
 use Rattle.message.specs.Bytes.{ending, closing, root}
-use Rattle.emitter.specs.Parts.{fileEnd}
+use Rattle.emitter.specs.PartsInner.{fileEnd}
 use Rattle.emitter.proofs.parts.emit_file_end.Statement.{statement}
 use Rattle.emitter.proofs.parts.emit_file_end.Tie as tie
 

@@ -1,7 +1,7 @@
 -- Five parts, one behind the other.
 use borrow.Author.Needs.{needs}
-use Rattle.emitter.specs.Laid.{laid-then, laid-is}
-use Rattle.emitter.specs.Parts.{fileHead}
+use Rattle.emitter.specs.LaidLaws.{laid-then, laid-is}
+use Rattle.emitter.specs.PartsInner.{fileHead}
 use Rattle.emitter.specs.PartsLaws.{file-head-parts}
 use Rattle.emitter.proofs.parts.emit_file_head.Statement.{statement}
 use Rattle.emitter.proofs.parts.emit_file_head.Tie as tie

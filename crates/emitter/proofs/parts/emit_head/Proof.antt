@@ -1,8 +1,8 @@
 -- Five parts, one behind the other.
 use Rattle.text.specs.Ascii.{bytes}
 use Rattle.message.specs.Bytes.{opening, ending, closing}
-use Rattle.emitter.specs.Laid.{laid-then}
-use Rattle.emitter.specs.Parts.{headBytes}
+use Rattle.emitter.specs.LaidLaws.{laid-then}
+use Rattle.emitter.specs.PartsInner.{headBytes}
 use borrow.Author.Needs.{needs}
 use Rattle.emitter.proofs.parts.emit_head.Statement.{statement}
 use Rattle.emitter.proofs.parts.emit_head.Tie as tie

@@ -2,7 +2,7 @@
 use Rattle.text.specs.Ascii.{bytes}
 use Rattle.message.specs.Bytes.{opening, ending, closing, observationBytes}
 use Rattle.message.specs.ObservationForm.{observed}
-use Rattle.emitter.specs.Laid.{laid-then, laid-is}
+use Rattle.emitter.specs.LaidLaws.{laid-then, laid-is}
 use Rattle.emitter.specs.PartsLaws.{observation-parts}
 use borrow.Author.Needs.{needs}
 use Rattle.emitter.proofs.parts.emit_observation.Statement.{statement}

@@ -2,8 +2,8 @@
 use borrow.Author.Needs.{needs}
 use Rattle.text.specs.Ascii.{bytes}
 use Rattle.message.specs.Bytes.{opening, ending, closing}
-use Rattle.emitter.specs.Laid.{laid-then, laid-is}
-use Rattle.emitter.specs.Parts.{originBytes}
+use Rattle.emitter.specs.LaidLaws.{laid-then, laid-is}
+use Rattle.emitter.specs.PartsInner.{originBytes}
 use Rattle.emitter.specs.PartsLaws.{origin-parts}
 use Rattle.emitter.proofs.parts.emit_origin.Statement.{statement}
 use Rattle.emitter.proofs.parts.emit_origin.Tie as tie

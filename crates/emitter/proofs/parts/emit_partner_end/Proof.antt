@@ -2,7 +2,7 @@
 use borrow.Author.Needs.{needs}
 use Rattle.text.specs.Ascii.{bytes}
 use Rattle.message.specs.Bytes.{ending, closing, group}
-use Rattle.emitter.specs.Parts.{partnerEnd}
+use Rattle.emitter.specs.PartsInner.{partnerEnd}
 use Rattle.emitter.proofs.parts.emit_partner_end.Statement.{statement}
 use Rattle.emitter.proofs.parts.emit_partner_end.Tie as tie
 

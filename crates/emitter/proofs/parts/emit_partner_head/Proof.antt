@@ -5,8 +5,8 @@ use borrow.Author.Needs.{needs}
 use Rattle.text.specs.Decimal.{fixed}
 use Rattle.text.specs.Ascii.{bytes}
 use Rattle.message.specs.Bytes.{opening, ending, closing, digits}
-use Rattle.emitter.specs.Laid.{laid-then, laid-is}
-use Rattle.emitter.specs.Parts.{partnerHead}
+use Rattle.emitter.specs.LaidLaws.{laid-then, laid-is}
+use Rattle.emitter.specs.PartsInner.{partnerHead}
 use Rattle.emitter.specs.PartsLaws.{partner-head-parts}
 use Rattle.emitter.proofs.parts.emit_partner_head.Statement.{statement}
 use Rattle.emitter.proofs.parts.emit_partner_head.Tie as tie

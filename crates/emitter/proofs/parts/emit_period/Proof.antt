@@ -3,7 +3,7 @@ use mathlib.Core.Path.{ap, _∙_}
 use Rattle.text.specs.Ascii.{bytes}
 use Rattle.moments.specs.Moments.{momentBytes, periodStart, periodEnd}
 use Rattle.message.specs.Bytes.{opening, ending, closing, periodBytes}
-use Rattle.emitter.specs.Laid.{laid-then, laid-is}
+use Rattle.emitter.specs.LaidLaws.{laid-then, laid-is}
 use Rattle.emitter.specs.PartsLaws.{period-parts}
 use borrow.Author.Needs.{needs}
 use Rattle.emitter.proofs.parts.emit_period.Statement.{statement}

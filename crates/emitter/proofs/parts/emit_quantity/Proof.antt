@@ -1,7 +1,7 @@
 -- Whole kilowatts, a point and three decimals.
 use Rattle.text.specs.Ascii.{bytes}
 use Rattle.message.specs.Bytes.{quantityBytes}
-use Rattle.emitter.specs.Laid.{laid-then}
+use Rattle.emitter.specs.LaidLaws.{laid-then}
 use borrow.Author.Needs.{needs}
 use Rattle.emitter.proofs.parts.emit_quantity.Statement.{statement}
 use Rattle.emitter.proofs.parts.emit_quantity.Tie as tie

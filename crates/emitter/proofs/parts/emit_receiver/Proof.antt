@@ -2,7 +2,7 @@
 use borrow.Author.Needs.{needs}
 use Rattle.text.specs.Ascii.{bytes}
 use Rattle.message.specs.Bytes.{opening, ending, closing}
-use Rattle.emitter.specs.Laid.{laid-then}
+use Rattle.emitter.specs.LaidLaws.{laid-then}
 use Rattle.emitter.proofs.parts.emit_receiver.Statement.{statement}
 use Rattle.emitter.proofs.parts.emit_receiver.Tie as tie
 

@@ -2,7 +2,7 @@
 use borrow.Author.Needs.{needs}
 use Rattle.text.specs.Ascii.{bytes}
 use Rattle.message.specs.Bytes.{opening, ending, closing}
-use Rattle.emitter.specs.Parts.{seriesEnd}
+use Rattle.emitter.specs.PartsInner.{seriesEnd}
 use Rattle.emitter.proofs.parts.emit_series_end.Statement.{statement}
 use Rattle.emitter.proofs.parts.emit_series_end.Tie as tie
 

@@ -1,7 +1,7 @@
 -- Two parts, one behind the other.
 use borrow.Author.Needs.{needs}
-use Rattle.emitter.specs.Laid.{laid-then}
-use Rattle.emitter.specs.Parts.{seriesHead}
+use Rattle.emitter.specs.LaidLaws.{laid-then}
+use Rattle.emitter.specs.PartsInner.{seriesHead}
 use Rattle.emitter.proofs.parts.emit_series_head.Statement.{statement}
 use Rattle.emitter.proofs.parts.emit_series_head.Tie as tie
 

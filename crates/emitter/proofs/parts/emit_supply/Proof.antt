@@ -2,7 +2,7 @@
 use native.Mathlib.Omega.{arith}
 use Rattle.text.specs.Ascii.{bytes}
 use Rattle.message.specs.Bytes.{opening, ending, closing, supplyBytes}
-use Rattle.emitter.specs.Laid.{laid-is}
+use Rattle.emitter.specs.LaidLaws.{laid-is}
 use Rattle.emitter.specs.PartsLaws.{off-take, injection}
 use native.Mathlib.Omega.{arith}
 use borrow.Author.Needs.{needs}

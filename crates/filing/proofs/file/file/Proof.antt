@@ -2,12 +2,13 @@
 use mathlib.Core.Path.{_≡_, sym, ap, _∙_}
 use mathlib.Core.Option.{none, some}
 use Rattle.volumes.specs.Settlement.{bookRefusal}
-use Rattle.settlement.specs.Verdicts.{refusalIn}
-use Rattle.kinds.specs.Numbers.{kindNumbered, kindIn}
+use Rattle.settlement.specs.VerdictsInner.{refusalIn}
+use Rattle.kinds.specs.Numbers.{kindNumbered}
 use Rattle.filing.specs.FileCallLaws.{asked-room, call-refused, call-unknown, call-asked, call-filled}
 use borrow.Author.Needs.{needs}
 use Rattle.filing.proofs.file.file.Statement.{statement}
 use Rattle.filing.proofs.file.file.Tie as tie
+use Rattle.kinds.specs.NumbersInner.{kindIn}
 
 judge-settlement-requires : tie.Need-judge-settlement-requires
 judge-settlement-requires c κs = search needs

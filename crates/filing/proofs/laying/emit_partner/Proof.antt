@@ -9,12 +9,12 @@ use Rattle.book.specs.Book.{bookOf}
 use Rattle.volumes.specs.SettlementLaws.{passing}
 use Rattle.message.specs.Bytes.{partnerBytes}
 use Rattle.message.specs.Rows.{rowsFrom}
-use Rattle.emitter.specs.Laid.{laid-is}
-use Rattle.writer.specs.Contents.{partnersIn}
+use Rattle.emitter.specs.LaidLaws.{laid-is}
+use Rattle.writer.specs.ContentsInner.{partnersIn}
 use Rattle.series.specs.SumsLaws.{parts-of}
 use Rattle.partners.specs.ObservationsLaws.{period-of, Dated, dated}
 use Rattle.reports.specs.RegisteredLaws.{registered}
-use Rattle.partners.specs.PartnerRows.{partnerRowsOf}
+use Rattle.partners.specs.PartnerRowsInner.{partnerRowsOf}
 use Rattle.partners.specs.PartnerRowsLaws.{filled-stand, filled-length, partner-writable, partner-bytes, partner-count}
 use native.Mathlib.Omega.{arith}
 use borrow.Author.Needs.{needs}

@@ -7,10 +7,10 @@ use lib.ListN.{length}
 use Rattle.book.specs.Book.{bookOf}
 use Rattle.volumes.specs.SettlementLaws.{passing}
 use Rattle.message.specs.Bytes.{partnerBytes}
-use Rattle.emitter.specs.Laid.{Laying, laid-stands, laying-none, laying-then, laying-all}
+use Rattle.emitter.specs.LaidLaws.{Laying, laid-stands, laying-none, laying-then, laying-all}
 use Rattle.reports.specs.FileRows.{partnersOf}
 use Rattle.reports.specs.RegisteredLaws.{registered}
-use Rattle.partners.specs.Partners.{partnerColumn, noPartner, Next, partnersFrom}
+use Rattle.partners.specs.PartnersInner.{partnerColumn, noPartner, Next, partnersFrom}
 use Rattle.partners.specs.PartnersLaws.{partners-all, partners-end}
 use Rattle.reports.specs.FormLaws.{partners-few}
 use Rattle.filing.specs.LayingLaws.{next-in, scan-falls, partners-bytes, partners-end-bytes, partners-count}

@@ -1,6 +1,6 @@
 -- Partners, head and end take as many bytes as head, partners and end.
 use Rattle.book.specs.Book.{bookOf}
-use Rattle.emitter.specs.Laid.{laid-then, stands-at}
+use Rattle.emitter.specs.LaidLaws.{laid-then, stands-at}
 use Rattle.filing.specs.LayingLaws.{laid-turned, file-turned}
 use native.Mathlib.Omega.{arith}
 use borrow.Author.Needs.{needs}

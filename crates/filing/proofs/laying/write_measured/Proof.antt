@@ -1,6 +1,6 @@
 -- Head, partners and end.
 use Rattle.book.specs.Book.{bookOf}
-use Rattle.emitter.specs.Laid.{laid-then, laid-is, laid-stands}
+use Rattle.emitter.specs.LaidLaws.{laid-then, laid-is, laid-stands}
 use Rattle.filing.specs.LayingLaws.{file-bytes}
 use borrow.Author.Needs.{needs}
 use Rattle.filing.proofs.laying.write_measured.Statement.{statement}

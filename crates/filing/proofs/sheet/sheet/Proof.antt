@@ -11,8 +11,8 @@ use Rattle.book.specs.Judged.{refusalOf}
 use Rattle.volumes.specs.Settlement.{bookRefusal}
 use Rattle.volumes.specs.SettlementLaws.{passing}
 use Rattle.volumes.specs.Sheets.{parties}
-use Rattle.settlement.specs.Verdicts.{refusalIn}
-use Rattle.sheets.specs.Parties.{partiesIn}
+use Rattle.settlement.specs.VerdictsInner.{refusalIn}
+use Rattle.sheets.specs.PartiesInner.{partiesIn}
 use Rattle.reports.specs.Calls.{stands}
 use Rattle.filing.specs.SheetLaws.{stands-in, sheet-refused, sheet-stranger, sheet-short, sheet-filled}
 use Rattle.filing.proofs.sheet.sheet.Statement.{statement}

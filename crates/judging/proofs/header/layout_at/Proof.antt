@@ -1,12 +1,12 @@
 -- The places are sums of small numbers.
 use mathlib.Core.Path.{ap}
 use Prim.Native.Nat.{ℕ, _*_, _≤_}
-use Rattle.quarters.specs.Quarters.{longestCalendar, mostReadingBytes}
 use Rattle.quarters.specs.QuartersLaws.{days-few, quarters-few, readings-few}
 use native.Mathlib.Omega.{arith}
 use borrow.Author.Needs.{needs}
 use Rattle.judging.proofs.header.layout_at.Statement.{statement}
 use Rattle.judging.proofs.header.layout_at.Tie as tie
+use Rattle.quarters.specs.QuartersInner.{longestCalendar, mostReadingBytes}
 
 days-of-requires : tie.Need-days-of-requires
 days-of-requires c κs = search needs

@@ -3,12 +3,12 @@ use Rattle.book.specs.Judged.{clockChangeIn, sectionsRefusal, refusalOf}
 -- Each test is the refusal that comes next; the sections are read where the layout says.
 use mathlib.Core.Path.{_≡_, sym, ap, subst, _∙_}
 use borrow.Author.Tests.{not-true, not-false}
-use Rattle.quarters.specs.Quarters.{Ranged}
 use Rattle.book.specs.HeaderLaws.{Headed, headed}
 use native.Mathlib.Omega.{arith}
 use borrow.Author.Needs.{needs}
 use Rattle.judging.proofs.judge.judge_book.Statement.{statement}
 use Rattle.judging.proofs.judge.judge_book.Tie as tie
+use Rattle.quarters.specs.QuartersInner.{Ranged}
 
 header-good-requires : tie.Need-header-good-requires
 header-good-requires c κs = search needs

@@ -5,12 +5,13 @@ use mathlib.Core.Bool.{false, not}
 use Prim.Native.Nat.{_-_, _≤_}
 use lib.ListN.{length}
 use borrow.Author.Tests.{le-leb, lt-leb}
-use Rattle.integers.specs.First.{anyBelow, any-of, any-more}
+use Rattle.integers.specs.First.{anyBelow}
 use Rattle.book.specs.Tables.{badDay, calendarGood}
 use borrow.Author.Needs.{needs}
 use native.Mathlib.Omega.{arith}
 use Rattle.judging.proofs.tables.calendar_good.Statement.{statement}
 use Rattle.judging.proofs.tables.calendar_good.Tie as tie
+use Rattle.integers.specs.FirstLaws.{any-of, any-more}
 
 abbrev Inv-loop : tie.InvT-loop
 Inv-loop calendar day₀ day = (day ≤ length calendar) × (anyBelow (badDay calendar) day ≡ false)

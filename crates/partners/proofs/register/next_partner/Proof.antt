@@ -2,7 +2,7 @@
 use mathlib.Core.Path.{_≡_, ap, _∙_}
 use Prim.Native.Nat.{_-_, _≤_}
 use borrow.Author.Needs.{needs}
-use Rattle.settlement.specs.Sections.{pointCountIn}
+use Rattle.settlement.specs.SectionsInner.{pointCountIn}
 use Rattle.volumes.specs.Series.{partnerOf}
 use Rattle.volumes.specs.SeriesLaws.{told-at}
 use Rattle.reports.specs.FileRows.{isTaken}

@@ -2,15 +2,16 @@
 use mathlib.Core.Path.{_≡_, refl, ap, _∙_}
 use Prim.Native.Nat.{_≤_}
 use Rattle.book.specs.Book.{bookOf}
-use Rattle.reports.specs.FileRows.{observationsOf}
-use Rattle.partners.specs.Observations.{observationsIn}
+use Rattle.partners.specs.ObservationsInner.{observationsIn}
 use Rattle.partners.specs.ObservationsLaws.{observations-are, Dated, dated}
 use Rattle.partners.specs.PartnerRowsLaws.{filled-is, positions-few, series-rows-are}
 use native.Mathlib.Omega.{arith}
 use borrow.Author.Needs.{needs}
 use Rattle.partners.proofs.rows.fill_series.Statement.{statement}
 use Rattle.partners.proofs.rows.fill_series.Tie as tie
-use Rattle.quarters.specs.Quarters.{monthQuarters, longestMonth}
+use Rattle.quarters.specs.Quarters.{monthQuarters}
+use Rattle.quarters.specs.QuartersInner.{longestMonth}
+use Rattle.reports.specs.FileRowsInner.{observationsOf}
 
 -- the book's calendar, and the positions of its month, which the array has
 calendar : (c : tie.Start) → Dated (c .args .book .now)

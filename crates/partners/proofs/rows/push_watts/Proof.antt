@@ -3,8 +3,8 @@ use mathlib.Core.Path.{_≡_}
 use Prim.Native.Nat.{_-_, _≤_}
 use borrow.Author.Needs.{needs}
 use native.Mathlib.Omega.{arith}
-use Rattle.partners.specs.Observations.{observationsIn}
-use Rattle.partners.specs.PartnerRows.{rowsBy, Filled}
+use Rattle.partners.specs.ObservationsInner.{observationsIn}
+use Rattle.partners.specs.PartnerRowsInner.{rowsBy, Filled}
 use Rattle.partners.specs.PartnerRowsLaws.{filled-is, filled-none, filled-then, filled-length, positions-none, positions-more, positions-few}
 use Rattle.partners.proofs.rows.push_watts.Statement.{statement}
 use Rattle.partners.proofs.rows.push_watts.Tie as tie

@@ -2,12 +2,13 @@
 use mathlib.Core.Path.{_≡_, sym, _∙_}
 use Prim.Native.Nat.{_-_, _≤_}
 use native.Mathlib.Nat.{sub-zero}
-use Rattle.integers.specs.First.{first, first-here, first-later, first-end}
+use Rattle.integers.specs.First.{first}
 use Rattle.book.specs.Engagements.{badEngagement}
 -- Rows passed are good: the first bad row is the first from the present one on.
 use borrow.Author.Needs.{needs}
 use Rattle.searches.proofs.engagements.judge_engagements.Statement.{statement}
 use Rattle.searches.proofs.engagements.judge_engagements.Tie as tie
+use Rattle.integers.specs.FirstLaws.{first-here, first-later, first-end}
 
 abbrev Inv-loop : tie.InvT-loop
 Inv-loop engagements n c points i₀ i = (i ≤ n) × (first (badEngagement c points engagements) 0 n ≡ first (badEngagement c points engagements) i (n - i))

@@ -3,12 +3,13 @@ use mathlib.Core.Path.{_≡_, refl, sym, ap, _∙_}
 use mathlib.Core.Bool.{Bool, _||_}
 use Prim.Native.Nat.{ℕ, _+_, _-_, _≤_}
 use native.Mathlib.Omega.{arith}
-use Rattle.integers.specs.First.{anyBelow, any-next}
+use Rattle.integers.specs.First.{anyBelow}
 use Rattle.book.specs.Metering.{badReading}
 use Rattle.searches.specs.MeteringLaws.{outside-is}
 use borrow.Author.Needs.{needs}
 use Rattle.searches.proofs.metering.any_outside.Statement.{statement}
 use Rattle.searches.proofs.metering.any_outside.Tie as tie
+use Rattle.integers.specs.FirstLaws.{any-next}
 
 abbrev Inv-loop : tie.InvT-loop
 Inv-loop readings at n bad₀ i₀ bad i = (i ≤ n) × (bad ≡ anyBelow (λ k. badReading readings (at + k)) i)

@@ -1,12 +1,13 @@
 -- Readings passed are in range: the first bad one is the first from the present one on.
 use mathlib.Core.Path.{_≡_, refl, sym, _∙_}
 use Prim.Native.Nat.{_-_, _≤_}
-use Rattle.integers.specs.First.{first, first-here, first-later, first-end}
+use Rattle.integers.specs.First.{first}
 use Rattle.book.specs.Metering.{badReading}
 use Rattle.searches.specs.MeteringLaws.{outside-is}
 use borrow.Author.Needs.{needs}
 use Rattle.searches.proofs.metering.first_outside.Statement.{statement}
 use Rattle.searches.proofs.metering.first_outside.Tie as tie
+use Rattle.integers.specs.FirstLaws.{first-here, first-later, first-end}
 
 abbrev Inv-loop : tie.InvT-loop
 Inv-loop readings at n i₀ i = (i ≤ n) × (first (badReading readings) at (n - at) ≡ first (badReading readings) i (n - i))

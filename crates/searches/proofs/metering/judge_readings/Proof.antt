@@ -3,11 +3,12 @@ use mathlib.Core.Path.{_≡_, sym, ap, _∙_}
 use Prim.Native.Nat.{_+_, _-_, _≤_}
 use native.Mathlib.Nat.{sub-zero}
 use native.Mathlib.Omega.{arith}
-use Rattle.integers.specs.First.{first, first-behind}
+use Rattle.integers.specs.First.{first}
 use Rattle.book.specs.Metering.{badReading}
 use borrow.Author.Needs.{needs}
 use Rattle.searches.proofs.metering.judge_readings.Statement.{statement}
 use Rattle.searches.proofs.metering.judge_readings.Tie as tie
+use Rattle.integers.specs.FirstLaws.{first-behind}
 
 abbrev Inv-loop : tie.InvT-loop
 Inv-loop readings n at₀ at = (at ≤ n) × (first (badReading readings) 0 n ≡ first (badReading readings) at (n - at))

@@ -2,12 +2,13 @@
 use mathlib.Core.Path.{_≡_, refl, sym, ap, _∙_}
 use mathlib.Core.Bool.{false}
 use Prim.Native.Nat.{_-_, _≤_}
-use Rattle.integers.specs.First.{anyBelow, any-of, any-more}
+use Rattle.integers.specs.First.{anyBelow}
 use Rattle.book.specs.Register.{differs}
 use borrow.Author.Needs.{needs}
 use native.Mathlib.Omega.{arith}
 use Rattle.searches.proofs.register.differs_earlier.Statement.{statement}
 use Rattle.searches.proofs.register.differs_earlier.Tie as tie
+use Rattle.integers.specs.FirstLaws.{any-of, any-more}
 
 abbrev Inv-loop : tie.InvT-loop
 Inv-loop register i j₀ j = (j ≤ i) × (anyBelow (differs register i) j ≡ false)

@@ -5,11 +5,12 @@ use native.Mathlib.Nat.{sub-zero}
 use native.Mathlib.Omega.{arith}
 use borrow.Author.Count.{below-more}
 use borrow.Author.Needs.{needs}
-use Rattle.integers.specs.First.{first, first-here, first-later, first-end}
+use Rattle.integers.specs.First.{first}
 use Rattle.book.specs.Register.{accessIn, registerRow, badPoint}
 use Rattle.searches.specs.RegisterInner.{Topped}
 use Rattle.searches.proofs.register.judge_register.Statement.{statement}
 use Rattle.searches.proofs.register.judge_register.Tie as tie
+use Rattle.integers.specs.FirstLaws.{first-here, first-later, first-end}
 
 abbrev Inv-loop : tie.InvT-loop
 Inv-loop register n days top₀ i₀ top i = (i ≤ n) × (first (badPoint days register) 0 n ≡ first (badPoint days register) i (n - i)) × Topped register i top

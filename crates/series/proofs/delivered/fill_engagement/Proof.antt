@@ -8,17 +8,17 @@ use lib.Seq.{sets}
 use native.Mathlib.Omega.{arith}
 use borrow.Author.Needs.{needs}
 use Rattle.integers.specs.Ranges.{range}
-use Rattle.integers.specs.Z.{up, dn}
-use Rattle.quarters.specs.Quarters.{longestDay}
+use Rattle.integers.specs.ZLaws.{up, dn}
 use Rattle.book.specs.declared.Engagement.{Engagement}
 use Rattle.book.specs.Engagements.{engagementAt}
 use Rattle.volumes.specs.Settlement.{rowWidth}
-use Rattle.settlement.specs.Sections.{bookWith}
+use Rattle.settlement.specs.SectionsInner.{bookWith}
 use Rattle.sheets.specs.EngagementLaws.{engagement-placed}
-use Rattle.series.specs.Volumes.{volumeIn}
+use Rattle.series.specs.VolumesInner.{volumeIn}
 use Rattle.series.specs.VolumesLaws.{volume-is, volumes-are}
 use Rattle.series.proofs.delivered.fill_engagement.Statement.{statement}
 use Rattle.series.proofs.delivered.fill_engagement.Tie as tie
+use Rattle.quarters.specs.QuartersInner.{longestDay}
 
 -- the rows of a day have room
 room : (s : tie.Start) → rowWidth * engagementAt (s .args .engagements .now) (s .args .i) .count ≤ length (replicate (rowWidth * longestDay) (pos 0))

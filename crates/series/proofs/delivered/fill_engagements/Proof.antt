@@ -7,10 +7,10 @@ use lib.Seq.{sets, length-sets}
 use native.Mathlib.Omega.{arith}
 use borrow.Author.Needs.{needs}
 use Rattle.book.specs.Engagements.{engagementAt}
-use Rattle.settlement.specs.Sections.{bookWith}
+use Rattle.settlement.specs.SectionsInner.{bookWith}
 use Rattle.settlement.specs.PartsLaws.{rowCountTo, count-none, count-more, count-most, partsTo, parts-none, parts-more}
 use Rattle.settlement.specs.SettlingLaws.{not-refused}
-use Rattle.series.specs.Volumes.{volumesOf}
+use Rattle.series.specs.VolumesInner.{volumesOf}
 use Rattle.series.specs.VolumesLaws.{volumes-each, volumes-all}
 use Rattle.series.proofs.delivered.fill_engagements.Statement.{statement}
 use Rattle.series.proofs.delivered.fill_engagements.Tie as tie

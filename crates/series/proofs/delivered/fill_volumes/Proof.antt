@@ -7,10 +7,10 @@ use lib.Seq.{sets}
 use Rattle.book.specs.Book.{Book}
 use Rattle.book.specs.Judged.{refusalOf}
 use Rattle.volumes.specs.SettlementLaws.{passing}
-use Rattle.settlement.specs.Sections.{bookWith}
+use Rattle.settlement.specs.SectionsInner.{bookWith}
 use Rattle.settlement.specs.SectionsLaws.{bytes-long, same-book, opened, count-book, own-settled}
 use borrow.Author.Needs.{needs}
-use Rattle.series.specs.Volumes.{bookVolumes}
+use Rattle.series.specs.VolumesInner.{bookVolumes}
 use Rattle.series.proofs.delivered.fill_volumes.Statement.{statement}
 use Rattle.series.proofs.delivered.fill_volumes.Tie as tie
 

@@ -7,8 +7,8 @@ use lib.Seq.{sets, length-sets}
 use native.Mathlib.Omega.{arith}
 use borrow.Author.Needs.{needs}
 use Rattle.integers.specs.Ranges.{range}
-use Rattle.integers.specs.Z.{up}
-use Rattle.series.specs.Volumes.{volumeIn}
+use Rattle.integers.specs.ZLaws.{up}
+use Rattle.series.specs.VolumesInner.{volumeIn}
 use Rattle.series.specs.VolumesLaws.{set-next}
 use Rattle.series.proofs.delivered.store_volumes.Statement.{statement}
 use Rattle.series.proofs.delivered.store_volumes.Tie as tie

@@ -1,7 +1,7 @@
 -- The cells hold the grains of the engagements passed; a turn adds those of one more.
 use mathlib.Core.Path.{_≡_, refl, sym, ap, _∙_}
 use mathlib.Core.Bool.{cond}
-use Prim.Native.Nat.{_+_, _*_, _-_, _≤_, _<_}
+use Prim.Native.Nat.{_+_, _-_, _≤_, _<_}
 use native.Mathlib.Omega.{arith}
 use lib.ListN.{length}
 use borrow.Author.Needs.{needs}
@@ -10,13 +10,12 @@ use Rattle.quarters.specs.Quarters.{monthQuarters}
 use Rattle.quarters.specs.QuartersLaws.{days-few}
 use Rattle.book.specs.Engagements.{engagementAt}
 use Rattle.book.specs.Book.{Book}
-use Rattle.volumes.specs.Settlement.{rowWidth}
 use Rattle.volumes.specs.Sheets.{startPosition}
 use Rattle.volumes.specs.Series.{isEngagement}
-use Rattle.settlement.specs.Sections.{engagementCountIn}
+use Rattle.settlement.specs.SectionsInner.{engagementCountIn}
 use Rattle.settlement.specs.PartsLaws.{rowCountTo, count-none, count-more}
 use Rattle.sheets.specs.SheetLaws.{first-cell}
-use Rattle.series.specs.Sums.{byPosition, grainsTo, Parts}
+use Rattle.series.specs.SumsInner.{byPosition, grainsTo, Parts}
 use Rattle.series.specs.SumsLaws.{by-cong, added-length, rows-few, placed, volumes-room, grains-none, grains-all, turn-adds, turn-sums}
 use Rattle.series.proofs.sums.add_engagements.Statement.{statement}
 use Rattle.series.proofs.sums.add_engagements.Tie as tie

@@ -5,7 +5,7 @@ use Prim.Native.Nat.{ℕ, _+_, _-_, _≤_}
 use native.Mathlib.Omega.{arith}
 use lib.ListN.{length, getD, set, length-set}
 use borrow.Author.Needs.{needs}
-use Rattle.series.specs.Sums.{added}
+use Rattle.series.specs.SumsInner.{added}
 use Rattle.series.specs.SumsLaws.{added-none, added-behind, added-more}
 use Rattle.series.proofs.sums.add_volumes.Statement.{statement}
 use Rattle.series.proofs.sums.add_volumes.Tie as tie

@@ -5,7 +5,7 @@ use Prim.Native.Nat.{ℕ, _-_, _≤_}
 use native.Mathlib.Omega.{arith}
 use lib.ListN.{length, set, length-set}
 use borrow.Author.Needs.{needs}
-use Rattle.series.specs.Sums.{byPosition}
+use Rattle.series.specs.SumsInner.{byPosition}
 use Rattle.series.specs.SumsLaws.{by-none, by-more}
 use Rattle.series.proofs.sums.clear.Statement.{statement}
 use Rattle.series.proofs.sums.clear.Tie as tie

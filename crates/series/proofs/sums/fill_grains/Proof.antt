@@ -11,7 +11,7 @@ use Rattle.quarters.specs.Quarters.{monthQuarters}
 use Rattle.volumes.specs.SettlementLaws.{passing}
 use Rattle.volumes.specs.Series.{grainsAt}
 use Rattle.settlement.specs.SectionsLaws.{bytes-long}
-use Rattle.series.specs.Sums.{byPosition, Parts}
+use Rattle.series.specs.SumsInner.{byPosition, Parts}
 use Rattle.series.specs.SumsLaws.{by-again, by-own, parts-of}
 use Rattle.series.proofs.sums.fill_grains.Statement.{statement}
 use Rattle.series.proofs.sums.fill_grains.Tie as tie

@@ -8,7 +8,7 @@ use lib.ListN.{length, getD, set, length-set}
 use borrow.Author.Needs.{needs}
 use Rattle.integers.specs.Running.{upTo, floorAt}
 use Rattle.grains.specs.Grains.{perWatt}
-use Rattle.series.specs.Sums.{byPosition, cellAt}
+use Rattle.series.specs.SumsInner.{byPosition, cellAt}
 use Rattle.series.specs.SumsLaws.{by-none, by-rest, by-more, carried, carry-none}
 use Rattle.series.proofs.sums.fill_watts.Statement.{statement}
 use Rattle.series.proofs.sums.fill_watts.Tie as tie

@@ -1,8 +1,8 @@
 -- The definition's own cases.
 use borrow.Author.Needs.{needs}
-use Rattle.volumes.specs.Series.{takenBy}
 use Rattle.series.proofs.sums.is_aggregated.Statement.{statement}
 use Rattle.series.proofs.sums.is_aggregated.Tie as tie
+use Rattle.volumes.specs.SeriesInner.{takenBy}
 
 enum-told : tie.Need-enum-told
 enum-told c = search needs

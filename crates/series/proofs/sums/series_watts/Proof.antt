@@ -12,7 +12,7 @@ use Rattle.quarters.specs.Quarters.{monthQuarters}
 use Rattle.volumes.specs.SettlementLaws.{passing}
 use Rattle.volumes.specs.Series.{grainsAt}
 use Rattle.settlement.specs.SectionsLaws.{bytes-long}
-use Rattle.series.specs.Sums.{byPosition, cellAt, Parts}
+use Rattle.series.specs.SumsInner.{byPosition, cellAt, Parts}
 use Rattle.series.specs.SumsLaws.{by-length, parts-of, carry-fits, watts-are}
 use Rattle.series.proofs.sums.series_watts.Statement.{statement}
 use Rattle.series.proofs.sums.series_watts.Tie as tie

@@ -2,7 +2,7 @@
 use mathlib.Core.Path.{sym, ap, _∙_}
 use Rattle.book.specs.Tables.{yAt}
 use Rattle.volumes.specs.Settlement.{refusalNumber}
-use Rattle.settlement.specs.Sections.{bookWith}
+use Rattle.settlement.specs.SectionsInner.{bookWith}
 use Rattle.settlement.specs.EngagedLaws.{Engaged, engaged-as}
 use native.Mathlib.Omega.{arith}
 use borrow.Author.Needs.{needs}

@@ -4,8 +4,8 @@ use mathlib.Core.Option.{Option}
 use Prim.Native.Nat.{ℕ, _+_, _-_, _≤_}
 use Rattle.volumes.specs.Settlement.{settlementRefusal, rowRefusal}
 use Rattle.volumes.specs.SettlementLaws.{refusalAt, refusal-all}
-use Rattle.baseline.specs.Needs.{numberOf}
-use Rattle.settlement.specs.Sections.{bookWith}
+use Rattle.baseline.specs.NeedsInner.{numberOf}
+use Rattle.settlement.specs.SectionsInner.{bookWith}
 use Rattle.settlement.specs.EngagedLaws.{refusal-row, refusal-last}
 use borrow.Author.Needs.{needs}
 use Rattle.settlement.proofs.judge.judge_engagements.Statement.{statement}

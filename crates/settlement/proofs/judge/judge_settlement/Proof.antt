@@ -5,9 +5,9 @@ use mathlib.Core.Option.{none}
 use Prim.Native.Nat.{ℕ}
 use Rattle.book.specs.Judged.{refusalOf}
 use Rattle.volumes.specs.Settlement.{settlementRefusal}
-use Rattle.settlement.specs.Sections.{bookWith}
+use Rattle.settlement.specs.SectionsInner.{bookWith}
 use Rattle.settlement.specs.SectionsLaws.{bytes-long, same-book, opened}
-use Rattle.settlement.specs.Verdicts.{refusalIn}
+use Rattle.settlement.specs.VerdictsInner.{refusalIn}
 use Rattle.settlement.specs.VerdictsLaws.{book-refused, book-passed}
 use borrow.Author.Needs.{needs}
 use Rattle.settlement.proofs.judge.judge_settlement.Statement.{statement}

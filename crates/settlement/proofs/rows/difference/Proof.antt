@@ -6,7 +6,7 @@ use mir.Val.{toZ}
 use mir.ValLaws.{toZ-ofZ}
 use native.Mathlib.Omega.{arith}
 use borrow.Author.Needs.{needs}
-use Rattle.integers.specs.Z.{eqZ, dif, low, sfits}
+use Rattle.integers.specs.ZLaws.{eqZ, dif, low, sfits}
 use Rattle.settlement.proofs.rows.difference.Statement.{statement}
 use Rattle.settlement.proofs.rows.difference.Tie as tie
 

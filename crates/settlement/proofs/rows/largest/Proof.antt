@@ -1,6 +1,6 @@
 -- The definition's own two cases.
 use borrow.Author.Needs.{needs}
-use Rattle.settlement.specs.Rows.{largest}
+use Rattle.settlement.specs.RowsInner.{largest}
 use Rattle.settlement.proofs.rows.largest.Statement.{statement}
 use Rattle.settlement.proofs.rows.largest.Tie as tie
 

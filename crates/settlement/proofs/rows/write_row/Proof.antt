@@ -8,8 +8,8 @@ use mir.Syntax.{w64}
 use mir.Val.{toZ, ofZ}
 use Rattle.grains.specs.Grains.{grains, grainsZ}
 use Rattle.volumes.specs.Settlement.{limited, deliveredBy, signed}
-use Rattle.settlement.specs.Raised.{baselineOf, wattsOf}
-use Rattle.settlement.specs.Rows.{rowFrom}
+use Rattle.settlement.specs.RaisedInner.{baselineOf, wattsOf}
+use Rattle.settlement.specs.RowsInner.{rowFrom}
 use Rattle.settlement.specs.RowsLaws.{delivered-by}
 use Rattle.settlement.specs.StoresLaws.{four-sets}
 use Rattle.settlement.proofs.rows.write_row.Statement.{statement}

@@ -13,7 +13,7 @@ use Rattle.wire.specs.Readings.{readingAt}
 use Rattle.volumes.specs.Quarters.{quarterHours}
 use Rattle.volumes.specs.Baseline.{known}
 use Rattle.volumes.specs.Settlement.{rowWidth}
-use Rattle.settlement.specs.Rows.{rowAt, rowsFrom}
+use Rattle.settlement.specs.RowsInner.{rowAt, rowsFrom}
 use Rattle.settlement.specs.RaisedLaws.{known-at, raised-watts}
 use Rattle.settlement.specs.RowsLaws.{from-length}
 use Rattle.settlement.specs.StoresLaws.{sets-next}

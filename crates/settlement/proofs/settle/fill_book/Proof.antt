@@ -8,7 +8,7 @@ use Rattle.book.specs.Book.{Book}
 use Rattle.book.specs.Judged.{refusalOf}
 use Rattle.volumes.specs.Settlement.{rows}
 use Rattle.volumes.specs.SettlementLaws.{passing}
-use Rattle.settlement.specs.Sections.{bookWith}
+use Rattle.settlement.specs.SectionsInner.{bookWith}
 use Rattle.settlement.specs.SectionsLaws.{bytes-long, same-book, opened, count-book, own-settled}
 use borrow.Author.Needs.{needs}
 use Rattle.settlement.proofs.settle.fill_book.Statement.{statement}

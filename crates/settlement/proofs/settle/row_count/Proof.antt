@@ -1,6 +1,6 @@
 -- The fifth section's rows are the book's.
 use mathlib.Core.Path.{ap, _∙_}
-use Rattle.settlement.specs.Sections.{rowCountIn}
+use Rattle.settlement.specs.SectionsInner.{rowCountIn}
 use Rattle.settlement.specs.SectionsLaws.{rows-few, count-book}
 use borrow.Author.Needs.{needs}
 use Rattle.settlement.proofs.settle.row_count.Statement.{statement}

@@ -3,7 +3,7 @@ use mathlib.Core.Path.{_≡_, sym, ap, _∙_}
 use mathlib.Core.Option.{none}
 use Rattle.volumes.specs.Settlement.{bookRefusal}
 use Rattle.volumes.specs.SettlementLaws.{passing}
-use Rattle.settlement.specs.Verdicts.{refusalIn}
+use Rattle.settlement.specs.VerdictsInner.{refusalIn}
 use Rattle.settlement.specs.CallsLaws.{call-refused, call-short, call-filled}
 use borrow.Author.Needs.{needs}
 use Rattle.settlement.proofs.settle.settle.Statement.{statement}

@@ -7,7 +7,7 @@ use lib.Seq.{sets}
 use Rattle.book.specs.declared.Engagement.{Engagement}
 use Rattle.book.specs.Tables.{categoryAt, xAt, yAt}
 use Rattle.volumes.specs.Settlement.{refusalNumber, rowWidth, rowsOf}
-use Rattle.settlement.specs.Sections.{bookWith}
+use Rattle.settlement.specs.SectionsInner.{bookWith}
 use Rattle.settlement.specs.EngagedLaws.{Engaged, engaged-as}
 use Rattle.settlement.specs.SettlingLaws.{settled, accepts}
 use native.Mathlib.Omega.{arith}

@@ -8,7 +8,7 @@ use lib.Seq.{sets, length-sets}
 use Rattle.book.specs.Engagements.{engagementAt}
 use Rattle.volumes.specs.Settlement.{rowWidth, rowsOf}
 use Rattle.volumes.specs.SettlementLaws.{rowsOf-length}
-use Rattle.settlement.specs.Sections.{bookWith}
+use Rattle.settlement.specs.SectionsInner.{bookWith}
 use Rattle.settlement.specs.PartsLaws.{rowCountTo, count-none, count-more, count-most, partsTo, parts-none, parts-more}
 use Rattle.settlement.specs.SettlingLaws.{rows-all, not-refused}
 use borrow.Author.Needs.{needs}

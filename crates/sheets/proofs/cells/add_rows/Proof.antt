@@ -7,9 +7,9 @@ use lib.ListN.{length}
 use mir.Syntax.{w64}
 use mir.Val.{toZ, ofZ}
 use Rattle.integers.specs.Ranges.{range}
-use Rattle.sheets.specs.Adds.{adds}
+use Rattle.sheets.specs.AddsInner.{adds}
 use Rattle.sheets.specs.AddsLaws.{length-adds}
-use Rattle.sheets.specs.Shares.{gets, sourceIn, fspIn, getsOf}
+use Rattle.sheets.specs.SharesInner.{gets, sourceIn, fspIn, getsOf}
 use Rattle.sheets.specs.SharesLaws.{gets-length, gets-next, gets-fits}
 use Rattle.sheets.proofs.cells.add_rows.Statement.{statement}
 use Rattle.sheets.proofs.cells.add_rows.Tie as tie

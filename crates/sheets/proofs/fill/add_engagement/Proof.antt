@@ -5,17 +5,17 @@ use native.Mathlib.Omega.{arith}
 use lib.IntN.{pos}
 use lib.ListN.{replicate, length-replicate}
 use Prim.Native.Nat.{_*_}
-use Rattle.quarters.specs.Quarters.{longestDay}
 use Rattle.book.specs.declared.Engagement.{Engagement}
 use Rattle.book.specs.Engagements.{engagementAt}
-use Rattle.settlement.specs.Sections.{bookWith}
+use Rattle.settlement.specs.SectionsInner.{bookWith}
 use Rattle.settlement.specs.EngagedLaws.{engaged}
 use Rattle.volumes.specs.Settlement.{rowWidth}
-use Rattle.sheets.specs.Adds.{adds}
-use Rattle.sheets.specs.Shares.{getsOf, Both, correctionsFor, firstCell}
+use Rattle.sheets.specs.AddsInner.{adds}
+use Rattle.sheets.specs.SharesInner.{getsOf, Both, correctionsFor, firstCell}
 use Rattle.sheets.specs.EngagementLaws.{Placing, engagement-placed, engagement-gets, engagement-both}
 use Rattle.sheets.proofs.fill.add_engagement.Statement.{statement}
 use Rattle.sheets.proofs.fill.add_engagement.Tie as tie
+use Rattle.quarters.specs.QuartersInner.{longestDay}
 
 section-requires : tie.Need-section-requires
 section-requires c κs = (c .before .before .pre .0 .passed, search needs)

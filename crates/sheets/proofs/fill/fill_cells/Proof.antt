@@ -8,11 +8,11 @@ use lib.IntN.{ℤ}
 use lib.ListN.{length, drop}
 use Rattle.book.specs.Engagements.{engagementAt}
 use Rattle.quarters.specs.Quarters.{monthQuarters}
-use Rattle.settlement.specs.Sections.{bookWith}
+use Rattle.settlement.specs.SectionsInner.{bookWith}
 use Rattle.settlement.specs.SettlingLaws.{not-refused}
-use Rattle.sheets.specs.Adds.{adds}
-use Rattle.sheets.specs.Shares.{correctionsFor, firstCell}
-use Rattle.sheets.specs.Parts.{sheetTo}
+use Rattle.sheets.specs.AddsInner.{adds}
+use Rattle.sheets.specs.SharesInner.{correctionsFor, firstCell}
+use Rattle.sheets.specs.PartsInner.{sheetTo}
 use Rattle.sheets.specs.EngagementLaws.{calendar-ranged, engagement-more, engagement-addable, cells-begun, cells-ended}
 use Rattle.sheets.proofs.fill.fill_cells.Statement.{statement}
 use Rattle.sheets.proofs.fill.fill_cells.Tie as tie

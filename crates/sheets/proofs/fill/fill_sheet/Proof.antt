@@ -9,7 +9,7 @@ use Rattle.book.specs.Judged.{refusalOf}
 use Rattle.quarters.specs.Quarters.{monthQuarters}
 use Rattle.volumes.specs.Sheets.{sheet}
 use Rattle.volumes.specs.SettlementLaws.{passing}
-use Rattle.settlement.specs.Sections.{bookWith}
+use Rattle.settlement.specs.SectionsInner.{bookWith}
 use Rattle.settlement.specs.SectionsLaws.{bytes-long, same-book, opened, own-settled}
 use borrow.Author.Needs.{needs}
 use Rattle.sheets.proofs.fill.fill_sheet.Statement.{statement}

@@ -7,9 +7,9 @@ use native.Mathlib.Omega.{arith}
 use Rattle.book.specs.declared.Point.{Point}
 use Rattle.book.specs.Register.{pointAt}
 use Rattle.volumes.specs.Sheets.{partiesOf}
-use Rattle.settlement.specs.Sections.{pointCountIn}
+use Rattle.settlement.specs.SectionsInner.{pointCountIn}
 use Rattle.integers.specs.Counts.{stands}
-use Rattle.sheets.specs.Parties.{partiesTo}
+use Rattle.sheets.specs.PartiesInner.{partiesTo}
 use Rattle.sheets.specs.PartiesLaws.{no-party, party-next, party-here}
 use Rattle.sheets.proofs.parties.is_party.Statement.{statement}
 use Rattle.sheets.proofs.parties.is_party.Tie as tie

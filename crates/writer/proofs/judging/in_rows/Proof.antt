@@ -7,13 +7,13 @@ use native.Mathlib.Nat.{sub-zero}
 use native.Mathlib.Omega.{arith}
 use borrow.Author.Tests.{not-true, not-false}
 use borrow.Author.Needs.{needs}
-use Rattle.writer.specs.Rows.{sixAt, behind}
-use Rattle.writer.specs.Steps.{six-pair, behind-none, behind-not-six, behind-not-before, behind-next}
+use Rattle.writer.specs.StepsLaws.{six-pair, behind-none, behind-not-six, behind-not-before, behind-next}
 use borrow.Author.Needs.{needs}
 use native.Mathlib.Nat.{sub-zero}
 use native.Mathlib.Omega.{arith}
 use Rattle.writer.proofs.judging.in_rows.Statement.{statement}
 use Rattle.writer.proofs.judging.in_rows.Tie as tie
+use Rattle.writer.specs.RowsInner.{sixAt, behind}
 
 abbrev Inv-loop : tie.InvT-loop
 Inv-loop kind last rows at₀ at =

@@ -6,12 +6,12 @@ use lib.ListN.{length}
 use native.Mathlib.Omega.{arith}
 use borrow.Author.Tests.{not-true, not-false}
 use Rattle.message.specs.Valid.{lastPosition}
-use Rattle.writer.specs.Rows.{sixAt, behind}
-use Rattle.writer.specs.Steps.{rows-far, rows-odd, rows-none, rows-some}
+use Rattle.writer.specs.StepsLaws.{rows-far, rows-odd, rows-none, rows-some}
 use native.Mathlib.Omega.{arith}
 use borrow.Author.Needs.{needs}
 use Rattle.writer.proofs.judging.judge_rows.Statement.{statement}
 use Rattle.writer.proofs.judging.judge_rows.Tie as tie
+use Rattle.writer.specs.RowsInner.{sixAt, behind}
 
 returns : tie.Need-returns
 returns c =

@@ -1,10 +1,11 @@
 -- By positions in one pair of directions, or else by the pairs.
 use Prim.Native.Nat.{_+_}
-use Rattle.writer.specs.Rows.{laterPair, rowAt}
-use Rattle.writer.specs.Steps.{pair-same, pair-other}
+use Rattle.writer.specs.Rows.{laterPair}
+use Rattle.writer.specs.StepsLaws.{pair-same, pair-other}
 use borrow.Author.Needs.{needs}
 use Rattle.writer.proofs.judging.later_pair.Statement.{statement}
 use Rattle.writer.proofs.judging.later_pair.Tie as tie
+use Rattle.writer.specs.RowsInner.{rowAt}
 
 add-next : tie.Need-add-next
 add-next c = search needs

@@ -1,8 +1,9 @@
 -- The tests of a row are those of the definition, one by one.
-use Rattle.writer.specs.Rows.{sixAt, isNumber, isPair, isObservation}
+use Rattle.writer.specs.Rows.{isNumber, isPair, isObservation}
 use borrow.Author.Needs.{needs}
 use Rattle.writer.proofs.judging.six_at.Statement.{statement}
 use Rattle.writer.proofs.judging.six_at.Tie as tie
+use Rattle.writer.specs.RowsInner.{sixAt}
 
 number-limit-requires : tie.Need-number-limit-requires
 number-limit-requires c κs = search needs

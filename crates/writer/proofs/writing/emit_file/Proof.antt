@@ -6,9 +6,9 @@ use borrow.Author.Needs.{needs}
 use Rattle.message.specs.Messages.{messageBytes}
 use Rattle.writer.specs.ContentsLaws.{partners-count, message-parts, rows-writable}
 use Rattle.writer.specs.Rows.{rowsMessage}
-use Rattle.writer.specs.Contents.{partnersIn}
-use Rattle.emitter.specs.Parts.{fileHead}
-use Rattle.emitter.specs.Laid.{laid-then, laid-is, laid-stands}
+use Rattle.writer.specs.ContentsInner.{partnersIn}
+use Rattle.emitter.specs.PartsInner.{fileHead}
+use Rattle.emitter.specs.LaidLaws.{laid-then, laid-is, laid-stands}
 use Rattle.writer.proofs.writing.emit_file.Statement.{statement}
 use Rattle.writer.proofs.writing.emit_file.Tie as tie
 

@@ -5,9 +5,9 @@ use lib.ListN.{length}
 use native.Mathlib.Omega.{arith}
 use borrow.Author.Needs.{needs}
 use Rattle.message.specs.Bytes.{observationBytes}
-use Rattle.writer.specs.Contents.{observationsIn}
+use Rattle.writer.specs.ContentsInner.{observationsIn}
 use Rattle.writer.specs.ContentsLaws.{observations-none, observations-step}
-use Rattle.emitter.specs.Laid.{Laying, laying-none, laying-then, laying-all}
+use Rattle.emitter.specs.LaidLaws.{Laying, laying-none, laying-then, laying-all}
 use Rattle.writer.proofs.writing.emit_observations.Statement.{statement}
 use Rattle.writer.proofs.writing.emit_observations.Tie as tie
 

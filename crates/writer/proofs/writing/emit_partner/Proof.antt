@@ -5,10 +5,10 @@ use lib.ListN.{length}
 use borrow.Author.Needs.{needs}
 use Rattle.message.specs.Bytes.{supplyOf, partnerBytes}
 use Rattle.writer.specs.ContentsLaws.{series-count, series-supply, writable-first}
-use Rattle.writer.specs.Contents.{partnerAt}
-use Rattle.emitter.specs.Parts.{partnerHead}
+use Rattle.writer.specs.ContentsInner.{partnerAt}
+use Rattle.emitter.specs.PartsInner.{partnerHead}
 use Rattle.emitter.specs.PartsLaws.{partner-parts}
-use Rattle.emitter.specs.Laid.{laid-then, laid-is, laid-stands}
+use Rattle.emitter.specs.LaidLaws.{laid-then, laid-is, laid-stands}
 use Rattle.writer.proofs.writing.emit_partner.Statement.{statement}
 use Rattle.writer.proofs.writing.emit_partner.Tie as tie
 

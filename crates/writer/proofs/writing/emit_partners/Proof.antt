@@ -5,9 +5,9 @@ use Prim.Native.Nat.{_+_, _-_, _*_}
 use native.Mathlib.Omega.{arith}
 use borrow.Author.Needs.{needs}
 use Rattle.message.specs.Bytes.{partnerBytes}
-use Rattle.writer.specs.Contents.{partnersIn, Writable}
+use Rattle.writer.specs.ContentsInner.{partnersIn, Writable}
 use Rattle.writer.specs.ContentsLaws.{partners-none, partners-step, writable-part}
-use Rattle.emitter.specs.Laid.{Laying, laying-none, laying-then, laying-all}
+use Rattle.emitter.specs.LaidLaws.{Laying, laying-none, laying-then, laying-all}
 use Rattle.writer.proofs.writing.emit_partners.Statement.{statement}
 use Rattle.writer.proofs.writing.emit_partners.Tie as tie
 

@@ -5,10 +5,10 @@ use lib.ListN.{length}
 use borrow.Author.Needs.{needs}
 use Rattle.message.specs.Bytes.{seriesBytes}
 use Rattle.writer.specs.ContentsLaws.{writable-first, observations-length}
-use Rattle.writer.specs.Contents.{seriesAt}
-use Rattle.emitter.specs.Parts.{seriesHead}
+use Rattle.writer.specs.ContentsInner.{seriesAt}
+use Rattle.emitter.specs.PartsInner.{seriesHead}
 use Rattle.emitter.specs.PartsLaws.{series-parts}
-use Rattle.emitter.specs.Laid.{laid-then, laid-is, laid-stands}
+use Rattle.emitter.specs.LaidLaws.{laid-then, laid-is, laid-stands}
 use Rattle.writer.proofs.writing.emit_series.Statement.{statement}
 use Rattle.writer.proofs.writing.emit_series.Tie as tie
 

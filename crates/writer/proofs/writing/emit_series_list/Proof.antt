@@ -5,9 +5,9 @@ use Prim.Native.Nat.{_+_, _-_, _*_}
 use native.Mathlib.Omega.{arith}
 use borrow.Author.Needs.{needs}
 use Rattle.message.specs.Bytes.{seriesBytes}
-use Rattle.writer.specs.Contents.{seriesIn, Writable}
+use Rattle.writer.specs.ContentsInner.{seriesIn, Writable}
 use Rattle.writer.specs.ContentsLaws.{series-none, series-step, writable-part}
-use Rattle.emitter.specs.Laid.{Laying, laying-none, laying-then, laying-all}
+use Rattle.emitter.specs.LaidLaws.{Laying, laying-none, laying-then, laying-all}
 use Rattle.writer.proofs.writing.emit_series_list.Statement.{statement}
 use Rattle.writer.proofs.writing.emit_series_list.Tie as tie
 

@@ -1,11 +1,11 @@
 -- A number that is no kind's is refused; else the file is written of its kind.
 use mathlib.Core.Path.{sym, ap, _∙_}
-use Rattle.kinds.specs.Numbers.{kindIn}
 use Rattle.kinds.specs.NumbersLaws.{number-kind}
 use Rattle.writer.specs.WriteCallsLaws.{wrote-no-kind}
 use borrow.Author.Needs.{needs}
 use Rattle.writer.proofs.writing.write.Statement.{statement}
 use Rattle.writer.proofs.writing.write.Tie as tie
+use Rattle.kinds.specs.NumbersInner.{kindIn}
 
 kind-numbered-requires : tie.Need-kind-numbered-requires
 kind-numbered-requires c κs = search needs

@@ -1,6 +1,6 @@
 -- The place that the measuring run ends at is the number of bytes, or there is none and the buffer is too short; the second run writes them from the first place on.
 use borrow.Author.Needs.{needs}
-use Rattle.writer.specs.Called.{called-short, called-file}
+use Rattle.writer.specs.CalledLaws.{called-short, called-file}
 use Rattle.writer.proofs.writing.write_file.Statement.{statement}
 use Rattle.writer.proofs.writing.write_file.Tie as tie
 

@@ -1,0 +1,49 @@
+-- The book of a book's bytes with given engagements: rows of a section, whose length says how many they are.
+use mathlib.Core.Path.{_≡_}
+use mathlib.Core.List.{List, map}
+use mathlib.Core.Option.{none}
+use Prim.Native.Nat.{ℕ, _/_}
+use lib.ListN.{length}
+use Rattle.integers.specs.Ranges.{range}
+use Rattle.integers.specs.Sums.{sumOf}
+use Rattle.book.specs.declared.Engagement.{Engagement}
+use Rattle.book.specs.Header.{calendarOf, pointCount, pointWidth, engagementWidth, calendarSection, pairSection, registerSection, readingSection}
+use Rattle.book.specs.Tables.{categoryAt, xAt, yAt}
+use Rattle.book.specs.Register.{pointAt}
+use Rattle.book.specs.Metering.{meterAt}
+use Rattle.book.specs.Engagements.{engagementAt}
+use Rattle.book.specs.Book.{Book}
+use Rattle.book.specs.Judged.{refusalOf}
+use Rattle.volumes.specs.SoundInner.{Sound}
+
+-- "Register, P rows of 64 bytes", "Engagements, 16 bytes"
+abbrev pub pointCountIn : List ℕ → ℕ
+pointCountIn register = length register / pointWidth
+
+abbrev pub engagementCountIn : List ℕ → ℕ
+engagementCountIn engagements = length engagements / engagementWidth
+
+unfoldable pub engagementsIn : List ℕ → List Engagement
+engagementsIn engagements = map (engagementAt engagements) (range 0 (engagementCountIn engagements))
+
+-- "Each engagement quarter-hour" is a row
+unfoldable pub rowCountIn : List ℕ → ℕ
+rowCountIn engagements = sumOf (λ e. e .count) (engagementsIn engagements)
+
+-- what the bytes say, with these engagements for their own
+unfoldable pub bookWith : List ℕ → List ℕ → Book
+bookWith bytes engagements =
+    record {
+      calendar = calendarOf bytes;
+      category = categoryAt (calendarSection bytes);
+      x = xAt (pairSection bytes);
+      y = yAt (pairSection bytes);
+      points = map (pointAt (registerSection bytes)) (range 0 (pointCount bytes));
+      reading = meterAt (calendarOf bytes) (readingSection bytes);
+      engagements = engagementsIn engagements;
+    }
+
+-- the bytes pass refusals 1 to 7, and with these engagements too they are a sound book
+pub record Opened (bytes engagements : List ℕ) : Type 0 where
+  pub passed : refusalOf bytes ≡ none
+  pub sound : Sound (bookWith bytes engagements)

@@ -1,0 +1,15 @@
+-- The balance parties of a register's rows.
+use mathlib.Core.List.{List, map, flatMap}
+use Prim.Native.Nat.{ℕ}
+use Rattle.integers.specs.Ranges.{range}
+use Rattle.book.specs.Register.{pointAt}
+use Rattle.volumes.specs.Sheets.{partiesOf}
+use Rattle.settlement.specs.SectionsInner.{pointCountIn}
+
+-- the parties of the first n rows
+unfoldable pub partiesTo : List ℕ → ℕ → List ℕ
+partiesTo register n = flatMap partiesOf (map (pointAt register) (range 0 n))
+
+-- "all parties in the register"
+abbrev pub partiesIn : List ℕ → List ℕ
+partiesIn register = partiesTo register (pointCountIn register)
