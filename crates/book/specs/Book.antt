@@ -4,7 +4,7 @@ use Prim.Native.Nat.{ℕ}
 use Rattle.integers.specs.Ranges.{range}
 use Rattle.wire.specs.declared.Reading.{Reading}
 use Rattle.quarters.specs.declared.Calendar.{Calendar}
-use Rattle.book.specs.Header.{calendarOf, pointCount, engagementCount, calendarSection, pairSection, registerSection, readingSection, engagementSection}
+use Rattle.book.specs.Header.{calendarOf, pointCount, engagementCount, calendarSection, tableSection, registerSection, readingSection, engagementSection}
 use Rattle.book.specs.Tables.{categoryAt, xAt, yAt}
 use Rattle.book.specs.Register.{pointAt}
 use Rattle.book.specs.Metering.{meterAt}
@@ -28,8 +28,8 @@ bookOf bytes =
     record {
       calendar = calendarOf bytes;
       category = categoryAt (calendarSection bytes);
-      x = xAt (pairSection bytes);
-      y = yAt (pairSection bytes);
+      x = xAt (tableSection bytes);
+      y = yAt (tableSection bytes);
       points = map (pointAt (registerSection bytes)) (range 0 (pointCount bytes));
       reading = meterAt (calendarOf bytes) (readingSection bytes);
       engagements = map (engagementAt (engagementSection bytes)) (range 0 (engagementCount bytes));

@@ -1,4 +1,4 @@
--- Document 01, "The book": the header, the five pairs, and the sections as parts of the book.
+-- Document 01, "The book": the header, the five extents, and the sections as parts of the book.
 use mathlib.Core.Bool.{Bool, _&&_}
 use mathlib.Core.List.{List, [], _∷_}
 use Prim.Native.Nat.{ℕ, suc, _+_, _*_}
@@ -43,16 +43,16 @@ headerFields book =
 unfoldable pub headerGood : List ℕ → Bool
 headerGood book = leb 56 (length book) && headerFields book
 
--- "At byte 16 stand five pairs of offset u32 and length u32.": pair k, counted from 0
+-- "At byte 16 stand five pairs of offset u32 and length u32.": such a pair is an extent, here extent k, counted from 0
 abbrev pub offsetOf : List ℕ → ℕ → ℕ
 offsetOf book k = numberAt book (16 + 8 * k) 4
 
 abbrev pub lengthOf : List ℕ → ℕ → ℕ
 lengthOf book k = numberAt book (20 + 8 * k) 4
 
--- pair k is this offset and this length
-abbrev pub isPair : List ℕ → ℕ → ℕ → ℕ → Bool
-isPair book k offset size = eqb (offsetOf book k) offset && eqb (lengthOf book k) size
+-- extent k is this offset and this length
+abbrev pub isExtent : List ℕ → ℕ → ℕ → ℕ → Bool
+isExtent book k offset size = eqb (offsetOf book k) offset && eqb (lengthOf book k) size
 
 -- a register row, and an engagement, in bytes
 abbrev pub pointWidth : ℕ
@@ -61,15 +61,15 @@ pointWidth = 64
 abbrev pub engagementWidth : ℕ
 engagementWidth = 16
 
--- the sections' lengths: calendar, pairs X and Y, register, readings, engagements
+-- the sections' lengths: calendar, table of X and Y, register, readings, engagements
 abbrev pub sizes : Calendar → ℕ → ℕ → List ℕ
 sizes c points rows =
     daysOf c ∷ 8 ∷ pointWidth * points ∷ 4 * quartersOf c * points ∷ engagementWidth * rows ∷ []
 
--- the pairs from k on name sections of these sizes, each where the last ended, and the last ends with the book
+-- the extents from k on name sections of these sizes, each where the last ended, and the last ends with the book
 abbrev pub adjoining : List ℕ → ℕ → ℕ → List ℕ → Bool
 adjoining book k at [] = eqb (length book) at
-adjoining book k at (n ∷ ns) = isPair book k at n && adjoining book (suc k) (at + n) ns
+adjoining book k at (n ∷ ns) = isExtent book k at n && adjoining book (suc k) (at + n) ns
 
 -- "The first section starts at 56, each next where the last ended, the last ends with the book."
 unfoldable pub layoutGood : List ℕ → Bool
@@ -82,8 +82,8 @@ sectionOf book k = take (lengthOf book k) (drop (offsetOf book k) book)
 abbrev pub calendarSection : List ℕ → List ℕ
 calendarSection book = sectionOf book 0
 
-abbrev pub pairSection : List ℕ → List ℕ
-pairSection book = sectionOf book 1
+abbrev pub tableSection : List ℕ → List ℕ
+tableSection book = sectionOf book 1
 
 abbrev pub registerSection : List ℕ → List ℕ
 registerSection book = sectionOf book 2

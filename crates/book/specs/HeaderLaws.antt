@@ -13,7 +13,7 @@ use Rattle.wire.specs.Numbers.{numberAt}
 use Rattle.wire.specs.NumbersLaws.{in-part}
 use Rattle.quarters.specs.declared.Calendar.{Calendar}
 use Rattle.quarters.specs.Quarters.{daysOf, quartersOf}
-use Rattle.book.specs.Header.{version, calendarOf, pointCount, engagementCount, between, versionTaken, headerFields, headerGood, pointWidth, engagementWidth, rowAt, offsetOf, lengthOf, isPair, sizes, adjoining, sectionOf}
+use Rattle.book.specs.Header.{version, calendarOf, pointCount, engagementCount, between, versionTaken, headerFields, headerGood, pointWidth, engagementWidth, rowAt, offsetOf, lengthOf, isExtent, sizes, adjoining, sectionOf}
 use Rattle.quarters.specs.QuartersInner.{Ranged}
 
 -- the part that ends a row later is the row
@@ -36,27 +36,27 @@ in-row w section i at k h = sym (in-part section (w * i) w at k h)
 pub at-row : (w : ℕ) (section : List ℕ) (i k : ℕ) → k ≤ w → numberAt section (w * i) k ≡ numberAt (rowAt w section i) 0 k
 at-row w section i k h = ap (λ (a : ℕ). numberAt section a k) (sym (add-zero (w * i))) ∙ in-row w section i 0 k (omega arith)
 
--- the first pair of those that adjoin, and the others
-pub adjoins : (book : List ℕ) (k at n : ℕ) (ns : List ℕ) → adjoining book k at (n ∷ ns) ≡ true → (isPair book k at n ≡ true) × (adjoining book (suc k) (at + n) ns ≡ true)
-adjoins book k at n ns e = both (isPair book k at n) (adjoining book (suc k) (at + n) ns) e
+-- the first extent of those that adjoin, and the others
+pub adjoins : (book : List ℕ) (k at n : ℕ) (ns : List ℕ) → adjoining book k at (n ∷ ns) ≡ true → (isExtent book k at n ≡ true) × (adjoining book (suc k) (at + n) ns ≡ true)
+adjoins book k at n ns e = both (isExtent book k at n) (adjoining book (suc k) (at + n) ns) e
 
--- pair k names a part of the book, of n bytes
+-- extent k names a part of the book, of n bytes
 pub record Held (book : List ℕ) (k n : ℕ) : Type 0 where
   pub inside : offsetOf book k + lengthOf book k ≤ length book
   pub size : length (sectionOf book k) ≡ n
 
-held : (book : List ℕ) (k at n : ℕ) → isPair book k at n ≡ true → at + n ≤ length book → Held book k n
+held : (book : List ℕ) (k at n : ℕ) → isExtent book k at n ≡ true → at + n ≤ length book → Held book k n
 held book k at n e h =
-    let pair = both (eqb (offsetOf book k) at) (eqb (lengthOf book k) n) e in
-    let o = eqb-true (offsetOf book k) at (pair .0) in
-    let l = eqb-true (lengthOf book k) n (pair .1) in
+    let extent = both (eqb (offsetOf book k) at) (eqb (lengthOf book k) n) e in
+    let o = eqb-true (offsetOf book k) at (extent .0) in
+    let l = eqb-true (lengthOf book k) n (extent .1) in
     record { inside = omega arith; size = simp (length-take, length-drop) (omega arith) }
 
 -- the sections of a book that is laid out for a calendar, so many points and so many engagements
 pub record LaidOut (book : List ℕ) (c : Calendar) (points rows : ℕ) : Type 0 where
   pub long : 56 ≤ length book
   pub calendar : Held book 0 (daysOf c)
-  pub pairs : Held book 1 8
+  pub table : Held book 1 8
   pub register : Held book 2 (pointWidth * points)
   pub readings : Held book 3 (4 * quartersOf c * points)
   pub engagements : Held book 4 (engagementWidth * rows)
@@ -76,7 +76,7 @@ laid book c points rows e =
     record {
       long = omega arith;
       calendar = held book 0 56 days (r₀ .0) (omega arith);
-      pairs = held book 1 (56 + days) 8 (r₁ .0) (omega arith);
+      table = held book 1 (56 + days) 8 (r₁ .0) (omega arith);
       register = held book 2 (56 + days + 8) reg (r₂ .0) (omega arith);
       readings = held book 3 (56 + days + 8 + reg) met (r₃ .0) (omega arith);
       engagements = held book 4 (56 + days + 8 + reg + met) eng (r₄ .0) (omega arith);

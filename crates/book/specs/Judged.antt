@@ -8,8 +8,8 @@ use Rattle.integers.specs.First.{first}
 use Rattle.refusals.specs.Refusals.{Refusal, unless, unlessFound}
 use Rattle.quarters.specs.declared.Calendar.{Calendar}
 use Rattle.quarters.specs.Quarters.{daysOf}
-use Rattle.book.specs.Header.{calendarOf, pointCount, engagementCount, headerGood, layoutGood, calendarSection, pairSection, registerSection, readingSection, engagementSection}
-use Rattle.book.specs.Tables.{calendarGood, pairsGood}
+use Rattle.book.specs.Header.{calendarOf, pointCount, engagementCount, headerGood, layoutGood, calendarSection, tableSection, registerSection, readingSection, engagementSection}
+use Rattle.book.specs.Tables.{calendarGood, tableGood}
 use Rattle.book.specs.Register.{badPoint}
 use Rattle.book.specs.Metering.{firstBadReading}
 use Rattle.book.specs.Engagements.{badEngagement}
@@ -27,8 +27,8 @@ rowsRefusal c points rows register readings engagements =
 
 -- "sections 1 or 2 out of range", then the rows
 unfoldable pub sectionsRefusal : Calendar → ℕ → ℕ → List ℕ → List ℕ → List ℕ → List ℕ → List ℕ → Option Refusal
-sectionsRefusal c points rows calendar pairs register readings engagements =
-    unless (calendarGood calendar && pairsGood pairs) 4 (rowsRefusal c points rows register readings engagements)
+sectionsRefusal c points rows calendar table register readings engagements =
+    unless (calendarGood calendar && tableGood table) 4 (rowsRefusal c points rows register readings engagements)
 
 -- "Order: 1 to 7"
 unfoldable pub refusalOf : List ℕ → Option Refusal
@@ -41,7 +41,7 @@ refusalOf book =
     (pointCount book)
     (engagementCount book)
     (calendarSection book)
-    (pairSection book)
+    (tableSection book)
     (registerSection book)
     (readingSection book)
     (engagementSection book))))

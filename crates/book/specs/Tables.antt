@@ -13,10 +13,10 @@ categoryAt calendar d = getD calendar d 0
 
 -- "Four pairs of bytes X, Y, by category": of category c
 abbrev pub xAt : List ℕ → ℕ → ℕ
-xAt pairs c = getD pairs (2 * c) 0
+xAt table c = getD table (2 * c) 0
 
 abbrev pub yAt : List ℕ → ℕ → ℕ
-yAt pairs c = getD pairs (2 * c + 1) 0
+yAt table c = getD table (2 * c + 1) 0
 
 -- "category, 0 to 3": a day whose category is none of these
 abbrev pub badDay : List ℕ → ℕ → Bool
@@ -26,8 +26,8 @@ unfoldable pub calendarGood : List ℕ → Bool
 calendarGood calendar = not (anyBelow (badDay calendar) (length calendar))
 
 -- "X 1 to 10, Y from X to 20"
-abbrev pub pairGood : List ℕ → ℕ → Bool
-pairGood pairs c = between 1 10 (xAt pairs c) && between (xAt pairs c) 20 (yAt pairs c)
+abbrev pub entryGood : List ℕ → ℕ → Bool
+entryGood table c = between 1 10 (xAt table c) && between (xAt table c) 20 (yAt table c)
 
-unfoldable pub pairsGood : List ℕ → Bool
-pairsGood pairs = pairGood pairs 0 && (pairGood pairs 1 && (pairGood pairs 2 && pairGood pairs 3))
+unfoldable pub tableGood : List ℕ → Bool
+tableGood table = entryGood table 0 && (entryGood table 1 && (entryGood table 2 && entryGood table 3))

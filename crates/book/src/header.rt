@@ -1,4 +1,4 @@
-// The header, the pairs, and where the sections stand.
+// The header: the calendar, and how many points and engagements there are.
 use quarters::Calendar;
 ghost use mathlib.Core.Path.{_≡_};
 ghost use Prim.Native.Nat.{_≤_};

@@ -4,7 +4,7 @@ ghost use Prim.Native.Nat.{_+_, _≤_};
 ghost use lib.ListN.{length};
 ghost use Rattle.book.specs.Header.{offsetOf, lengthOf, sectionOf};
 
-// The section that pair k names, of a book in which it stands.
+// The section that extent k names, of a book in which it stands.
 pub fn section(book: &[u8], k: usize) -> &[u8]
     requires { ⌜ (56 ≤ length (now book)) × (k ≤ 4) × (offsetOf (now book) k + lengthOf (now book) k ≤ length (now book)) ⌝ }
     ensures { λ r. ⌜ now r ≡ sectionOf (now (book .entry)) k ⌝ }

@@ -11,16 +11,16 @@ pub fn category(calendar: &[u8], day: usize) -> u8
     calendar[day]
 }
 
-pub fn x_of(pairs: &[u8], category: usize) -> u8
-    requires { ⌜ 2 * category + 2 ≤ length (now pairs) ⌝ }
-    ensures { λ r. ⌜ r ≡ xAt (now (pairs .entry)) category ⌝ }
+pub fn x_of(table: &[u8], category: usize) -> u8
+    requires { ⌜ 2 * category + 2 ≤ length (now table) ⌝ }
+    ensures { λ r. ⌜ r ≡ xAt (now (table .entry)) category ⌝ }
 {
-    pairs[2 * category]
+    table[2 * category]
 }
 
-pub fn y_of(pairs: &[u8], category: usize) -> u8
-    requires { ⌜ 2 * category + 2 ≤ length (now pairs) ⌝ }
-    ensures { λ r. ⌜ r ≡ yAt (now (pairs .entry)) category ⌝ }
+pub fn y_of(table: &[u8], category: usize) -> u8
+    requires { ⌜ 2 * category + 2 ≤ length (now table) ⌝ }
+    ensures { λ r. ⌜ r ≡ yAt (now (table .entry)) category ⌝ }
 {
-    pairs[2 * category + 1]
+    table[2 * category + 1]
 }

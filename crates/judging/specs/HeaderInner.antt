@@ -9,7 +9,7 @@ use Rattle.judging.specs.declared.header.Places.{Places}
 abbrev pub placesOf : Calendar → ℕ → ℕ → Places
 placesOf c points rows =
     record {
-      pairs = 56 + daysOf c;
+      table = 56 + daysOf c;
       register = 56 + daysOf c + 8;
       readings = 56 + daysOf c + 8 + pointWidth * points;
       engagements = 56 + daysOf c + 8 + pointWidth * points + 4 * quartersOf c * points;

@@ -4,7 +4,7 @@ ghost use mathlib.Core.Path.{_≡_};
 ghost use Prim.Native.Nat.{_+_, _*_, _≤_};
 ghost use lib.ListN.{length};
 ghost use Rattle.quarters.specs.Quarters.{quarters};
-ghost use Rattle.book.specs.Header.{headerFields, headerGood, isPair, sizes, adjoining};
+ghost use Rattle.book.specs.Header.{headerFields, headerGood, isExtent, sizes, adjoining};
 ghost use Rattle.judging.specs.HeaderInner.{placesOf};
 ghost use Rattle.quarters.specs.QuartersInner.{Ranged};
 
@@ -35,10 +35,10 @@ pub fn header_good(book: &[u8]) -> bool
     header_fields(book)
 }
 
-// Pair k is this offset and this length.
-fn pair_is(book: &[u8], k: usize, offset: usize, size: usize) -> bool
+// Extent k is this offset and this length.
+fn extent_is(book: &[u8], k: usize, offset: usize, size: usize) -> bool
     requires { ⌜ (56 ≤ length (now book)) × (k ≤ 4) ⌝ }
-    ensures { λ r. ⌜ r ≡ isPair (now (book .entry)) k offset size ⌝ }
+    ensures { λ r. ⌜ r ≡ isExtent (now (book .entry)) k offset size ⌝ }
 {
     let at = wire::u32_at(book, 16 + 8 * k) as usize;
     let count = wire::u32_at(book, 20 + 8 * k) as usize;
@@ -47,7 +47,7 @@ fn pair_is(book: &[u8], k: usize, offset: usize, size: usize) -> bool
 
 // Where the sections start; the first starts at 56.
 pub struct Places {
-    pub pairs: usize,
+    pub table: usize,
     pub register: usize,
     pub readings: usize,
     pub engagements: usize,
@@ -60,13 +60,13 @@ pub fn layout_at(c: Calendar, points: usize, rows: usize) -> Places
 {
     let days = quarters::days_of(c) as usize;
     let quarters = quarters::quarters_of(c) as usize;
-    let pairs = 56 + days;
-    let register = pairs + 8;
+    let table = 56 + days;
+    let register = table + 8;
     let readings = register + 64 * points;
     let engagements = readings + 4 * quarters * points;
     let end = engagements + 16 * rows;
     Places {
-        pairs,
+        table,
         register,
         readings,
         engagements,
@@ -81,8 +81,8 @@ pub fn layout_good(book: &[u8], c: Calendar, points: usize, rows: usize) -> bool
     let p = layout_at(c, points, rows);
     let days = quarters::days_of(c) as usize;
     let readings = 4 * (quarters::quarters_of(c) as usize) * points;
-    let late = pair_is(book, 3, p.readings, readings)
-        & (pair_is(book, 4, p.engagements, 16 * rows) & (book.len() == p.end));
-    pair_is(book, 0, 56, days)
-        & (pair_is(book, 1, p.pairs, 8) & (pair_is(book, 2, p.register, 64 * points) & late))
+    let late = extent_is(book, 3, p.readings, readings)
+        & (extent_is(book, 4, p.engagements, 16 * rows) & (book.len() == p.end));
+    extent_is(book, 0, 56, days)
+        & (extent_is(book, 1, p.table, 8) & (extent_is(book, 2, p.register, 64 * points) & late))
 }

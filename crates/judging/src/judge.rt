@@ -7,7 +7,7 @@ ghost use mathlib.Core.Bool.{true};
 ghost use Prim.Native.Nat.{_*_, _≤_};
 ghost use lib.ListN.{length};
 ghost use Rattle.quarters.specs.Quarters.{quartersOf};
-ghost use Rattle.book.specs.Header.{sizes, adjoining, calendarSection, pairSection, registerSection, readingSection, engagementSection};
+ghost use Rattle.book.specs.Header.{sizes, adjoining, calendarSection, tableSection, registerSection, readingSection, engagementSection};
 ghost use Rattle.book.specs.Judged.{rowsRefusal, sectionsRefusal, refusalOf};
 ghost use Rattle.judging.specs.JudgedInner.{sentBack};
 ghost use Rattle.quarters.specs.QuartersInner.{Ranged};
@@ -42,15 +42,15 @@ fn judge_rows(
 // The sections of a book whose layout is good: 4 to 7.
 fn judge_sections(book: &[u8], c: Calendar, points: usize, rows: usize) -> Judged
     requires { ⌜ Ranged c × (points ≤ 256) × (rows ≤ 512) × (adjoining (now book) 0 56 (sizes c points rows) ≡ true) ⌝ }
-    ensures { λ r. ⌜ sentBack r ≡ sectionsRefusal c points rows (calendarSection (now (book .entry))) (pairSection (now (book .entry))) (registerSection (now (book .entry))) (readingSection (now (book .entry))) (engagementSection (now (book .entry))) ⌝ }
+    ensures { λ r. ⌜ sentBack r ≡ sectionsRefusal c points rows (calendarSection (now (book .entry))) (tableSection (now (book .entry))) (registerSection (now (book .entry))) (readingSection (now (book .entry))) (engagementSection (now (book .entry))) ⌝ }
 {
     let calendar = book::sections::section(book, 0);
-    let pairs = book::sections::section(book, 1);
+    let table = book::sections::section(book, 1);
     let register = book::sections::section(book, 2);
     let readings = book::sections::section(book, 3);
     let engagements = book::sections::section(book, 4);
     let days = crate::tables::calendar_good(calendar);
-    if !(days & crate::tables::pairs_good(pairs)) {
+    if !(days & crate::tables::table_good(table)) {
         return Judged::Tables;
     }
     judge_rows(c, points, rows, register, readings, engagements)

@@ -2,7 +2,7 @@
 ghost use mathlib.Core.Path.{_≡_};
 ghost use Prim.Native.Nat.{_+_, _*_, _≤_, _<_};
 ghost use lib.ListN.{length};
-ghost use Rattle.book.specs.Tables.{calendarGood, pairGood, pairsGood};
+ghost use Rattle.book.specs.Tables.{calendarGood, entryGood, tableGood};
 
 pub fn calendar_good(calendar: &[u8]) -> bool
     ensures { λ r. ⌜ r ≡ calendarGood (now (calendar .entry)) ⌝ }
@@ -17,18 +17,18 @@ pub fn calendar_good(calendar: &[u8]) -> bool
     true
 }
 
-fn pair_good(pairs: &[u8], category: usize) -> bool
-    requires { ⌜ 2 * category + 2 ≤ length (now pairs) ⌝ }
-    ensures { λ r. ⌜ r ≡ pairGood (now (pairs .entry)) category ⌝ }
+fn entry_good(table: &[u8], category: usize) -> bool
+    requires { ⌜ 2 * category + 2 ≤ length (now table) ⌝ }
+    ensures { λ r. ⌜ r ≡ entryGood (now (table .entry)) category ⌝ }
 {
-    let x = book::tables::x_of(pairs, category);
-    let y = book::tables::y_of(pairs, category);
+    let x = book::tables::x_of(table, category);
+    let y = book::tables::y_of(table, category);
     ((1 <= x) & (x <= 10)) & ((x <= y) & (y <= 20))
 }
 
-pub fn pairs_good(pairs: &[u8]) -> bool
-    requires { ⌜ 8 ≤ length (now pairs) ⌝ }
-    ensures { λ r. ⌜ r ≡ pairsGood (now (pairs .entry)) ⌝ }
+pub fn table_good(table: &[u8]) -> bool
+    requires { ⌜ 8 ≤ length (now table) ⌝ }
+    ensures { λ r. ⌜ r ≡ tableGood (now (table .entry)) ⌝ }
 {
-    pair_good(pairs, 0) & (pair_good(pairs, 1) & (pair_good(pairs, 2) & pair_good(pairs, 3)))
+    entry_good(table, 0) & (entry_good(table, 1) & (entry_good(table, 2) & entry_good(table, 3)))
 }

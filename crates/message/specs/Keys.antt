@@ -1,4 +1,4 @@
--- Numbers and pairs of numbers as keys.
+-- Numbers, and two directions as numbers, as keys.
 use mathlib.Core.Path.{_≡_, refl}
 use mathlib.Core.Bool.{true, _&&_}
 use Prim.Native.Nat.{ℕ}
@@ -10,16 +10,16 @@ use Rattle.message.specs.Group.{Keys}
 abbrev pub numberKeys : Keys ℕ
 numberKeys = record { same = eqb; alike = eqb-true; itself = λ a. eq-eqb a a refl }
 
-pub pair-alike : (a b : ℕ × ℕ) → (eqb (a .0) (b .0) && eqb (a .1) (b .1)) ≡ true → a ≡ b
-pair-alike a b e =
+pub directions-alike : (a b : ℕ × ℕ) → (eqb (a .0) (b .0) && eqb (a .1) (b .1)) ≡ true → a ≡ b
+directions-alike a b e =
     let x = eqb-true (a .0) (b .0) (and-left (eqb (a .0) (b .0)) (eqb (a .1) (b .1)) e) in
     let y = eqb-true (a .1) (b .1) (and-right (eqb (a .0) (b .0)) (eqb (a .1) (b .1)) e) in
     λ i. (x i, y i)
 
-abbrev pub pairKeys : Keys (ℕ × ℕ)
-pairKeys =
+abbrev pub directionsKeys : Keys (ℕ × ℕ)
+directionsKeys =
     record {
       same = λ a b. eqb (a .0) (b .0) && eqb (a .1) (b .1);
-      alike = pair-alike;
+      alike = directions-alike;
       itself = λ a. and-both (eq-eqb (a .0) (a .0) refl) (eq-eqb (a .1) (a .1) refl);
     }

@@ -8,7 +8,7 @@ use lib.ListN.{length, getD}
 use Rattle.kinds.specs.declared.Kind.{Kind}
 use Rattle.message.specs.Contents.{Observation, TimeSeries, Partner, File}
 use Rattle.message.specs.Valid.{periods, firstOf, IsFile}
-use Rattle.message.specs.Keys.{numberKeys, pairKeys}
+use Rattle.message.specs.Keys.{numberKeys, directionsKeys}
 use Rattle.message.specs.Group.{group, spread}
 
 -- partner, supply and delivery direction, and the observation
@@ -49,13 +49,13 @@ partnerRows p = (p .number, spread (map seriesRows (p .series)))
 unfoldable pub rowsOf : List Partner → List Row
 rowsOf ps = spread (map partnerRows ps)
 
--- ---- the partners of rows: neighbouring rows of one partner, and of one pair of directions, all of the month q
+-- ---- the partners of rows: neighbouring rows of one partner, and of the same directions, all of the month q
 
 abbrev pub seriesOf : ℕ × ℕ → (ℕ × ℕ) × List Observation → TimeSeries
 seriesOf q g = record { supply = g .0 .0; delivery = g .0 .1; year = q .0; month = q .1; observations = g .1 }
 
 abbrev pub partnerOf : ℕ × ℕ → ℕ × List ((ℕ × ℕ) × Observation) → Partner
-partnerOf q g = record { number = g .0; series = map (seriesOf q) (group pairKeys (g .1)) }
+partnerOf q g = record { number = g .0; series = map (seriesOf q) (group directionsKeys (g .1)) }
 
 unfoldable pub partnersOf : ℕ × ℕ → List Row → List Partner
 partnersOf q rows = map (partnerOf q) (group numberKeys rows)

@@ -13,7 +13,7 @@ use Rattle.integers.specs.All.{All}
 use Rattle.kinds.specs.declared.Kind.{Kind}
 use Rattle.message.specs.Contents.{Observation, TimeSeries, Partner, place, number}
 use Rattle.message.specs.Valid.{monthOf, periods, firstOf, IsSeries, IsPartner}
-use Rattle.message.specs.Keys.{numberKeys, pairKeys}
+use Rattle.message.specs.Keys.{numberKeys, directionsKeys}
 use Rattle.message.specs.Group.{group, spread}
 use Rattle.message.specs.Rows.{Row, seriesRows, partnerRows, rowsOf, seriesOf, partnerOf, partnersOf}
 use Rattle.integers.specs.AllLaws.{all-map, all-of, all-left, all-right, map-all}
@@ -29,7 +29,7 @@ map-undo f g (a ∷ l) h = ap₂ _∷_ (h .0) (map-undo f g l (h .1))
 partner-undo : (q : ℕ × ℕ) (g : ℕ × List ((ℕ × ℕ) × Observation)) → partnerRows (partnerOf q g) ≡ g
 partner-undo q g =
     ap (λ (l : List ((ℕ × ℕ) × Observation)). (g .0, l))
-    (ap spread (map-undo (seriesOf q) seriesRows (group pairKeys (g .1)) (all-of _ (λ h. refl) (group pairKeys (g .1)))) ∙ spread-group pairKeys (g .1))
+    (ap spread (map-undo (seriesOf q) seriesRows (group directionsKeys (g .1)) (all-of _ (λ h. refl) (group directionsKeys (g .1)))) ∙ spread-group directionsKeys (g .1))
 
 pub rows-undo : (q : ℕ × ℕ) (rows : List Row) → rowsOf (partnersOf q rows) ≡ rows
 unfolding rowsOf partnersOf
@@ -45,9 +45,9 @@ one-place a b e =
     omega arith
 
 series-undo : (q : ℕ × ℕ) (l : List TimeSeries) → rises 0 (map place l) ≡ true → All IsSeries l → All (λ (s : TimeSeries). monthOf s ≡ q) l
-    → map (seriesOf q) (group pairKeys (spread (map seriesRows l))) ≡ l
+    → map (seriesOf q) (group directionsKeys (spread (map seriesRows l))) ≡ l
 series-undo q l r v m =
-    ap (map (seriesOf q)) (group-spread pairKeys (map seriesRows l) (rising-groups pairKeys seriesRows place one-place 0 l r (all-map (λ s h. h .volume .counted .some) l v)))
+    ap (map (seriesOf q)) (group-spread directionsKeys (map seriesRows l) (rising-groups directionsKeys seriesRows place one-place 0 l r (all-map (λ s h. h .volume .counted .some) l v)))
     ∙ map-undo seriesRows (seriesOf q) l (all-map (λ s e. ap (λ (p : ℕ × ℕ). seriesOf p (seriesRows s)) (sym e)) l m)
 
 -- a partner has rows
@@ -83,5 +83,5 @@ pub first-month : (q : ℕ × ℕ) (x : Row) (rows : List Row) → firstOf (peri
 unfolding partnersOf periods flatMap firstOf
 first-month q x rows =
     let a = first-group numberKeys x rows in
-    let b = first-group pairKeys (x .1) (a .more) in
+    let b = first-group directionsKeys (x .1) (a .more) in
     rw (a .is) (rw (b .is) refl)

@@ -56,7 +56,7 @@ use Rattle.integers.specs.CountsLaws.{times-mem}
 use Rattle.integers.specs.RangesLaws.{length-range}
 use Rattle.message.specs.GroupLaws.{first-group}
 use Rattle.reports.specs.FileRowsInner.{observationsOf, partnerAt}
-use Rattle.writer.specs.RowsInner.{rowAt, Paired}
+use Rattle.writer.specs.RowsInner.{rowAt, Directed}
 
 -- ---- lists
 
@@ -305,11 +305,11 @@ module _ (book : Book) (kind : Kind) (receiver : ℕ) where
 
 -- ---- the writer can lay them
 
-paired-all : (l : List ℕ) (at n : ℕ) → All (λ (r : Row). (r .1 .0 .0 < 2) × (r .1 .0 .1 < 2)) (rowsFrom l at n) → (j : ℕ) → j < n → Paired l (at + 6 * j)
+directed-all : (l : List ℕ) (at n : ℕ) → All (λ (r : Row). (r .1 .0 .0 < 2) × (r .1 .0 .1 < 2)) (rowsFrom l at n) → (j : ℕ) → j < n → Directed l (at + 6 * j)
 unfolding rowsFrom All
-paired-all l at zero h j k = absurd (omega (arith, k))
-paired-all l at (suc n) h zero k = subst (λ (p : ℕ). Paired l p) (omega arith) (record { supply = h .0 .0; delivery = h .0 .1 })
-paired-all l at (suc n) h (suc j) k = subst (λ (p : ℕ). Paired l p) (omega arith) (paired-all l (at + 6) n (h .1) j (omega (arith, k)))
+directed-all l at zero h j k = absurd (omega (arith, k))
+directed-all l at (suc n) h zero k = subst (λ (p : ℕ). Directed l p) (omega arith) (record { supply = h .0 .0; delivery = h .0 .1 })
+directed-all l at (suc n) h (suc j) k = subst (λ (p : ℕ). Directed l p) (omega arith) (directed-all l (at + 6) n (h .1) j (omega (arith, k)))
 
 supply-small : (u : Supply) → supplyNumber u < 2
 unfolding supplyNumber
@@ -342,4 +342,4 @@ module _ (book : Book) (kind : Kind) (receiver partner : ℕ) where
   pub partner-writable : (l : List ℕ) (n year month : ℕ) → 6 * n ≤ length l → rowsFrom l 0 n ≡ partnerRowsOf book kind receiver partner → IsPeriod year month → Writable l 0 n year month
   unfolding partnerRowsBy
   partner-writable l n year month w e p =
-      record { within = omega arith; paired = paired-all l 0 n (subst (All Small) (sym e) (series-small directions)); period = λ h. p }
+      record { within = omega arith; directed = directed-all l 0 n (subst (All Small) (sym e) (series-small directions)); period = λ h. p }

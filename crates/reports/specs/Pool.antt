@@ -27,8 +27,8 @@ header =
 unfoldable pub calendar : List ℕ
 calendar = replicate 30 0
 
-unfoldable pub pairs : List ℕ
-pairs = 2 ∷ 2 ∷ 2 ∷ 2 ∷ 2 ∷ 2 ∷ 2 ∷ 2 ∷ []
+unfoldable pub table : List ℕ
+table = 2 ∷ 2 ∷ 2 ∷ 2 ∷ 2 ∷ 2 ∷ 2 ∷ 2 ∷ []
 
 -- a delivery point, its access point and situation; supplier 3, FSP 7, 5,000 W each way, parties 1 and 2, off-take, method 1
 abbrev pub registerRow : ℕ → ℕ → ℕ → List ℕ
@@ -67,7 +67,7 @@ unfoldable pub engagements : List ℕ
 engagements = engagementRow 0 1 ++ (engagementRow 1 1 ++ engagementRow 2 2)
 
 unfoldable pub pool : List ℕ
-pool = header ++ (calendar ++ (pairs ++ (register ++ (readings ++ engagements))))
+pool = header ++ (calendar ++ (table ++ (register ++ (readings ++ engagements))))
 
 -- what an engagement delivers in its k-th quarter-hour
 abbrev pub volume : ℕ → ℕ → ℕ

@@ -24,8 +24,8 @@ use Rattle.quarters.specs.declared.Calendar.{Calendar}
 use Rattle.book.specs.declared.Supply.the-variants.{OffTake}
 use Rattle.book.specs.declared.Direction.the-variants.{Up}
 use Rattle.quarters.specs.Quarters.{daysOf, quarters, dayStart, quartersOf, position, monthQuarters}
-use Rattle.book.specs.Header.{calendarOf, pointCount, engagementCount, headerGood, headerFields, layoutGood, calendarSection, pairSection, registerSection, readingSection, engagementSection}
-use Rattle.book.specs.Tables.{categoryAt, xAt, yAt, calendarGood, pairsGood}
+use Rattle.book.specs.Header.{calendarOf, pointCount, engagementCount, headerGood, headerFields, layoutGood, calendarSection, tableSection, registerSection, readingSection, engagementSection}
+use Rattle.book.specs.Tables.{categoryAt, xAt, yAt, calendarGood, tableGood}
 use Rattle.book.specs.Register.{pointAt, badPoint, numbersGood, bytesGood}
 use Rattle.book.specs.Metering.{meterAt, readingGood, badReading}
 use Rattle.book.specs.Engagements.{engagementAt, badEngagement, placeGood, termsGood}
@@ -40,7 +40,7 @@ use Rattle.volumes.specs.Sheets.{covers, quarterAt}
 use Rattle.volumes.specs.Series.{Kind, Toe01, Toe02, Toe03, takes, receiverOf, partnerOf, sameSupply, sameDirection, isPoint, isEngagement, grainsOf, grainsAt, seriesWatts, seriesOf}
 use Rattle.reports.specs.Small.{Carries}
 use Rattle.reports.specs.SmallLaws.{no-change, none-first, passes, carries-by, accepted-by}
-use Rattle.reports.specs.Pool.{header, calendar, pairs, register, words, wattAt, readings, engagements, pool, volume, PoolShown}
+use Rattle.reports.specs.Pool.{header, calendar, table, register, words, wattAt, readings, engagements, pool, volume, PoolShown}
 
 -- ---- readings
 
@@ -74,7 +74,7 @@ readings-length = words-length wattAt 0 8640
 -- ---- refusals 1 to 7
 
 pool-length : length pool ≡ 34894
-unfolding pool header calendar pairs register engagements
+unfolding pool header calendar table register engagements
 pool-length = simp (length-append, readings-length)
 
 header-good : headerGood pool ≡ true
@@ -89,16 +89,16 @@ calendar-is : calendarSection pool ≡ calendar
 unfolding pool header calendar
 calendar-is = refl
 
-pairs-is : pairSection pool ≡ pairs
-unfolding pool header calendar pairs
-pairs-is = refl
+table-is : tableSection pool ≡ table
+unfolding pool header calendar table
+table-is = refl
 
 register-is : registerSection pool ≡ register
-unfolding pool header calendar pairs register
+unfolding pool header calendar table register
 register-is = refl
 
 readings-is : readingSection pool ≡ readings
-unfolding pool header calendar pairs register
+unfolding pool header calendar table register
 readings-is = take-at readings engagements 34560 readings-length
 
 all-engagements : take 48 engagements ≡ engagements
@@ -106,7 +106,7 @@ unfolding engagements
 all-engagements = refl
 
 engagements-is : engagementSection pool ≡ engagements
-unfolding pool header calendar pairs register
+unfolding pool header calendar table register
 engagements-is = ap (take 48) (drop-at readings engagements 34560 readings-length) ∙ all-engagements
 
 reading-good : (i : ℕ) → badReading readings i ≡ false
@@ -125,9 +125,9 @@ calendar-good : calendarGood calendar ≡ true
 unfolding calendarGood anyBelow calendar
 calendar-good = refl
 
-pairs-good : pairsGood pairs ≡ true
-unfolding pairsGood pairs
-pairs-good = refl
+table-good : tableGood table ≡ true
+unfolding tableGood table
+table-good = refl
 
 register-good : first (badPoint (daysOf (calendarOf pool)) register) 0 (pointCount pool) ≡ none
 unfolding pool header first badPoint numbersGood bytesGood anyBelow register calendarDays monthLength leap
@@ -143,7 +143,7 @@ engagements-good = refl
 
 pool-passes : refusalOf pool ≡ none
 pool-passes =
-    passes pool calendar pairs register readings engagements header-good layout-good clock-good calendar-is pairs-is register-is readings-is engagements-is calendar-good pairs-good register-good readings-good engagements-good
+    passes pool calendar table register readings engagements header-good layout-good clock-good calendar-is table-is register-is readings-is engagements-is calendar-good table-good register-good readings-good engagements-good
 
 -- ---- the book that it says
 
@@ -155,8 +155,8 @@ poolBook =
     record {
       calendar = month;
       category = categoryAt calendar;
-      x = xAt pairs;
-      y = yAt pairs;
+      x = xAt table;
+      y = yAt table;
       points = map (pointAt register) (range 0 3);
       reading = λ p k. readingOf (toZ w32 (wattAt (2880 * p + k)));
       engagements = map (engagementAt engagements) (range 0 3);
@@ -191,8 +191,8 @@ book-is =
     record {
       calendar = c i;
       category = categoryAt (calendar-is i);
-      x = xAt (pairs-is i);
-      y = yAt (pairs-is i);
+      x = xAt (table-is i);
+      y = yAt (table-is i);
       points = map (pointAt (register-is i)) (range 0 (n i));
       reading = λ p k. meter-is p k i;
       engagements = map (engagementAt (engagements-is i)) (range 0 (m i));
@@ -201,7 +201,7 @@ book-is =
 -- ---- refusals 8 and 9, and the watts
 
 pool-settles : settlementRefusal poolBook ≡ none
-unfolding poolBook month calendar pairs register wattAt engagements settlementRefusal refusalFrom rowRefusal refusalNumber needed neededBy tooFew complete known ownReading dayReading dayReadings dayWindow windowed allowed eligible before keep eligibleDays pointOf start referenceQuarter reference quarterHours dayStart calendarDays monthLength leap range readingOf
+unfolding poolBook month calendar table register wattAt engagements settlementRefusal refusalFrom rowRefusal refusalNumber needed neededBy tooFew complete known ownReading dayReading dayReadings dayWindow windowed allowed eligible before keep eligibleDays pointOf start referenceQuarter reference quarterHours dayStart calendarDays monthLength leap range readingOf
 pool-settles = refl
 
 pool-refusal : bookRefusal pool ≡ none
@@ -213,12 +213,12 @@ unfolding bookOf monthQuarters pool header dayStart calendarDays monthLength lea
 month-long = omega arith
 
 half-watts : (delivered poolBook (engagementAt engagements 0) 0 ≡ 15120) × (delivered poolBook (engagementAt engagements 1) 0 ≡ 15120) × (delivered poolBook (engagementAt engagements 2) 0 ≡ 15120) × (delivered poolBook (engagementAt engagements 2) 1 ≡ 15120)
-unfolding poolBook month calendar pairs register wattAt engagements insert ranked mean watts complete known ownReading dayReading dayReadings dayWindow windowed allowed eligible before keep eligibleDays latest daySum taken high baselineBy baseline limited deliveredBy delivered pointOf start referenceQuarter reference quarterHours dayStart calendarDays monthLength leap range readingOf sumBy
+unfolding poolBook month calendar table register wattAt engagements insert ranked mean watts complete known ownReading dayReading dayReadings dayWindow windowed allowed eligible before keep eligibleDays latest daySum taken high baselineBy baseline limited deliveredBy delivered pointOf start referenceQuarter reference quarterHours dayStart calendarDays monthLength leap range readingOf sumBy
 half-watts = (refl, refl, refl, refl)
 
 -- a series' watts at the first position, and at the second
 watts-are : (seriesWatts poolBook Toe01 7 (seriesOf 3 OffTake Up) 1 ≡ 1) × (seriesWatts poolBook Toe02 3 (seriesOf 7 OffTake Up) 1 ≡ 1) × (seriesWatts poolBook Toe03 3 (seriesOf 13 OffTake Up) 1 ≡ 0) × (seriesWatts poolBook Toe03 3 (seriesOf 13 OffTake Up) 2 ≡ 1)
-unfolding poolBook month calendar pairs register wattAt engagements insert ranked mean watts complete known ownReading dayReading dayReadings dayWindow windowed allowed eligible before keep eligibleDays latest daySum taken high baselineBy baseline limited deliveredBy delivered pointOf start referenceQuarter reference quarterHours dayStart calendarDays monthLength leap range readingOf sumBy seriesWatts floorAt upTo grainsAt grainsOf isEngagement isPoint takes receiverOf partnerOf sameSupply sameDirection covers quarterAt position
+unfolding poolBook month calendar table register wattAt engagements insert ranked mean watts complete known ownReading dayReading dayReadings dayWindow windowed allowed eligible before keep eligibleDays latest daySum taken high baselineBy baseline limited deliveredBy delivered pointOf start referenceQuarter reference quarterHours dayStart calendarDays monthLength leap range readingOf sumBy seriesWatts floorAt upTo grainsAt grainsOf isEngagement isPoint takes receiverOf partnerOf sameSupply sameDirection covers quarterAt position
 watts-are = (refl, refl, refl, refl)
 
 delivers : (i k : ℕ) → delivered poolBook (engagementAt engagements i) k ≡ 15120 → volume i k ≡ 15120

@@ -26,8 +26,8 @@ header =
 unfoldable pub calendar : List ℕ
 calendar = replicate 29 0
 
-unfoldable pub pairs : List ℕ
-pairs = 1 ∷ 1 ∷ 1 ∷ 1 ∷ 1 ∷ 1 ∷ 1 ∷ 1 ∷ []
+unfoldable pub table : List ℕ
+table = 1 ∷ 1 ∷ 1 ∷ 1 ∷ 1 ∷ 1 ∷ 1 ∷ 1 ∷ []
 
 -- delivery point 1, access point 2, supplier 3, FSP 7, 5,000 W each way, parties 1 and 2, transfer, off-take, method 0
 unfoldable pub register : List ℕ
@@ -51,7 +51,7 @@ unfoldable pub engagements : List ℕ
 engagements = 0 ∷ 0 ∷ 1 ∷ 0 ∷ 1 ∷ 0 ∷ 95 ∷ 0 ∷ 232 ∷ 3 ∷ 0 ∷ 0 ∷ 0 ∷ 0 ∷ 0 ∷ 0 ∷ []
 
 unfoldable pub small : List ℕ
-small = header ++ (calendar ++ (pairs ++ (register ++ (readings ++ engagements))))
+small = header ++ (calendar ++ (table ++ (register ++ (readings ++ engagements))))
 
 -- a receiver's file, as defined and as any call wrote it, carries so many watts for a partner: off-take, up, at a position
 pub record Carries (bytes : List ℕ) (kind : Kind) (receiver partner p watts : ℕ) : Type 0 where

@@ -22,8 +22,8 @@ use Rattle.calendar.specs.DatesLaws.{has-clock-change, last-sunday-is}
 use Rattle.book.specs.declared.Supply.the-variants.{OffTake}
 use Rattle.book.specs.declared.Direction.the-variants.{Up}
 use Rattle.quarters.specs.Quarters.{daysOf, quarters, dayStart, quartersOf, position, monthQuarters}
-use Rattle.book.specs.Header.{calendarOf, pointCount, engagementCount, headerGood, headerFields, layoutGood, calendarSection, pairSection, registerSection, readingSection, engagementSection}
-use Rattle.book.specs.Tables.{categoryAt, xAt, yAt, calendarGood, pairsGood}
+use Rattle.book.specs.Header.{calendarOf, pointCount, engagementCount, headerGood, headerFields, layoutGood, calendarSection, tableSection, registerSection, readingSection, engagementSection}
+use Rattle.book.specs.Tables.{categoryAt, xAt, yAt, calendarGood, tableGood}
 use Rattle.book.specs.Register.{pointAt, badPoint, numbersGood, bytesGood}
 use Rattle.book.specs.Metering.{meterAt, readingGood, badReading, firstBadReading}
 use Rattle.book.specs.Engagements.{engagementAt, badEngagement, placeGood, termsGood}
@@ -41,10 +41,10 @@ use Rattle.reports.specs.FileRows.{supplyNumber, deliveryNumber, fileRow
 use Rattle.reports.specs.Watts.{wattsIn}
 use Rattle.reports.specs.CarryLaws.{carries}
 use Rattle.reports.specs.Demand3Laws.{carried-is}
-use Rattle.reports.specs.Small.{header, calendar, pairs, register, readings, engagements, small, Carries, SmallShown}
+use Rattle.reports.specs.Small.{header, calendar, table, register, readings, engagements, small, Carries, SmallShown}
 
 small-length : length small ≡ 11309
-unfolding small header calendar pairs register readings engagements
+unfolding small header calendar table register readings engagements
 small-length = simp length-append
 
 header-good : headerGood small ≡ true
@@ -65,16 +65,16 @@ calendar-is : calendarSection small ≡ calendar
 unfolding small header calendar
 calendar-is = refl
 
-pairs-is : pairSection small ≡ pairs
-unfolding small header calendar pairs
-pairs-is = refl
+table-is : tableSection small ≡ table
+unfolding small header calendar table
+table-is = refl
 
 register-is : registerSection small ≡ register
-unfolding small header calendar pairs register
+unfolding small header calendar table register
 register-is = refl
 
 readings-is : readingSection small ≡ readings
-unfolding small header calendar pairs register
+unfolding small header calendar table register
 readings-is = take-at readings engagements 11136 readings-length
 
 sixteen : take 16 engagements ≡ engagements
@@ -82,7 +82,7 @@ unfolding engagements
 sixteen = refl
 
 engagements-is : engagementSection small ≡ engagements
-unfolding small header calendar pairs register
+unfolding small header calendar table register
 engagements-is = ap (take 16) (drop-at readings engagements 11136 readings-length) ∙ sixteen
 
 -- ---- refusals 1 to 7
@@ -127,15 +127,15 @@ reading-good (suc j) h =
     ap (λ n. not (readingGood (readingOf (toZ w32 n)))) z
 
 -- a book passes whose header, layout and sections do
-pub passes : (b calendar pairs register readings engagements : List ℕ) → headerGood b ≡ true → layoutGood b ≡ true → clockChangeIn (calendarOf b) ≡ false
-    → calendarSection b ≡ calendar → pairSection b ≡ pairs → registerSection b ≡ register → readingSection b ≡ readings → engagementSection b ≡ engagements
-    → calendarGood calendar ≡ true → pairsGood pairs ≡ true
+pub passes : (b calendar table register readings engagements : List ℕ) → headerGood b ≡ true → layoutGood b ≡ true → clockChangeIn (calendarOf b) ≡ false
+    → calendarSection b ≡ calendar → tableSection b ≡ table → registerSection b ≡ register → readingSection b ≡ readings → engagementSection b ≡ engagements
+    → calendarGood calendar ≡ true → tableGood table ≡ true
     → first (badPoint (daysOf (calendarOf b)) register) 0 (pointCount b) ≡ none
     → first (badReading readings) 0 (quartersOf (calendarOf b) * pointCount b) ≡ none
     → first (badEngagement (calendarOf b) (pointCount b) engagements) 0 (engagementCount b) ≡ none
     → refusalOf b ≡ none
 unfolding refusalOf sectionsRefusal rowsRefusal firstBadReading
-passes b calendar pairs register readings engagements h l n c p r m e cg pg rg mg eg = rw (h, l, n, c, p, r, m, e, cg, pg, rg, mg, eg)
+passes b calendar table register readings engagements h l n c p r m e cg pg rg mg eg = rw (h, l, n, c, p, r, m, e, cg, pg, rg, mg, eg)
 
 clock-good : clockChangeIn (calendarOf small) ≡ false
 unfolding small header
@@ -145,9 +145,9 @@ calendar-good : calendarGood calendar ≡ true
 unfolding calendarGood anyBelow calendar
 calendar-good = refl
 
-pairs-good : pairsGood pairs ≡ true
-unfolding pairsGood pairs
-pairs-good = refl
+table-good : tableGood table ≡ true
+unfolding tableGood table
+table-good = refl
 
 register-good : first (badPoint (daysOf (calendarOf small)) register) 0 (pointCount small) ≡ none
 unfolding small header first badPoint numbersGood bytesGood anyBelow register calendarDays monthLength leap
@@ -163,7 +163,7 @@ engagements-good = refl
 
 small-passes : refusalOf small ≡ none
 small-passes =
-    passes small calendar pairs register readings engagements header-good layout-good clock-good calendar-is pairs-is register-is readings-is engagements-is calendar-good pairs-good register-good readings-good engagements-good
+    passes small calendar table register readings engagements header-good layout-good clock-good calendar-is table-is register-is readings-is engagements-is calendar-good table-good register-good readings-good engagements-good
 
 -- ---- the book that it says
 
@@ -172,8 +172,8 @@ smallBook =
     record {
       calendar = record { year = 2021; month = 2; lead = 1 };
       category = categoryAt calendar;
-      x = xAt pairs;
-      y = yAt pairs;
+      x = xAt table;
+      y = yAt table;
       points = map (pointAt register) (range 0 1);
       reading = meterAt (record { year = 2021; month = 2; lead = 1 }) readings;
       engagements = map (engagementAt engagements) (range 0 1);
@@ -197,8 +197,8 @@ book-is =
     record {
       calendar = c i;
       category = categoryAt (calendar-is i);
-      x = xAt (pairs-is i);
-      y = yAt (pairs-is i);
+      x = xAt (table-is i);
+      y = yAt (table-is i);
       points = map (pointAt (register-is i)) (range 0 (n i));
       reading = meterAt (c i) (readings-is i);
       engagements = map (engagementAt (engagements-is i)) (range 0 (k i));
@@ -207,11 +207,11 @@ book-is =
 -- ---- refusals 8 and 9, and the watts
 
 small-settles : settlementRefusal smallBook ≡ none
-unfolding smallBook calendar pairs register readings engagements settlementRefusal refusalFrom rowRefusal refusalNumber needed neededBy tooFew complete known ownReading lastReading readingBefore pointOf start quarterHours dayStart calendarDays monthLength leap range readingOf
+unfolding smallBook calendar table register readings engagements settlementRefusal refusalFrom rowRefusal refusalNumber needed neededBy tooFew complete known ownReading lastReading readingBefore pointOf start quarterHours dayStart calendarDays monthLength leap range readingOf
 small-settles = refl
 
 small-watts : seriesWatts smallBook Toe01 7 (seriesOf 3 OffTake Up) 1 ≡ 1000
-unfolding smallBook calendar pairs register readings engagements seriesWatts floorAt upTo grainsAt grainsOf isEngagement isPoint takes receiverOf partnerOf sameSupply sameDirection sumBy covers quarterAt position delivered deliveredBy limited baseline baselineBy watts ownReading lastReading readingBefore pointOf start quarterHours dayStart calendarDays monthLength leap range readingOf
+unfolding smallBook calendar table register readings engagements seriesWatts floorAt upTo grainsAt grainsOf isEngagement isPoint takes receiverOf partnerOf sameSupply sameDirection sumBy covers quarterAt position delivered deliveredBy limited baseline baselineBy watts ownReading lastReading readingBefore pointOf start quarterHours dayStart calendarDays monthLength leap range readingOf
 small-watts = refl
 
 small-refusal : bookRefusal small ≡ none

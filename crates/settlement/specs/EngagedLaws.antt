@@ -12,7 +12,7 @@ use borrow.Author.Tests.{ltb-true, ltb-false}
 use Rattle.quarters.specs.declared.Calendar.{Calendar}
 use Rattle.book.specs.declared.Engagement.{Engagement}
 use Rattle.quarters.specs.Quarters.{quartersOf}
-use Rattle.book.specs.Header.{calendarOf, pointCount, sectionOf, calendarSection, pairSection, registerSection, readingSection}
+use Rattle.book.specs.Header.{calendarOf, pointCount, sectionOf, calendarSection, tableSection, registerSection, readingSection}
 use Rattle.book.specs.HeaderLaws.{headed}
 use Rattle.book.specs.Tables.{categoryAt, xAt, yAt}
 use Rattle.book.specs.Register.{pointAt}
@@ -20,7 +20,7 @@ use Rattle.book.specs.Engagements.{engagementAt}
 use Rattle.book.specs.Book.{Book}
 use Rattle.volumes.specs.Baseline.{pointOf, noPoint, xOf, yOf}
 use Rattle.volumes.specs.Settlement.{refusalNumber, rowRefusal}
-use Rattle.volumes.specs.SoundInner.{Paired, Placed}
+use Rattle.volumes.specs.SoundInner.{XOfY, Placed}
 use Rattle.volumes.specs.SoundLaws.{passes}
 use Rattle.volumes.specs.SettlementLaws.{refusalAt, refusal-next, refusal-end}
 use Rattle.baseline.specs.ShownInner.{Shows, Fits}
@@ -29,12 +29,12 @@ use Rattle.settlement.specs.SectionsLaws.{all-held}
 use Rattle.integers.specs.RangesLaws.{length-range, getD-made, getD-mem}
 
 -- a calendar and sections that show engagement e of a book: all that judging and settling it ask
-pub record Engaged (c : Calendar) (calendar pairs register readings : List ℕ) (e : Engagement) (book : Book) : Type 0 where
+pub record Engaged (c : Calendar) (calendar table register readings : List ℕ) (e : Engagement) (book : Book) : Type 0 where
   pub registered : 64 * e .point + 64 ≤ length register
-  pub category : 2 * categoryAt calendar (e .day) + 2 ≤ length pairs
-  pub paired : Paired (xAt pairs (categoryAt calendar (e .day))) (yAt pairs (categoryAt calendar (e .day)))
-  pub x : xOf book e ≡ xAt pairs (categoryAt calendar (e .day))
-  pub y : yOf book e ≡ yAt pairs (categoryAt calendar (e .day))
+  pub category : 2 * categoryAt calendar (e .day) + 2 ≤ length table
+  pub x-of-y : XOfY (xAt table (categoryAt calendar (e .day))) (yAt table (categoryAt calendar (e .day)))
+  pub x : xOf book e ≡ xAt table (categoryAt calendar (e .day))
+  pub y : yOf book e ≡ yAt table (categoryAt calendar (e .day))
   pub fits : Fits c calendar readings e
   pub shows : Shows c calendar readings (pointAt register (e .point)) e book
 
@@ -56,20 +56,20 @@ module _ {bytes engagements : List ℕ} (s : Opened bytes engagements) where
   unfolding bookWith pointOf
   owner e h = getD-made (pointAt (registerSection bytes)) (pointCount bytes) (e .point) noPoint h
 
-  pairs-of : (d : ℕ) → Paired (xAt (pairSection bytes) (categoryAt (calendarSection bytes) d)) (yAt (pairSection bytes) (categoryAt (calendarSection bytes) d))
+  table-of : (d : ℕ) → XOfY (xAt (tableSection bytes) (categoryAt (calendarSection bytes) d)) (yAt (tableSection bytes) (categoryAt (calendarSection bytes) d))
   unfolding bookWith
-  pairs-of d = s .sound .pairs d
+  table-of d = s .sound .table d
 
   -- X is 1 or more, so it stands in the section
-  category-in : (d : ℕ) → 2 * categoryAt (calendarSection bytes) d + 2 ≤ length (pairSection bytes)
-  category-in d = go (ltb (2 * categoryAt (calendarSection bytes) d) (length pairs)) refl
+  category-in : (d : ℕ) → 2 * categoryAt (calendarSection bytes) d + 2 ≤ length (tableSection bytes)
+  category-in d = go (ltb (2 * categoryAt (calendarSection bytes) d) (length table)) refl
     where
-      pairs : List ℕ
-      pairs = pairSection bytes
+      table : List ℕ
+      table = tableSection bytes
 
-      go : (t : Bool) → ltb (2 * categoryAt (calendarSection bytes) d) (length pairs) ≡ t → 2 * categoryAt (calendarSection bytes) d + 2 ≤ length pairs
-      go true p = omega (arith, all-held bytes (s .passed) .pairs .size, ltb-true (2 * categoryAt (calendarSection bytes) d) (length pairs) p)
-      go false p = absurd (omega (arith, pairs-of d .one, List·getD-eq-default pairs 0 (ltb-false (2 * categoryAt (calendarSection bytes) d) (length pairs) p)))
+      go : (t : Bool) → ltb (2 * categoryAt (calendarSection bytes) d) (length table) ≡ t → 2 * categoryAt (calendarSection bytes) d + 2 ≤ length table
+      go true p = omega (arith, all-held bytes (s .passed) .table .size, ltb-true (2 * categoryAt (calendarSection bytes) d) (length table) p)
+      go false p = absurd (omega (arith, table-of d .one, List·getD-eq-default table 0 (ltb-false (2 * categoryAt (calendarSection bytes) d) (length table) p)))
 
   pub member : (i : ℕ) → i < engagementCountIn engagements → List·Memᴰ (engagementAt engagements i) (bookWith bytes engagements .engagements)
   member i h = let d = engagementAt engagements 0 in
@@ -85,7 +85,7 @@ module _ {bytes engagements : List ℕ} (s : Opened bytes engagements) where
       omega (arith, all-held bytes (s .passed) .readings .size, mul-le-mul-left {m = suc p} {n = pointCount bytes} (4 * q) (omega arith), mul-assoc 4 q (suc p), mul-suc q p)
 
   pub engaged : (i : ℕ) → i < engagementCountIn engagements
-      → Engaged (calendarOf bytes) (calendarSection bytes) (pairSection bytes) (registerSection bytes) (readingSection bytes) (engagementAt engagements i) (bookWith bytes engagements)
+      → Engaged (calendarOf bytes) (calendarSection bytes) (tableSection bytes) (registerSection bytes) (readingSection bytes) (engagementAt engagements i) (bookWith bytes engagements)
   unfolding bookWith
   engaged i h =
       let e = engagementAt engagements i in
@@ -94,7 +94,7 @@ module _ {bytes engagements : List ℕ} (s : Opened bytes engagements) where
       record {
         registered = omega (arith, at .point, held .register .size);
         category = category-in (e .day);
-        paired = pairs-of (e .day);
+        x-of-y = table-of (e .day);
         x = refl;
         y = refl;
         fits =
@@ -112,10 +112,10 @@ module _ {bytes engagements : List ℕ} (s : Opened bytes engagements) where
       }
 
   -- the same of sections that were cut and an engagement that was read
-  pub engaged-as : (i : ℕ) {c : Calendar} {calendar pairs register readings : List ℕ} {e : Engagement} → i < engagementCountIn engagements
-      → c ≡ calendarOf bytes → calendar ≡ sectionOf bytes 0 → pairs ≡ sectionOf bytes 1 → register ≡ sectionOf bytes 2 → readings ≡ sectionOf bytes 3 → e ≡ engagementAt engagements i
-      → Engaged c calendar pairs register readings e (bookWith bytes engagements)
-  engaged-as i h c calendar pairs register readings e = rw (c, calendar, pairs, register, readings, e) (engaged i h)
+  pub engaged-as : (i : ℕ) {c : Calendar} {calendar table register readings : List ℕ} {e : Engagement} → i < engagementCountIn engagements
+      → c ≡ calendarOf bytes → calendar ≡ sectionOf bytes 0 → table ≡ sectionOf bytes 1 → register ≡ sectionOf bytes 2 → readings ≡ sectionOf bytes 3 → e ≡ engagementAt engagements i
+      → Engaged c calendar table register readings e (bookWith bytes engagements)
+  engaged-as i h c calendar table register readings e = rw (c, calendar, table, register, readings, e) (engaged i h)
 
   -- the refusals from row i on: that of row i, or of those after it
   pub refusal-row : (i : ℕ) → i < engagementCountIn engagements → refusalAt (bookWith bytes engagements) i ≡ rowRefusal i (refusalNumber (bookWith bytes engagements) (engagementAt engagements i)) (refusalAt (bookWith bytes engagements) (i + 1))

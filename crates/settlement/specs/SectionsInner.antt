@@ -7,7 +7,7 @@ use lib.ListN.{length}
 use Rattle.integers.specs.Ranges.{range}
 use Rattle.integers.specs.Sums.{sumOf}
 use Rattle.book.specs.declared.Engagement.{Engagement}
-use Rattle.book.specs.Header.{calendarOf, pointCount, pointWidth, engagementWidth, calendarSection, pairSection, registerSection, readingSection}
+use Rattle.book.specs.Header.{calendarOf, pointCount, pointWidth, engagementWidth, calendarSection, tableSection, registerSection, readingSection}
 use Rattle.book.specs.Tables.{categoryAt, xAt, yAt}
 use Rattle.book.specs.Register.{pointAt}
 use Rattle.book.specs.Metering.{meterAt}
@@ -36,8 +36,8 @@ bookWith bytes engagements =
     record {
       calendar = calendarOf bytes;
       category = categoryAt (calendarSection bytes);
-      x = xAt (pairSection bytes);
-      y = yAt (pairSection bytes);
+      x = xAt (tableSection bytes);
+      y = yAt (tableSection bytes);
       points = map (pointAt (registerSection bytes)) (range 0 (pointCount bytes));
       reading = meterAt (calendarOf bytes) (readingSection bytes);
       engagements = engagementsIn engagements;

@@ -31,7 +31,7 @@ section-inside bytes e k h = at k h
 
     at : (k : ℕ) → k ≤ 4 → offsetOf bytes k + lengthOf bytes k ≤ length bytes
     at zero h = l .calendar .inside
-    at (suc zero) h = l .pairs .inside
+    at (suc zero) h = l .table .inside
     at (suc (suc zero)) h = l .register .inside
     at (suc (suc (suc zero))) h = l .readings .inside
     at (suc (suc (suc (suc zero)))) h = l .engagements .inside

@@ -31,7 +31,7 @@ pub rows-all : (bytes engagements : List ℕ) (i : ℕ) → engagementCountIn en
 unfolding rows bookWith
 rows-all bytes engagements i h = parts-all (rowsOf (bookWith bytes engagements)) engagements i h
 
-module _ {c : Calendar} {calendar pairs register readings : List ℕ} {x y : ℕ} {e : Engagement} {point : Point} {book : Book} (g : Engaged c calendar pairs register readings e book) (good : refusalNumber book e ≡ none) (p : point ≡ pointAt register (e .point)) (h : x ≡ xAt pairs (categoryAt calendar (e .day))) (k : y ≡ yAt pairs (categoryAt calendar (e .day))) where
+module _ {c : Calendar} {calendar table register readings : List ℕ} {x y : ℕ} {e : Engagement} {point : Point} {book : Book} (g : Engaged c calendar table register readings e book) (good : refusalNumber book e ≡ none) (p : point ≡ pointAt register (e .point)) (h : x ≡ xAt table (categoryAt calendar (e .day))) (k : y ≡ yAt table (categoryAt calendar (e .day))) where
   -- what settling an engagement asks, of one that is not refused
   pub settled : Unrefused c calendar readings point e x y book
   settled = record { shows = rw p (g .shows); good = good; takes = h ∙ sym (g .x); wants = k ∙ sym (g .y) }
@@ -42,8 +42,8 @@ module _ {c : Calendar} {calendar pairs register readings : List ℕ} {x y : ℕ
         fits = g .fits;
         book = book;
         settled = settled;
-        some = omega (arith, g .paired .one);
-        few = omega (arith, g .paired .ten);
-        within = omega (arith, g .paired .order);
-        most = omega (arith, g .paired .twenty);
+        some = omega (arith, g .x-of-y .one);
+        few = omega (arith, g .x-of-y .ten);
+        within = omega (arith, g .x-of-y .order);
+        most = omega (arith, g .x-of-y .twenty);
       }

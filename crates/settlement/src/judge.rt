@@ -40,13 +40,13 @@ fn judge_engagement_at(c: Calendar, book: &[u8], engagements: &[u8], i: usize) -
     ensures { λ r. ⌜ numberOf r ≡ refusalNumber (bookWith (now (book .entry)) (now (engagements .entry))) (engagementAt (now (engagements .entry)) i) ⌝ }
 {
     let calendar = crate::sections::section(book, 0);
-    let pairs = crate::sections::section(book, 1);
+    let table = crate::sections::section(book, 1);
     let register = crate::sections::section(book, 2);
     let readings = crate::sections::section(book, 3);
     let e = book::engagements::engagement_at(engagements, i);
     let point = book::register::point_at(register, e.point as usize);
     let category = book::tables::category(calendar, e.day as usize);
-    let y = book::tables::y_of(pairs, category as usize);
+    let y = book::tables::y_of(table, category as usize);
     baseline::judge::judge_engagement(c, calendar, readings, point, e, y as usize)
 }
 

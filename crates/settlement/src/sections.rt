@@ -5,7 +5,7 @@ ghost use Prim.Native.Nat.{_≤_};
 ghost use Rattle.book.specs.Header.{sectionOf};
 ghost use Rattle.book.specs.Judged.{refusalOf};
 
-// The section that pair k names, of a book that passes refusals 1 to 7.
+// The section that extent k names, of a book that passes refusals 1 to 7.
 pub fn section(book: &[u8], k: usize) -> &[u8]
     requires { ⌜ (refusalOf (now book) ≡ none) × (k ≤ 4) ⌝ }
     ensures { λ r. ⌜ now r ≡ sectionOf (now (book .entry)) k ⌝ }

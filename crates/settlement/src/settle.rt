@@ -58,14 +58,14 @@ pub fn settle_engagement_at(
     ensures { λ r. ⌜ (r ≡ at + rowWidth * engagementAt (now (engagements .entry)) i .count) × (now (out .exit) ≡ sets (now (out .entry)) at (rowsOf (bookWith (now (book .entry)) (now (engagements .entry))) (engagementAt (now (engagements .entry)) i))) ⌝ }
 {
     let calendar = crate::sections::section(book, 0);
-    let pairs = crate::sections::section(book, 1);
+    let table = crate::sections::section(book, 1);
     let register = crate::sections::section(book, 2);
     let readings = crate::sections::section(book, 3);
     let e = book::engagements::engagement_at(engagements, i);
     let point = book::register::point_at(register, e.point as usize);
     let category = book::tables::category(calendar, e.day as usize) as usize;
-    let x = book::tables::x_of(pairs, category) as usize;
-    let y = book::tables::y_of(pairs, category) as usize;
+    let x = book::tables::x_of(table, category) as usize;
+    let y = book::tables::y_of(table, category) as usize;
     crate::fill::settle_engagement(c, calendar, readings, point, e, x, y, out, at);
     at + ROW_WIDTH * (e.count as usize)
 }

@@ -15,9 +15,9 @@ use Rattle.quarters.specs.declared.Calendar.{Calendar}
 use Rattle.book.specs.declared.Engagement.{Engagement}
 use Rattle.quarters.specs.Quarters.{daysOf, quartersOf, monthQuarters}
 use Rattle.refusals.specs.Refusals.{Refusal, refused, unless, unlessFound, orElse, short}
-use Rattle.book.specs.Header.{calendarOf, pointCount, engagementCount, headerGood, layoutGood, calendarSection, pairSection, registerSection, readingSection, engagementSection}
+use Rattle.book.specs.Header.{calendarOf, pointCount, engagementCount, headerGood, layoutGood, calendarSection, tableSection, registerSection, readingSection, engagementSection}
 use Rattle.book.specs.HeaderLaws.{headed}
-use Rattle.book.specs.Tables.{calendarGood, pairsGood}
+use Rattle.book.specs.Tables.{calendarGood, tableGood}
 use Rattle.book.specs.Register.{badPoint}
 use Rattle.book.specs.Metering.{badReading, pointOfReading, firstBadReading}
 use Rattle.book.specs.Engagements.{badEngagement, engagementAt}
@@ -168,7 +168,7 @@ bytes-small bytes =
     small-unless (headerGood bytes) 1 _ (omega arith) (λ e.
     small-unless (layoutGood bytes) 2 _ (omega arith) (λ f.
     small-unless (not (clockChangeIn (calendarOf bytes))) 3 _ (omega arith) (λ g.
-    small-unless (calendarGood (calendarSection bytes) && pairsGood (pairSection bytes)) 4 _ (omega arith) (λ k.
+    small-unless (calendarGood (calendarSection bytes) && tableGood (tableSection bytes)) 4 _ (omega arith) (λ k.
     rows-small (calendarOf bytes) (pointCount bytes) (engagementCount bytes) (registerSection bytes) (readingSection bytes) (engagementSection bytes) (headed bytes e .points) (headed bytes e .rows)))))
 
 -- ---- 8 and 9

@@ -18,7 +18,7 @@ pub record Bounded (n : ℕ) (z : ℤ) : Type 0 where
   pub below : dn z ≤ n
 
 -- "X 1 to 10, Y from X to 20"
-pub record Paired (x y : ℕ) : Type 0 where
+pub record XOfY (x y : ℕ) : Type 0 where
   pub one : 1 ≤ x
   pub ten : x ≤ 10
   pub order : x ≤ y
@@ -46,7 +46,7 @@ pub record OnTerms (e : Engagement) : Type 0 where
 -- a reading that is missing, or that there is none of, counts as 0 watts here
 pub record Sound (book : Book) : Type 0 where
   pub ranged : Ranged (book .calendar)
-  pub pairs : (d : ℕ) → Paired (book .x (book .category d)) (book .y (book .category d))
+  pub table : (d : ℕ) → XOfY (book .x (book .category d)) (book .y (book .category d))
   pub points : (point : Point) → List·Memᴰ point (book .points) → Limited point
   pub readings : (p q : ℕ) → Bounded (10 ^ 9) (watts (book .reading p q))
   pub engagements : (e : Engagement) → List·Memᴰ e (book .engagements) → Placed (book .calendar) (length (book .points)) e

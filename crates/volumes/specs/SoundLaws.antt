@@ -21,9 +21,9 @@ use Rattle.wire.specs.Readings.{readingAt, readingOf}
 use Rattle.wire.specs.declared.Reading.{Reading}
 use Rattle.wire.specs.declared.Reading.the-variants.{Watts, Missing}
 use Rattle.quarters.specs.Quarters.{daysOf, quarters, quartersOf}
-use Rattle.book.specs.Header.{calendarOf, pointCount, engagementCount, between, headerGood, layoutGood, lengthOf, offsetOf, pointWidth, engagementWidth, calendarSection, pairSection, registerSection, readingSection, engagementSection}
+use Rattle.book.specs.Header.{calendarOf, pointCount, engagementCount, between, headerGood, layoutGood, lengthOf, offsetOf, pointWidth, engagementWidth, calendarSection, tableSection, registerSection, readingSection, engagementSection}
 use Rattle.book.specs.HeaderLaws.{headed, adjoins}
-use Rattle.book.specs.Tables.{categoryAt, xAt, yAt, badDay, calendarGood, pairGood, pairsGood}
+use Rattle.book.specs.Tables.{categoryAt, xAt, yAt, badDay, calendarGood, entryGood, tableGood}
 use Rattle.book.specs.Register.{pointAt, registerRow, deliveryIn, accessIn, supplierIn, fspIn, maskIn, upwardIn, downwardIn, numbersGood, bytesGood, notAbove, differs, badPoint}
 use Rattle.book.specs.Metering.{readingGood, badReading, pointOfReading, firstBadReading}
 use Rattle.quarters.specs.declared.Calendar.{Calendar}
@@ -35,7 +35,7 @@ use Rattle.book.specs.Book.{bookOf}
 use Rattle.book.specs.declared.Point.{Point}
 use Rattle.book.specs.declared.Engagement.{Engagement}
 use Rattle.volumes.specs.Baseline.{watts}
-use Rattle.volumes.specs.SoundInner.{Bounded, Paired, Limited, Placed, OnTerms, Sound}
+use Rattle.volumes.specs.SoundInner.{Bounded, XOfY, Limited, Placed, OnTerms, Sound}
 use Rattle.integers.specs.FirstLaws.{any-of}
 use Rattle.integers.specs.RangesLaws.{length-range}
 
@@ -94,26 +94,26 @@ found-none quarters none e = refl
 found-none quarters (some i) e = let z : _≡_ {A = ℕ} 0 1 = cc in absurd (omega arith)
 
 -- X and Y of a category
-paired : (pairs : List ℕ) (c : ℕ) → pairGood pairs c ≡ true → Paired (xAt pairs c) (yAt pairs c)
-paired pairs c e =
-    let h = both (between 1 10 (xAt pairs c)) (between (xAt pairs c) 20 (yAt pairs c)) e in
-    let x = both (leb 1 (xAt pairs c)) (leb (xAt pairs c) 10) (h .0) in
-    let y = both (leb (xAt pairs c) (yAt pairs c)) (leb (yAt pairs c) 20) (h .1) in
+x-of-y : (table : List ℕ) (c : ℕ) → entryGood table c ≡ true → XOfY (xAt table c) (yAt table c)
+x-of-y table c e =
+    let h = both (between 1 10 (xAt table c)) (between (xAt table c) 20 (yAt table c)) e in
+    let x = both (leb 1 (xAt table c)) (leb (xAt table c) 10) (h .0) in
+    let y = both (leb (xAt table c) (yAt table c)) (leb (yAt table c) 20) (h .1) in
     record { one = leb-true _ _ (x .0); ten = leb-true _ _ (x .1); order = leb-true _ _ (y .0); twenty = leb-true _ _ (y .1) }
 
-all-paired : (pairs : List ℕ) → pairsGood pairs ≡ true → (c : ℕ) → c ≤ 3 → Paired (xAt pairs c) (yAt pairs c)
-unfolding pairsGood
-all-paired pairs e c h =
-    let f = both (pairGood pairs 0) (pairGood pairs 1 && (pairGood pairs 2 && pairGood pairs 3)) e in
-    let g = both (pairGood pairs 1) (pairGood pairs 2 && pairGood pairs 3) (f .1) in
-    let k = both (pairGood pairs 2) (pairGood pairs 3) (g .1) in
+all-x-of-y : (table : List ℕ) → tableGood table ≡ true → (c : ℕ) → c ≤ 3 → XOfY (xAt table c) (yAt table c)
+unfolding tableGood
+all-x-of-y table e c h =
+    let f = both (entryGood table 0) (entryGood table 1 && (entryGood table 2 && entryGood table 3)) e in
+    let g = both (entryGood table 1) (entryGood table 2 && entryGood table 3) (f .1) in
+    let k = both (entryGood table 2) (entryGood table 3) (g .1) in
     at c h (f .0) (g .0) (k .0) (k .1)
   where
-    at : (c : ℕ) → c ≤ 3 → pairGood pairs 0 ≡ true → pairGood pairs 1 ≡ true → pairGood pairs 2 ≡ true → pairGood pairs 3 ≡ true → Paired (xAt pairs c) (yAt pairs c)
-    at zero h p q r s = paired pairs 0 p
-    at (suc zero) h p q r s = paired pairs 1 q
-    at (suc (suc zero)) h p q r s = paired pairs 2 r
-    at (suc (suc (suc zero))) h p q r s = paired pairs 3 s
+    at : (c : ℕ) → c ≤ 3 → entryGood table 0 ≡ true → entryGood table 1 ≡ true → entryGood table 2 ≡ true → entryGood table 3 ≡ true → XOfY (xAt table c) (yAt table c)
+    at zero h p q r s = x-of-y table 0 p
+    at (suc zero) h p q r s = x-of-y table 1 q
+    at (suc (suc zero)) h p q r s = x-of-y table 2 r
+    at (suc (suc (suc zero))) h p q r s = x-of-y table 3 s
     at (suc (suc (suc (suc n)))) h p q r s = absurd (omega arith)
 
 -- a day's category, and that of a day beyond the calendar, which is 0
@@ -184,7 +184,7 @@ pub record PassedBook (bytes : List ℕ) : Type 0 where
   pub header : headerGood bytes ≡ true
   pub layout : layoutGood bytes ≡ true
   pub calendar : calendarGood (calendarSection bytes) ≡ true
-  pub pairs : pairsGood (pairSection bytes) ≡ true
+  pub table : tableGood (tableSection bytes) ≡ true
   pub points : first (badPoint (daysOf (calendarOf bytes)) (registerSection bytes)) 0 (pointCount bytes) ≡ none
   pub readings : first (badReading (readingSection bytes)) 0 (quartersOf (calendarOf bytes) * pointCount bytes) ≡ none
   pub engagements : first (badEngagement (calendarOf bytes) (pointCount bytes) (engagementSection bytes)) 0 (engagementCount bytes) ≡ none
@@ -196,27 +196,27 @@ passes bytes e =
     let n₇ = unlessFound (first (badEngagement c (pointCount bytes) (engagementSection bytes)) 0 (engagementCount bytes)) 7 none in
     let n₆ = unlessFound (firstBadReading c (readingSection bytes) (pointCount bytes)) 6 n₇ in
     let n₅ = unlessFound (first (badPoint (daysOf c) (registerSection bytes)) 0 (pointCount bytes)) 5 n₆ in
-    let n₄ = unless (calendarGood (calendarSection bytes) && pairsGood (pairSection bytes)) 4 n₅ in
+    let n₄ = unless (calendarGood (calendarSection bytes) && tableGood (tableSection bytes)) 4 n₅ in
     let n₃ = unless (not (clockChangeIn c)) 3 n₄ in
     let e₁ = not-refused (headerGood bytes) 1 (unless (layoutGood bytes) 2 n₃) e in
     let e₂ = not-refused (layoutGood bytes) 2 n₃ (e₁ .1) in
     let e₃ = not-refused (not (clockChangeIn c)) 3 n₄ (e₂ .1) in
-    let e₄ = not-refused (calendarGood (calendarSection bytes) && pairsGood (pairSection bytes)) 4 n₅ (e₃ .1) in
+    let e₄ = not-refused (calendarGood (calendarSection bytes) && tableGood (tableSection bytes)) 4 n₅ (e₃ .1) in
     let e₅ = not-found (first (badPoint (daysOf c) (registerSection bytes)) 0 (pointCount bytes)) 5 n₆ (e₄ .1) in
     let e₆ = not-found (firstBadReading c (readingSection bytes) (pointCount bytes)) 6 n₇ (e₅ .1) in
     let e₇ = not-found (first (badEngagement c (pointCount bytes) (engagementSection bytes)) 0 (engagementCount bytes)) 7 none (e₆ .1) in
-    let tables = both (calendarGood (calendarSection bytes)) (pairsGood (pairSection bytes)) (e₄ .0) in
+    let tables = both (calendarGood (calendarSection bytes)) (tableGood (tableSection bytes)) (e₄ .0) in
     record {
       header = e₁ .0;
       layout = e₂ .0;
       calendar = tables .0;
-      pairs = tables .1;
+      table = tables .1;
       points = e₅ .0;
       readings = found-none (quartersOf c) (first (badReading (readingSection bytes)) 0 (quartersOf c * pointCount bytes)) (e₆ .0);
       engagements = e₇ .0;
     }
 
--- the readings take no more bytes than their pair says
+-- the readings take no more bytes than their extent says
 readings-room : (bytes : List ℕ) → layoutGood bytes ≡ true → length (readingSection bytes) ≤ 4 * (quartersOf (calendarOf bytes) * pointCount bytes)
 unfolding layoutGood
 readings-room bytes e =
@@ -228,8 +228,8 @@ readings-room bytes e =
     let r₁ = adjoins bytes 1 (56 + daysOf c) 8 (reg ∷ met ∷ eng ∷ []) (r₀ .1) in
     let r₂ = adjoins bytes 2 (56 + daysOf c + 8) reg (met ∷ eng ∷ []) (r₁ .1) in
     let r₃ = adjoins bytes 3 (56 + daysOf c + 8 + reg) met (eng ∷ []) (r₂ .1) in
-    let pair = both (eqb (offsetOf bytes 3) (56 + daysOf c + 8 + reg)) (eqb (lengthOf bytes 3) met) (r₃ .0) in
-    simp length-take (omega (arith, eqb-true (lengthOf bytes 3) met (pair .1), mul-assoc 4 (quartersOf c) (pointCount bytes)))
+    let extent = both (eqb (offsetOf bytes 3) (56 + daysOf c + 8 + reg)) (eqb (lengthOf bytes 3) met) (r₃ .0) in
+    simp length-take (omega (arith, eqb-true (lengthOf bytes 3) met (extent .1), mul-assoc 4 (quartersOf c) (pointCount bytes)))
 
 pub sound : (bytes : List ℕ) → refusalOf bytes ≡ none → Sound (bookOf bytes)
 unfolding bookOf
@@ -238,7 +238,7 @@ sound bytes e =
     let h = headed bytes (p .header) in
     record {
       ranged = h .ranged;
-      pairs = λ d. all-paired (pairSection bytes) (p .pairs) (categoryAt (calendarSection bytes) d) (category-few (calendarSection bytes) (p .calendar) d);
+      table = λ d. all-x-of-y (tableSection bytes) (p .table) (categoryAt (calendarSection bytes) d) (category-few (calendarSection bytes) (p .calendar) d);
       points = λ point m. at-point (p .points) (Memᴰ·of-map (pointAt (registerSection bytes)) (range 0 (pointCount bytes)) m);
       readings = λ n q. readings-bounded (readingSection bytes) (quartersOf (calendarOf bytes) * pointCount bytes) (readings-room bytes (p .layout)) (p .readings) (quartersOf (calendarOf bytes) * n + q);
       engagements = λ g m. rw (length-map, length-range) (at-row (p .engagements) (Memᴰ·of-map (engagementAt (engagementSection bytes)) (range 0 (engagementCount bytes)) m) .0);

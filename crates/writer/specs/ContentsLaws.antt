@@ -13,18 +13,18 @@ use Rattle.message.specs.Contents.{Observation}
 use Rattle.message.specs.Valid.{lastPosition}
 use Rattle.message.specs.Bytes.{observationBytes, seriesBytes, supplyOf, partnerBytes}
 use Rattle.message.specs.ObservationForm.{observed, isPeriod, to-period}
-use Rattle.message.specs.Keys.{numberKeys, pairKeys}
+use Rattle.message.specs.Keys.{numberKeys, directionsKeys}
 use Rattle.message.specs.Group.{group}
 use Rattle.message.specs.Rows.{rowsFrom, rowsIn, inSixes, seriesOf, partnerOf, partnersOf, contents}
 use Rattle.message.specs.Messages.{messageBytes}
 use Rattle.writer.specs.Order.{every, ordered}
-use Rattle.writer.specs.Rows.{isObservation, isPair, isNumber, isRow, rowBefore, ofMonth, isRows, rowsMessage}
-use Rattle.writer.specs.RunsInner.{PartnerRun, PairRun}
+use Rattle.writer.specs.Rows.{isObservation, isDirections, isNumber, isRow, rowBefore, ofMonth, isRows, rowsMessage}
+use Rattle.writer.specs.RunsInner.{PartnerRun, DirectionsRun}
 use Rattle.emitter.specs.PartsInner.{fileHead, fileEnd}
 use Rattle.emitter.specs.PartsLaws.{file-parts}
 use Rattle.writer.specs.ContentsInner.{observationsIn, seriesAt, seriesIn, partnerAt, partnersIn, Writable}
 use Rattle.message.specs.GroupLaws.{first-group}
-use Rattle.writer.specs.RowsInner.{rowAt, Paired}
+use Rattle.writer.specs.RowsInner.{rowAt, Directed}
 
 -- ---- observations
 
@@ -55,7 +55,7 @@ module _ (k : Kind) (q : ℕ × ℕ) (l : List ℕ) (at n : ℕ) where
   unfolding seriesIn rowsFrom group flatMap
   series-none e = rw e
 
-  pub series-step : (r : ℕ) → PairRun l at n r
+  pub series-step : (r : ℕ) → DirectionsRun l at n r
       → flatMap (seriesBytes k) (seriesIn q l at n) ≡ seriesBytes k (seriesAt q l at r) ++ flatMap (seriesBytes k) (seriesIn q l (at + 6 * r) (n - r))
   unfolding seriesIn observationsIn flatMap
   series-step r p = ap (λ (g : List ((ℕ × ℕ) × List Observation)). flatMap (seriesBytes k) (map (seriesOf q) g)) (p .first)
@@ -70,9 +70,9 @@ module _ (k : Kind) (q : ℕ × ℕ) (l : List ℕ) (at n : ℕ) where
   partners-step r p = ap (λ (g : List (ℕ × List ((ℕ × ℕ) × Observation))). flatMap (partnerBytes k) (map (partnerOf q) g)) (p .first)
 
 module _ (q : ℕ × ℕ) (l : List ℕ) (at n : ℕ) where
-  pub series-count : length (seriesIn q l at n) ≡ length (group pairKeys (map (λ r. r .1) (rowsFrom l at n)))
+  pub series-count : length (seriesIn q l at n) ≡ length (group directionsKeys (map (λ r. r .1) (rowsFrom l at n)))
   unfolding seriesIn
-  series-count = length-map (group pairKeys (map (λ r. r .1) (rowsFrom l at n))) (seriesOf q)
+  series-count = length-map (group directionsKeys (map (λ r. r .1) (rowsFrom l at n))) (seriesOf q)
 
   pub partners-count : length (partnersIn q l at n) ≡ length (group numberKeys (rowsFrom l at n))
   unfolding partnersOf
@@ -83,8 +83,8 @@ module _ (q : ℕ × ℕ) (l : List ℕ) (at n : ℕ) where
   unfolding seriesIn rowsFrom supplyOf
   series-supply h =
       let e : n ≡ suc (n - 1) = omega arith in
-      let f = first-group pairKeys (rowAt l at .1) (map (λ r. r .1) (rowsFrom l (at + 6) (n - 1))) in
-      ap (λ (m : ℕ). supplyOf (map (seriesOf q) (group pairKeys (map (λ r. r .1) (rowsFrom l at m))))) e
+      let f = first-group directionsKeys (rowAt l at .1) (map (λ r. r .1) (rowsFrom l (at + 6) (n - 1))) in
+      ap (λ (m : ℕ). supplyOf (map (seriesOf q) (group directionsKeys (map (λ r. r .1) (rowsFrom l at m))))) e
       ∙ ap (λ (g : List ((ℕ × ℕ) × List Observation)). supplyOf (map (seriesOf q) g)) (f .is)
 
 -- ---- a file by its rows
@@ -101,42 +101,42 @@ pub writable-part : {l : List ℕ} {at n year month : ℕ} → Writable l at n y
 writable-part {l} {at} {n} {year} {month} w to r m e h =
     record {
       within = omega (arith, w .within);
-      paired = λ j g. subst (λ (p : ℕ). Paired l p) (omega (arith, e)) (w .paired (r + j) (omega (arith, h, g)));
+      directed = λ j g. subst (λ (p : ℕ). Directed l p) (omega (arith, e)) (w .directed (r + j) (omega (arith, h, g)));
       period = λ s. w .period (omega (arith, h, s));
     }
 
 -- the first row's directions
-pub writable-first : {l : List ℕ} {at n year month : ℕ} → Writable l at n year month → 1 ≤ n → Paired l at
-writable-first {l} {at} w h = subst (λ (p : ℕ). Paired l p) (omega arith) (w .paired 0 h)
+pub writable-first : {l : List ℕ} {at n year month : ℕ} → Writable l at n year month → 1 ≤ n → Directed l at
+writable-first {l} {at} w h = subst (λ (p : ℕ). Directed l p) (omega arith) (w .directed 0 h)
 
 module _ (k : Kind) (last : ℕ) (l : List ℕ) where
-  row-paired : (at : ℕ) → isRow k last (rowAt l at) ≡ true → Paired l at
-  unfolding isPair
-  row-paired at e =
+  row-directed : (at : ℕ) → isRow k last (rowAt l at) ≡ true → Directed l at
+  unfolding isDirections
+  row-directed at e =
       let r = rowAt l at in
-      let b = and-right (isNumber k (r .0)) (isPair (r .1 .0) && isObservation last (r .1 .1)) e in
-      let p = and-left (isPair (r .1 .0)) (isObservation last (r .1 .1)) b in
+      let b = and-right (isNumber k (r .0)) (isDirections (r .1 .0) && isObservation last (r .1 .1)) e in
+      let p = and-left (isDirections (r .1 .0)) (isObservation last (r .1 .1)) b in
       record {
         supply = ltb-true (r .1 .0 .0) 2 (and-left (ltb (r .1 .0 .0) 2) (ltb (r .1 .0 .1) 2) p);
         delivery = ltb-true (r .1 .0 .1) 2 (and-right (ltb (r .1 .0 .0) 2) (ltb (r .1 .0 .1) 2) p);
       }
 
-  rows-paired : (at n : ℕ) → every (isRow k last) (rowsFrom l at n) ≡ true → (j : ℕ) → j < n → Paired l (at + 6 * j)
+  rows-directed : (at n : ℕ) → every (isRow k last) (rowsFrom l at n) ≡ true → (j : ℕ) → j < n → Directed l (at + 6 * j)
   unfolding every rowsFrom
-  rows-paired at zero e j h = absurd (omega (arith, h))
-  rows-paired at (suc n) e zero h = subst (λ (p : ℕ). Paired l p) (omega arith) (row-paired at (and-left (isRow k last (rowAt l at)) (every (isRow k last) (rowsFrom l (at + 6) n)) e))
-  rows-paired at (suc n) e (suc j) h =
-      subst (λ (p : ℕ). Paired l p) (omega arith) (rows-paired (at + 6) n (and-right (isRow k last (rowAt l at)) (every (isRow k last) (rowsFrom l (at + 6) n)) e) j (omega (arith, h)))
+  rows-directed at zero e j h = absurd (omega (arith, h))
+  rows-directed at (suc n) e zero h = subst (λ (p : ℕ). Directed l p) (omega arith) (row-directed at (and-left (isRow k last (rowAt l at)) (every (isRow k last) (rowsFrom l (at + 6) n)) e))
+  rows-directed at (suc n) e (suc j) h =
+      subst (λ (p : ℕ). Directed l p) (omega arith) (rows-directed (at + 6) n (and-right (isRow k last (rowAt l at)) (every (isRow k last) (rowsFrom l (at + 6) n)) e) j (omega (arith, h)))
 
 month-writable : (k : Kind) (year month : ℕ) (l : List ℕ) (at n : ℕ) → at + 6 * n ≤ length l → ofMonth k year month (rowsFrom l at n) ≡ true → Writable l at n year month
 unfolding ofMonth rowsFrom
-month-writable k year month l at zero w e = record { within = w; paired = λ j h. absurd (omega (arith, h)); period = λ s. absurd (omega (arith, s)) }
+month-writable k year month l at zero w e = record { within = w; directed = λ j h. absurd (omega (arith, h)); period = λ s. absurd (omega (arith, s)) }
 month-writable k year month l at (suc n) w e =
     let last = lastPosition year month in
     let rest = and-right (isPeriod (year, month)) (every (isRow k last) (rowsFrom l at (suc n)) && ordered (rowBefore k) (rowsFrom l at (suc n))) e in
     record {
       within = w;
-      paired = rows-paired k last l at (suc n) (and-left (every (isRow k last) (rowsFrom l at (suc n))) (ordered (rowBefore k) (rowsFrom l at (suc n))) rest);
+      directed = rows-directed k last l at (suc n) (and-left (every (isRow k last) (rowsFrom l at (suc n))) (ordered (rowBefore k) (rowsFrom l at (suc n))) rest);
       period = λ s. to-period (year, month) (and-left (isPeriod (year, month)) (every (isRow k last) (rowsFrom l at (suc n)) && ordered (rowBefore k) (rowsFrom l at (suc n))) e);
     }
 

@@ -1,6 +1,5 @@
 pub mod Order
 pub mod OrderLaws
-pub mod OrderInner
 pub mod Rows
 pub mod RowsInner
 pub mod RowsLaws

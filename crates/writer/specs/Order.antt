@@ -1,4 +1,4 @@
--- Rows one behind the other, and their groups: rows are in order where the groups are and, within each, its rows.
+-- Rows one behind the other.
 use mathlib.Core.Bool.{Bool, true, cond, _&&_}
 use mathlib.Core.List.{List, [], _∷_}
 use Rattle.message.specs.Group.{Keys}

@@ -9,7 +9,7 @@ use Rattle.message.specs.Contents.{Observation}
 use Rattle.message.specs.Bytes.{digits}
 use Rattle.message.specs.Valid.{lastPosition}
 use Rattle.message.specs.ObservationForm.{isPeriod}
-use Rattle.message.specs.Keys.{numberKeys, pairKeys}
+use Rattle.message.specs.Keys.{numberKeys, directionsKeys}
 use Rattle.message.specs.Rows.{Row, rowsIn, inSixes, Message}
 use Rattle.writer.specs.Order.{every, ordered, by, both}
 
@@ -18,15 +18,15 @@ unfoldable pub isObservation : ℕ → Observation → Bool
 isObservation last o = (leb 1 (o .position) && leb (o .position) last) && (leb 1 (o .watts) && ltb (o .watts) 1000000000000)
 
 -- supply and delivery direction, 0 or 1 each
-unfoldable pub isPair : ℕ × ℕ → Bool
-isPair p = ltb (p .0) 2 && ltb (p .1) 2
+unfoldable pub isDirections : ℕ × ℕ → Bool
+isDirections p = ltb (p .0) 2 && ltb (p .1) 2
 
 -- "Numbers of companies have 10 digits, EANs 18"
 unfoldable pub isNumber : Kind → ℕ → Bool
 isNumber k n = ltb n (10 ^ digits k)
 
 abbrev pub isRow : Kind → ℕ → Row → Bool
-isRow k last = both (isNumber k) (both isPair (isObservation last))
+isRow k last = both (isNumber k) (both isDirections (isObservation last))
 
 -- "in TOE03 an EAN stands once, with one supply direction"
 unfoldable pub oneSupply : Kind → ℕ → ℕ → Bool
@@ -35,17 +35,17 @@ oneSupply Toe02 s t = true
 oneSupply Toe03 s t = eqb s t
 
 -- "partners rise, off-take before injection, up before down, positions rise, all strictly"
-unfoldable pub laterPair : Kind → ℕ × ℕ → ℕ × ℕ → Bool
-laterPair k p q = ltb (p .0 * 2 + p .1) (q .0 * 2 + q .1) && oneSupply k (p .0) (q .0)
+unfoldable pub laterDirections : Kind → ℕ × ℕ → ℕ × ℕ → Bool
+laterDirections k p q = ltb (p .0 * 2 + p .1) (q .0 * 2 + q .1) && oneSupply k (p .0) (q .0)
 
 unfoldable pub later : Observation → Observation → Bool
 later a b = ltb (a .position) (b .position)
 
-abbrev pub pairBefore : Kind → (ℕ × ℕ) × Observation → (ℕ × ℕ) × Observation → Bool
-pairBefore k = by pairKeys (laterPair k) later
+abbrev pub directionsBefore : Kind → (ℕ × ℕ) × Observation → (ℕ × ℕ) × Observation → Bool
+directionsBefore k = by directionsKeys (laterDirections k) later
 
 abbrev pub rowBefore : Kind → Row → Row → Bool
-rowBefore k = by numberKeys ltb (pairBefore k)
+rowBefore k = by numberKeys ltb (directionsBefore k)
 
 -- "A file without series reads as year 0 and month 0; writing from no rows takes these two and no others"
 unfoldable pub ofMonth : Kind → ℕ → ℕ → List Row → Bool

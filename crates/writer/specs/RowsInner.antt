@@ -24,7 +24,7 @@ behind k last l at zero = true
 behind k last l at (suc n) = (sixAt k last l (at + 6) && rowBefore k (rowAt l at) (rowAt l (at + 6))) && behind k last l (at + 6) n
 
 -- both directions at a place are 0 or 1
-pub record Paired (l : List ℕ) (at : ℕ) : Type 0 where
+pub record Directed (l : List ℕ) (at : ℕ) : Type 0 where
   pub supply : getD l (at + 1) 0 < 2
   pub delivery : getD l (at + 2) 0 < 2
 

@@ -17,17 +17,16 @@ use Rattle.message.specs.Bytes.{digits, supplyOf}
 use Rattle.message.specs.Valid.{most, lastPosition, IsObservation, IsPeriod, IsSeries, OneSupply, IsPartner, isMoment, monthOf, periods, firstOf}
 use Rattle.message.specs.SeriesForm.{position-small}
 use Rattle.message.specs.ObservationForm.{isPeriod, to-period, from-period}
-use Rattle.message.specs.Keys.{numberKeys, pairKeys}
+use Rattle.message.specs.Keys.{numberKeys, directionsKeys}
 use Rattle.message.specs.Group.{Keys, group}
 use Rattle.message.specs.Rows.{Row, rowsFrom, rowsIn, zeros, inSixes, seriesOf, partnerOf, partnersOf, Message, contents, IsMessage}
 use Rattle.message.specs.RowsLaws.{first-month}
 use Rattle.moments.specs.Ids.{isTransactionId}
 use Rattle.writer.specs.Order.{every, follow, ordered, by, both}
-use Rattle.writer.specs.Rows.{isObservation, isPair, isNumber, oneSupply, laterPair, later, isRow, rowBefore, ofMonth, isRows, rowsMessage}
+use Rattle.writer.specs.Rows.{isObservation, isDirections, isNumber, oneSupply, laterDirections, later, isRow, rowBefore, ofMonth, isRows, rowsMessage}
 use Rattle.integers.specs.AllLaws.{all-map, all-of, all-append, all-both, all-of-map, map-all}
 use Rattle.message.specs.GroupLaws.{first-group}
-use Rattle.writer.specs.OrderInner.{keysOf, inOrder, order-groups}
-use Rattle.writer.specs.OrderLaws.{every-group, full-groups, every-all, all-every, ordered-map, ordered-both, rises-follow, rises-few}
+use Rattle.writer.specs.OrderLaws.{every-group, full-groups, every-all, all-every, ordered-map, ordered-both, rises-follow, rises-few, keysOf, inOrder, order-groups}
 use Rattle.writer.specs.RowsInner.{rowAt, sixAt, behind}
 
 -- ---- observations
@@ -97,23 +96,23 @@ observed-from last l v r = (
 
 -- ---- series
 
-pair-to : (p : ℕ × ℕ) → isPair p ≡ true → (p .0 < 2) × (p .1 < 2)
-unfolding isPair
-pair-to p e = (ltb-true (p .0) 2 (and-left (ltb (p .0) 2) (ltb (p .1) 2) e), ltb-true (p .1) 2 (and-right (ltb (p .0) 2) (ltb (p .1) 2) e))
+directions-to : (p : ℕ × ℕ) → isDirections p ≡ true → (p .0 < 2) × (p .1 < 2)
+unfolding isDirections
+directions-to p e = (ltb-true (p .0) 2 (and-left (ltb (p .0) 2) (ltb (p .1) 2) e), ltb-true (p .1) 2 (and-right (ltb (p .0) 2) (ltb (p .1) 2) e))
 
-pair-from : (p : ℕ × ℕ) → (p .0 < 2) × (p .1 < 2) → isPair p ≡ true
-unfolding isPair
-pair-from p h = and-both (lt-ltb (p .0) 2 (h .0)) (lt-ltb (p .1) 2 (h .1))
+directions-from : (p : ℕ × ℕ) → (p .0 < 2) × (p .1 < 2) → isDirections p ≡ true
+unfolding isDirections
+directions-from p h = and-both (lt-ltb (p .0) 2 (h .0)) (lt-ltb (p .1) 2 (h .1))
 
 module _ (q : ℕ × ℕ) where
   abbrev last : ℕ
   last = lastPosition (q .0) (q .1)
 
-  series-to : IsPeriod (q .0) (q .1) → (g : (ℕ × ℕ) × List Observation) → both isPair (every (isObservation last)) g ≡ true → ordered later (g .1) ≡ true → 1 ≤ length (g .1)
+  series-to : IsPeriod (q .0) (q .1) → (g : (ℕ × ℕ) × List Observation) → both isDirections (every (isObservation last)) g ≡ true → ordered later (g .1) ≡ true → 1 ≤ length (g .1)
       → IsSeries (seriesOf q g)
   series-to period g v e some =
-      let p = pair-to (g .0) (and-left (isPair (g .0)) (every (isObservation last) (g .1)) v) in
-      let o = observed-to last (g .1) (and-right (isPair (g .0)) (every (isObservation last) (g .1)) v) e in
+      let p = directions-to (g .0) (and-left (isDirections (g .0)) (every (isObservation last) (g .1)) v) in
+      let o = observed-to last (g .1) (and-right (isDirections (g .0)) (every (isObservation last) (g .1)) v) e in
       record {
         supply = p .0;
         volume =
@@ -126,10 +125,10 @@ module _ (q : ℕ × ℕ) where
             };
       }
 
-  series-from : (g : (ℕ × ℕ) × List Observation) → IsSeries (seriesOf q g) → (both isPair (every (isObservation last)) g ≡ true) × (ordered later (g .1) ≡ true)
+  series-from : (g : (ℕ × ℕ) × List Observation) → IsSeries (seriesOf q g) → (both isDirections (every (isObservation last)) g ≡ true) × (ordered later (g .1) ≡ true)
   series-from g s =
       let o = observed-from last (g .1) (s .volume .each) (s .volume .rising) in
-      (and-both (pair-from (g .0) (s .supply, s .volume .delivery)) (o .0), o .1)
+      (and-both (directions-from (g .0) (s .supply, s .volume .delivery)) (o .0), o .1)
 
 -- ---- partners
 
@@ -168,18 +167,18 @@ module _ (q : ℕ × ℕ) where
   one-from Toe03 [] v = refl
   one-from Toe03 (g ∷ l) v = same-from (g .0) l (v .1)
 
-abbrev pairPlace : ℕ × ℕ → ℕ
-pairPlace p = p .0 * 2 + p .1
+abbrev directionsPlace : ℕ × ℕ → ℕ
+directionsPlace p = p .0 * 2 + p .1
 
-abbrev pairRising : ℕ × ℕ → ℕ × ℕ → Bool
-pairRising a b = ltb (pairPlace a) (pairPlace b)
+abbrev directionsRising : ℕ × ℕ → ℕ × ℕ → Bool
+directionsRising a b = ltb (directionsPlace a) (directionsPlace b)
 
-abbrev pairOne : Kind → ℕ × ℕ → ℕ × ℕ → Bool
-pairOne k a b = oneSupply k (a .0) (b .0)
+abbrev directionsOne : Kind → ℕ × ℕ → ℕ × ℕ → Bool
+directionsOne k a b = oneSupply k (a .0) (b .0)
 
--- a series' place is its pair's
-places : (q : ℕ × ℕ) (l : List ((ℕ × ℕ) × List Observation)) → map place (map (seriesOf q) l) ≡ map pairPlace (keysOf l)
-places q l = map-map place (seriesOf q) l ∙ sym (map-map pairPlace (λ x. x .0) l)
+-- a series' place is that of its directions
+places : (q : ℕ × ℕ) (l : List ((ℕ × ℕ) × List Observation)) → map place (map (seriesOf q) l) ≡ map directionsPlace (keysOf l)
+places q l = map-map place (seriesOf q) l ∙ sym (map-map directionsPlace (λ x. x .0) l)
 
 group-some : {K A : Type 0} (E : Keys K) (l : List (K × A)) → 1 ≤ length l → 1 ≤ length (group E l)
 group-some E [] h = absurd (omega arith)
@@ -194,45 +193,45 @@ numbers-fit Toe01 = omega arith
 numbers-fit Toe02 = omega arith
 numbers-fit Toe03 = omega arith
 
--- what a partner's series are, those of the pairs' groups
+-- what a partner's series are, those of the directions' groups
 module _ (k : Kind) (q : ℕ × ℕ) where
   abbrev goodPart : (ℕ × ℕ) × Observation → Bool
-  goodPart = both isPair (isObservation (last q))
+  goodPart = both isDirections (isObservation (last q))
 
   abbrev beforePart : (ℕ × ℕ) × Observation → (ℕ × ℕ) × Observation → Bool
-  beforePart = by pairKeys (laterPair k) later
+  beforePart = by directionsKeys (laterDirections k) later
 
   pub record PartSeries (gs : List ((ℕ × ℕ) × List Observation)) : Type 0 where
     each : All IsSeries (map (seriesOf q) gs)
     rising : rises 0 (map place (map (seriesOf q) gs)) ≡ true
     one : OneSupply k (map (seriesOf q) gs)
 
-  groups-to : IsPeriod (q .0) (q .1) → (gs : List ((ℕ × ℕ) × List Observation)) → All (λ g. 1 ≤ length (g .1)) gs → every (both isPair (every (isObservation (last q)))) gs ≡ true
-      → inOrder pairKeys (laterPair k) later gs ≡ true → PartSeries gs
-  unfolding inOrder laterPair
+  groups-to : IsPeriod (q .0) (q .1) → (gs : List ((ℕ × ℕ) × List Observation)) → All (λ g. 1 ≤ length (g .1)) gs → every (both isDirections (every (isObservation (last q)))) gs ≡ true
+      → inOrder directionsKeys (laterDirections k) later gs ≡ true → PartSeries gs
+  unfolding inOrder laterDirections
   groups-to period gs full v e =
-      let o = and-left (ordered (laterPair k) (keysOf gs)) (every (λ g. ordered later (g .1)) gs) e in
-      let w = and-right (ordered (laterPair k) (keysOf gs)) (every (λ g. ordered later (g .1)) gs) e in
-      let r = sym (ordered-both pairRising (pairOne k) (keysOf gs)) ∙ o in
-      let good = every-all (both isPair (every (isObservation (last q)))) (λ g h. h) gs v in
+      let o = and-left (ordered (laterDirections k) (keysOf gs)) (every (λ g. ordered later (g .1)) gs) e in
+      let w = and-right (ordered (laterDirections k) (keysOf gs)) (every (λ g. ordered later (g .1)) gs) e in
+      let r = sym (ordered-both directionsRising (directionsOne k) (keysOf gs)) ∙ o in
+      let good = every-all (both isDirections (every (isObservation (last q)))) (λ g h. h) gs v in
       let inside = every-all (λ (g : (ℕ × ℕ) × List Observation). ordered later (g .1)) (λ g h. h) gs w in
       let both = all-both _ _ gs good (all-both _ _ gs inside full) in
       record {
         each = all-of-map IsSeries (seriesOf q) gs (all-map (λ g h. series-to q period g (h .0) (h .1 .0) (h .1 .1)) gs both);
         rising =
             ap (rises 0) (places q gs)
-            ∙ ordered-rises 0 (map pairPlace (keysOf gs)) (from-zero (map pairPlace (keysOf gs))) (ordered-map pairPlace ltb (keysOf gs) ∙ and-left (ordered pairRising (keysOf gs)) (ordered (pairOne k) (keysOf gs)) r);
-        one = one-to q k gs (and-right (ordered pairRising (keysOf gs)) (ordered (pairOne k) (keysOf gs)) r);
+            ∙ ordered-rises 0 (map directionsPlace (keysOf gs)) (from-zero (map directionsPlace (keysOf gs))) (ordered-map directionsPlace ltb (keysOf gs) ∙ and-left (ordered directionsRising (keysOf gs)) (ordered (directionsOne k) (keysOf gs)) r);
+        one = one-to q k gs (and-right (ordered directionsRising (keysOf gs)) (ordered (directionsOne k) (keysOf gs)) r);
       }
 
   groups-from : (gs : List ((ℕ × ℕ) × List Observation)) → All IsSeries (map (seriesOf q) gs) → rises 0 (map place (map (seriesOf q) gs)) ≡ true → OneSupply k (map (seriesOf q) gs)
-      → (every (both isPair (every (isObservation (last q)))) gs ≡ true) × (inOrder pairKeys (laterPair k) later gs ≡ true)
-  unfolding inOrder laterPair
+      → (every (both isDirections (every (isObservation (last q)))) gs ≡ true) × (inOrder directionsKeys (laterDirections k) later gs ≡ true)
+  unfolding inOrder laterDirections
   groups-from gs v r s =
       let each = all-map (λ g h. series-from q g h) gs (map-all IsSeries (seriesOf q) gs v) in
-      let up = sym (ordered-map pairPlace ltb (keysOf gs)) ∙ rises-ordered 0 (map pairPlace (keysOf gs)) (sym (ap (rises 0) (places q gs)) ∙ r) in (
-        all-every (both isPair (every (isObservation (last q)))) (λ g h. h .0) gs each,
-        and-both (ordered-both pairRising (pairOne k) (keysOf gs) ∙ and-both up (one-from q k gs s)) (all-every (λ (g : (ℕ × ℕ) × List Observation). ordered later (g .1)) (λ g h. h .1) gs each),
+      let up = sym (ordered-map directionsPlace ltb (keysOf gs)) ∙ rises-ordered 0 (map directionsPlace (keysOf gs)) (sym (ap (rises 0) (places q gs)) ∙ r) in (
+        all-every (both isDirections (every (isObservation (last q)))) (λ g h. h .0) gs each,
+        and-both (ordered-both directionsRising (directionsOne k) (keysOf gs) ∙ and-both up (one-from q k gs s)) (all-every (λ (g : (ℕ × ℕ) × List Observation). ordered later (g .1)) (λ g h. h .1) gs each),
       )
 
   few-series : (l : List TimeSeries) → All IsSeries l → rises 0 (map place l) ≡ true → length l ≤ 4
@@ -243,15 +242,15 @@ module _ (k : Kind) (q : ℕ × ℕ) where
       → IsPartner k (partnerOf q g)
   unfolding isNumber
   partner-to period g v e some =
-      let h = group pairKeys (g .1) in
-      let s = groups-to period h (full-groups pairKeys (g .1))
-      (every-group pairKeys isPair (isObservation (last q)) (g .1) ∙ and-right (isNumber k (g .0)) (every goodPart (g .1)) v)
-      (order-groups pairKeys (laterPair k) later (g .1) ∙ e) in
+      let h = group directionsKeys (g .1) in
+      let s = groups-to period h (full-groups directionsKeys (g .1))
+      (every-group directionsKeys isDirections (isObservation (last q)) (g .1) ∙ and-right (isNumber k (g .0)) (every goodPart (g .1)) v)
+      (order-groups directionsKeys (laterDirections k) later (g .1) ∙ e) in
       record {
         number = ltb-true (g .0) (10 ^ digits k) (and-left (isNumber k (g .0)) (every goodPart (g .1)) v);
         counted =
             record {
-              some = omega (arith, length-map h (seriesOf q), group-some pairKeys (g .1) some);
+              some = omega (arith, length-map h (seriesOf q), group-some directionsKeys (g .1) some);
               fits = omega (arith, few-series (map (seriesOf q) h) (s .each) (s .rising));
             };
         rising = s .rising;
@@ -262,9 +261,9 @@ module _ (k : Kind) (q : ℕ × ℕ) where
   partner-from : (g : ℕ × List ((ℕ × ℕ) × Observation)) → IsPartner k (partnerOf q g) → (both (isNumber k) (every goodPart) g ≡ true) × (ordered beforePart (g .1) ≡ true)
   unfolding isNumber
   partner-from g p =
-      let h = groups-from (group pairKeys (g .1)) (p .each) (p .rising) (p .one) in (
-        and-both (lt-ltb (g .0) (10 ^ digits k) (p .number)) (sym (every-group pairKeys isPair (isObservation (last q)) (g .1)) ∙ h .0),
-        sym (order-groups pairKeys (laterPair k) later (g .1)) ∙ h .1,
+      let h = groups-from (group directionsKeys (g .1)) (p .each) (p .rising) (p .one) in (
+        and-both (lt-ltb (g .0) (10 ^ digits k) (p .number)) (sym (every-group directionsKeys isDirections (isObservation (last q)) (g .1)) ∙ h .0),
+        sym (order-groups directionsKeys (laterDirections k) later (g .1)) ∙ h .1,
       )
 
   -- ---- the partners of rows
@@ -313,7 +312,7 @@ module _ (q : ℕ × ℕ) where
   unfolding All periods flatMap
   groups-months [] = tt
   groups-months (g ∷ gs) =
-      all-append (λ p. p ≡ q) (map monthOf (map (seriesOf q) (group pairKeys (g .1)))) (periods (map (partnerOf q) gs)) (same-months (group pairKeys (g .1))) (groups-months gs)
+      all-append (λ p. p ≡ q) (map monthOf (map (seriesOf q) (group directionsKeys (g .1)))) (periods (map (partnerOf q) gs)) (same-months (group directionsKeys (g .1))) (groups-months gs)
 
   rows-months : (x : Row) (rows : List Row) → All (λ p. p ≡ firstOf (periods (partnersOf q (x ∷ rows)))) (periods (partnersOf q (x ∷ rows)))
   unfolding partnersOf
@@ -324,7 +323,7 @@ module _ (q : ℕ × ℕ) where
   unfolding partnersOf All
   first-period k x rows v =
       let a = first-group numberKeys x rows in
-      let b = first-group pairKeys (x .1) (a .more) in
+      let b = first-group directionsKeys (x .1) (a .more) in
       let w = subst (λ (gs : List (ℕ × List ((ℕ × ℕ) × Observation))). All (IsPartner k) (map (partnerOf q) gs)) (a .is) v in
       let s = subst (λ (gs : List ((ℕ × ℕ) × List Observation)). All IsSeries (map (seriesOf q) gs)) (b .is) (w .0 .each) in
       s .0 .volume .period

@@ -9,11 +9,11 @@ use native.Mathlib.Omega.{arith}
 use borrow.Author.Tests.{ltb-true, ltb-false}
 use Rattle.integers.specs.All.{All}
 use Rattle.message.specs.Contents.{Observation}
-use Rattle.message.specs.Keys.{numberKeys, pairKeys}
+use Rattle.message.specs.Keys.{numberKeys, directionsKeys}
 use Rattle.message.specs.Group.{Keys, group}
 use Rattle.message.specs.GroupLaws.{Ends, leading}
 use Rattle.message.specs.Rows.{Row, rowsFrom}
-use Rattle.writer.specs.RunsInner.{PartnerRun, PairRun}
+use Rattle.writer.specs.RunsInner.{PartnerRun, DirectionsRun}
 use Rattle.writer.specs.RowsInner.{rowAt}
 
 -- rows are the first r of them and those behind
@@ -78,16 +78,16 @@ module _ (l : List ℕ) (at n r : ℕ) (s : 1 ≤ r) (w : r ≤ n) where
             ∙ ap₂ (λ (a : List Row) (b : List Row). (getD l at 0, map (λ x. x .1) a) ∷ group numberKeys b) (map-id (rowsFrom l at r)) (map-id (rowsFrom l (at + 6 * r) (n - r)));
       }
 
-  pub pair-run : OneKey (λ x. x .1) l (getD l (at + 1) 0, getD l (at + 2) 0) at r
-      → (r < n → (eqb (getD l (at + 1) 0) (getD l (at + 6 * r + 1) 0) && eqb (getD l (at + 2) 0) (getD l (at + 6 * r + 2) 0)) ≡ false) → PairRun l at n r
-  pair-run h g =
+  pub directions-run : OneKey (λ x. x .1) l (getD l (at + 1) 0, getD l (at + 2) 0) at r
+      → (r < n → (eqb (getD l (at + 1) 0) (getD l (at + 6 * r + 1) 0) && eqb (getD l (at + 2) 0) (getD l (at + 6 * r + 2) 0)) ≡ false) → DirectionsRun l at n r
+  directions-run h g =
       let k : ℕ × ℕ = (getD l (at + 1) 0, getD l (at + 2) 0) in
       record {
         some = s;
         within = w;
         first =
-            run pairKeys (λ x. x .1) l k at n r (n - r) (omega arith) s h (λ d. g (omega (arith, d)))
-            ∙ ap (λ (a : List Observation). (k, a) ∷ group pairKeys (map (λ x. x .1) (rowsFrom l (at + 6 * r) (n - r)))) (map-map (λ y. y .1) (λ x. x .1) (rowsFrom l at r));
+            run directionsKeys (λ x. x .1) l k at n r (n - r) (omega arith) s h (λ d. g (omega (arith, d)))
+            ∙ ap (λ (a : List Observation). (k, a) ∷ group directionsKeys (map (λ x. x .1) (rowsFrom l (at + 6 * r) (n - r)))) (map-map (λ y. y .1) (λ x. x .1) (rowsFrom l at r));
       }
 
 -- no rows, no groups
@@ -95,6 +95,6 @@ pub no-partners : (l : List ℕ) (at n : ℕ) → n ≡ 0 → length (group numb
 unfolding rowsFrom group
 no-partners l at n e = rw e
 
-pub no-series : (l : List ℕ) (at n : ℕ) → n ≡ 0 → length (group pairKeys (map (λ x. x .1) (rowsFrom l at n))) ≡ 0
+pub no-series : (l : List ℕ) (at n : ℕ) → n ≡ 0 → length (group directionsKeys (map (λ x. x .1) (rowsFrom l at n))) ≡ 0
 unfolding rowsFrom group
 no-series l at n e = rw e

@@ -14,29 +14,29 @@ use Rattle.message.specs.Valid.{lastPosition}
 use Rattle.message.specs.ObservationForm.{isPeriod}
 use Rattle.message.specs.Rows.{rowsFrom, rowsIn, zeros, inSixes}
 use Rattle.writer.specs.Order.{every, follow, ordered}
-use Rattle.writer.specs.Rows.{isObservation, isPair, isNumber, isRow, later, laterPair, pairBefore, rowBefore, ofMonth, isRows}
+use Rattle.writer.specs.Rows.{isObservation, isDirections, isNumber, isRow, later, laterDirections, directionsBefore, rowBefore, ofMonth, isRows}
 use Rattle.writer.specs.RowsLaws.{rows-behind}
-use Rattle.writer.specs.RowsInner.{rowAt, sixAt, behind, Paired}
+use Rattle.writer.specs.RowsInner.{rowAt, sixAt, behind, Directed}
 
 -- ---- two rows
 
-pub pair-same : (k : Kind) (x y : (ℕ × ℕ) × Observation) → (eqb (x .0 .0) (y .0 .0) && eqb (x .0 .1) (y .0 .1)) ≡ true → ltb (x .1 .position) (y .1 .position) ≡ pairBefore k x y
+pub directions-same : (k : Kind) (x y : (ℕ × ℕ) × Observation) → (eqb (x .0 .0) (y .0 .0) && eqb (x .0 .1) (y .0 .1)) ≡ true → ltb (x .1 .position) (y .1 .position) ≡ directionsBefore k x y
 unfolding later
-pair-same k x y e = rw e
+directions-same k x y e = rw e
 
-pub pair-other : (k : Kind) (x y : (ℕ × ℕ) × Observation) → (eqb (x .0 .0) (y .0 .0) && eqb (x .0 .1) (y .0 .1)) ≡ false → laterPair k (x .0) (y .0) ≡ pairBefore k x y
-pair-other k x y e = rw e
+pub directions-other : (k : Kind) (x y : (ℕ × ℕ) × Observation) → (eqb (x .0 .0) (y .0 .0) && eqb (x .0 .1) (y .0 .1)) ≡ false → laterDirections k (x .0) (y .0) ≡ directionsBefore k x y
+directions-other k x y e = rw e
 
 -- ---- a row and those behind it
 
 module _ (k : Kind) (last : ℕ) (l : List ℕ) where
-  pub six-pair : (at : ℕ) → sixAt k last l at ≡ true → Paired l at
-  unfolding sixAt isPair
-  six-pair at e =
+  pub six-directions : (at : ℕ) → sixAt k last l at ≡ true → Directed l at
+  unfolding sixAt isDirections
+  six-directions at e =
       let r = rowAt l at in
       let a = and-left (isRow k last r) (eqb (getD l (at + 5) 0) 0) e in
-      let b = and-right (isNumber k (r .0)) (isPair (r .1 .0) && isObservation last (r .1 .1)) a in
-      let p = and-left (isPair (r .1 .0)) (isObservation last (r .1 .1)) b in
+      let b = and-right (isNumber k (r .0)) (isDirections (r .1 .0) && isObservation last (r .1 .1)) a in
+      let p = and-left (isDirections (r .1 .0)) (isObservation last (r .1 .1)) b in
       record {
         supply = ltb-true (r .1 .0 .0) 2 (and-left (ltb (r .1 .0 .0) 2) (ltb (r .1 .0 .1) 2) p);
         delivery = ltb-true (r .1 .0 .1) 2 (and-right (ltb (r .1 .0 .0) 2) (ltb (r .1 .0 .1) 2) p);

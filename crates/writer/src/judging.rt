@@ -5,8 +5,8 @@ ghost use mathlib.Core.Bool.{_&&_};
 ghost use Prim.Native.Nat.{_+_, _-_, _/_, _^_, _≤_};
 ghost use lib.ListN.{length};
 ghost use Rattle.message.specs.Bytes.{digits};
-ghost use Rattle.writer.specs.Rows.{oneSupply, pairBefore, rowBefore, isRows};
-ghost use Rattle.writer.specs.RowsInner.{rowAt, sixAt, behind, Paired, Sixes};
+ghost use Rattle.writer.specs.Rows.{oneSupply, directionsBefore, rowBefore, isRows};
+ghost use Rattle.writer.specs.RowsInner.{rowAt, sixAt, behind, Directed, Sixes};
 
 // One more than the greatest number of a partner.
 fn number_limit(kind: Kind) -> u64
@@ -47,10 +47,10 @@ fn six_at(kind: Kind, last: u64, rows: &[u64], at: usize) -> bool
         & (z == 0)
 }
 
-// Whether a row's pair of directions, or its position in the same pair, is later than another's.
-fn later_pair(kind: Kind, rows: &[u64], at: usize) -> bool
-    requires { ⌜ (at + 12 ≤ length (now rows)) × Paired (now rows) at × Paired (now rows) (at + 6) ⌝ }
-    ensures { λ r. ⌜ r ≡ pairBefore kind (rowAt (now (rows .entry)) at .1) (rowAt (now (rows .entry)) (at + 6) .1) ⌝ }
+// Whether a row's directions, or its position in the same directions, are later than another's.
+fn later_directions(kind: Kind, rows: &[u64], at: usize) -> bool
+    requires { ⌜ (at + 12 ≤ length (now rows)) × Directed (now rows) at × Directed (now rows) (at + 6) ⌝ }
+    ensures { λ r. ⌜ r ≡ directionsBefore kind (rowAt (now (rows .entry)) at .1) (rowAt (now (rows .entry)) (at + 6) .1) ⌝ }
 {
     let next = at + 6;
     let s = rows[at + 1];
@@ -66,11 +66,11 @@ fn later_pair(kind: Kind, rows: &[u64], at: usize) -> bool
 
 // Whether the row at `at` may stand before the next.
 fn row_before(kind: Kind, rows: &[u64], at: usize) -> bool
-    requires { ⌜ (at + 12 ≤ length (now rows)) × Paired (now rows) at × Paired (now rows) (at + 6) ⌝ }
+    requires { ⌜ (at + 12 ≤ length (now rows)) × Directed (now rows) at × Directed (now rows) (at + 6) ⌝ }
     ensures { λ r. ⌜ r ≡ rowBefore kind (rowAt (now (rows .entry)) at) (rowAt (now (rows .entry)) (at + 6)) ⌝ }
 {
     if rows[at] == rows[at + 6] {
-        later_pair(kind, rows, at)
+        later_directions(kind, rows, at)
     } else {
         rows[at] < rows[at + 6]
     }

@@ -1,12 +1,12 @@
-// Neighbouring rows of one partner, and of one pair of directions.
+// Neighbouring rows of one partner, and of the same directions.
 ghost use mathlib.Core.Path.{_≡_};
 ghost use mathlib.Core.List.{map};
 ghost use Prim.Native.Nat.{_+_, _*_, _≤_};
 ghost use lib.ListN.{length};
-ghost use Rattle.message.specs.Keys.{numberKeys, pairKeys};
+ghost use Rattle.message.specs.Keys.{numberKeys, directionsKeys};
 ghost use Rattle.message.specs.Group.{group};
 ghost use Rattle.message.specs.Rows.{rowsFrom};
-ghost use Rattle.writer.specs.RunsInner.{Stand, PartnerRun, PairRun};
+ghost use Rattle.writer.specs.RunsInner.{Stand, PartnerRun, DirectionsRun};
 
 // How many of n rows from `at` on are the first one's partner's.
 pub fn partner_run(rows: &[u64], at: usize, n: usize) -> usize
@@ -25,9 +25,9 @@ pub fn partner_run(rows: &[u64], at: usize, n: usize) -> usize
 }
 
 // How many of n rows from `at` on have the first one's directions.
-pub fn pair_run(rows: &[u64], at: usize, n: usize) -> usize
+pub fn directions_run(rows: &[u64], at: usize, n: usize) -> usize
     requires { ⌜ Stand (now rows) at n ⌝ }
-    ensures { λ r. ⌜ PairRun (now (rows .entry)) at n r ⌝ }
+    ensures { λ r. ⌜ DirectionsRun (now (rows .entry)) at n r ⌝ }
 {
     let supply = rows[at + 1];
     let delivery = rows[at + 2];
@@ -65,13 +65,13 @@ pub fn count_partners(rows: &[u64], n: usize) -> usize
 // How many series n rows of one partner have.
 pub fn count_series(rows: &[u64], at: usize, n: usize) -> usize
     requires { ⌜ at + 6 * n ≤ length (now rows) ⌝ }
-    ensures { λ r. ⌜ r ≡ length (group pairKeys (map (λ x. x .1) (rowsFrom (now (rows .entry)) at n))) ⌝ }
+    ensures { λ r. ⌜ r ≡ length (group directionsKeys (map (λ x. x .1) (rowsFrom (now (rows .entry)) at n))) ⌝ }
 {
     let mut count = 0;
     let mut next = at;
     let mut left = n;
     while 0 < left {
-        let run = pair_run(rows, next, left);
+        let run = directions_run(rows, next, left);
         count += 1;
         next += 6 * run;
         left -= run;

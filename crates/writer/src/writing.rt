@@ -2,7 +2,7 @@
 use crate::judging::judge_rows;
 use crate::runs::count_partners;
 use crate::runs::count_series;
-use crate::runs::pair_run;
+use crate::runs::directions_run;
 use crate::runs::partner_run;
 use emitter::Title;
 use emitter::parts::emit_file_end;
@@ -48,7 +48,7 @@ fn emit_observations(out: &mut [u8], m: Mark, rows: &[u64], at: usize, n: usize,
     a
 }
 
-// The series of n rows, at least one, of one pair of directions.
+// The series of n rows, at least one, of the same directions.
 fn emit_series(
     out: &mut [u8],
     m: Mark,
@@ -86,7 +86,7 @@ fn emit_series_list(
     let mut next = at;
     let mut left = n;
     while 0 < left {
-        let run = pair_run(rows, next, left);
+        let run = directions_run(rows, next, left);
         a = emit_series(out, a, title, rows, next, run, live);
         next += 6 * run;
         left -= run;

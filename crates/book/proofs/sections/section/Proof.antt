@@ -1,4 +1,4 @@
--- The pair's two numbers are the part's place and length.
+-- The extent's two numbers are the part's place and length.
 use mathlib.Core.Path.{_≡_, ap₂}
 use Prim.Native.Nat.{ℕ, _+_, _-_}
 use lib.ListN.{take, drop}

@@ -23,8 +23,8 @@ small c =
       omega (arith, readings-few (s .args .c) (s .args .points) (s .pre .0) (s .pre .1), ap (λ (q : ℕ). 4 * q * s .args .points) (c .quarters-of .ensures)),
     )
 
-add-pairs : tie.Need-add-pairs
-add-pairs c = omega (arith, small c)
+add-table : tie.Need-add-table
+add-table c = omega (arith, small c)
 
 add-register : tie.Need-add-register
 add-register c = omega (arith, small c)
@@ -59,7 +59,7 @@ layout-at-spec =
     (tie.spec
     days-of-requires
     quarters-of-requires
-    add-pairs
+    add-table
     add-register
     mul-readings
     add-readings

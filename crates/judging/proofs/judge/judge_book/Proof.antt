@@ -1,4 +1,4 @@
-use Rattle.book.specs.Header.{calendarOf, sizes, adjoining, layoutGood, calendarSection, pairSection, registerSection, readingSection, engagementSection}
+use Rattle.book.specs.Header.{calendarOf, sizes, adjoining, layoutGood, calendarSection, tableSection, registerSection, readingSection, engagementSection}
 use Rattle.book.specs.Judged.{clockChangeIn, sectionsRefusal, refusalOf}
 -- Each test is the refusal that comes next; the sections are read where the layout says.
 use mathlib.Core.Path.{_≡_, sym, ap, subst, _∙_}
@@ -69,7 +69,7 @@ unfolding refusalOf
 returns-4 c = let book = c .before .before .before .before .before .before .before .before .before .before .before .args .book .now in
     rw (sym (c .before .before .before .before .before .before .before .before .before .header-good .ensures) ∙ not-false _ (c .before .before .before .before .before .before .before .before .if1 .left), sym (layout (c .before .before .before .before)) ∙ not-false _ (c .before .before .before .if2 .left), sym (clock (c .before .before)) ∙ c .before .if3 .left)
     (c .judge-sections .ensures
-    ∙ (λ i. sectionsRefusal (c .before .before .before .before .before .before .before .calendar-of .ensures i) (c .before .before .before .before .before .before .point-count .ensures i) (c .before .before .before .before .before .engagement-count .ensures i) (calendarSection book) (pairSection book) (registerSection book) (readingSection book) (engagementSection book)))
+    ∙ (λ i. sectionsRefusal (c .before .before .before .before .before .before .before .calendar-of .ensures i) (c .before .before .before .before .before .before .point-count .ensures i) (c .before .before .before .before .before .engagement-count .ensures i) (calendarSection book) (tableSection book) (registerSection book) (readingSection book) (engagementSection book)))
 
 pub judge-book-spec : {M : Type 1} → statement M
 judge-book-spec =

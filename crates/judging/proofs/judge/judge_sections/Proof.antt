@@ -3,9 +3,9 @@ use mathlib.Core.Path.{_≡_, sym, ap, ap₂, _∙_}
 use mathlib.Core.Bool.{_&&_}
 use borrow.Author.Tests.{not-true, not-false}
 use lib.ListN.{length}
-use Rattle.book.specs.Header.{calendarSection, pairSection}
+use Rattle.book.specs.Header.{calendarSection, tableSection}
 use Rattle.book.specs.HeaderLaws.{LaidOut, laid}
-use Rattle.book.specs.Tables.{calendarGood, pairsGood}
+use Rattle.book.specs.Tables.{calendarGood, tableGood}
 use Rattle.book.specs.Judged.{rowsRefusal, sectionsRefusal}
 use native.Mathlib.Omega.{arith}
 use borrow.Author.Needs.{needs}
@@ -20,7 +20,7 @@ section-requires : tie.Need-section-requires
 section-requires c κs = let k = known (c .before) in (k .long, search needs, k .calendar .inside)
 
 section-requires-2 : tie.Need-section-requires-2
-section-requires-2 c κs = let k = known (c .before .before) in (k .long, search needs, k .pairs .inside)
+section-requires-2 c κs = let k = known (c .before .before) in (k .long, search needs, k .table .inside)
 
 section-requires-3 : tie.Need-section-requires-3
 section-requires-3 c κs = let k = known (c .before .before .before) in (k .long, search needs, k .register .inside)
@@ -34,14 +34,14 @@ section-requires-5 c κs = let k = known (c .before .before .before .before .bef
 calendar-good-requires : tie.Need-calendar-good-requires
 calendar-good-requires c κs = search needs
 
-pairs-good-requires : tie.Need-pairs-good-requires
-pairs-good-requires c κs = omega (arith, ap length (c .before .before .before .before .section2 .ensures), known (c .before .before .before .before .before .before .before) .pairs .size)
+table-good-requires : tie.Need-table-good-requires
+table-good-requires c κs = omega (arith, ap length (c .before .before .before .before .section2 .ensures), known (c .before .before .before .before .before .before .before) .table .size)
 
 -- the tables that are tested are those of sections 1 and 2
-tables : (c : tie.After-pairs-good) → let book = c .before .before .before .before .before .before .before .before .args .book .now in
-    (c .before .calendar-good .result && c .pairs-good .result) ≡ (calendarGood (calendarSection book) && pairsGood (pairSection book))
+tables : (c : tie.After-table-good) → let book = c .before .before .before .before .before .before .before .before .args .book .now in
+    (c .before .calendar-good .result && c .table-good .result) ≡ (calendarGood (calendarSection book) && tableGood (tableSection book))
 tables c =
-    ap₂ _&&_ (c .before .calendar-good .ensures ∙ ap calendarGood (c .before .before .before .before .before .before .section .ensures)) (c .pairs-good .ensures ∙ ap pairsGood (c .before .before .before .before .before .section2 .ensures))
+    ap₂ _&&_ (c .before .calendar-good .ensures ∙ ap calendarGood (c .before .before .before .before .before .before .section .ensures)) (c .table-good .ensures ∙ ap tableGood (c .before .before .before .before .before .section2 .ensures))
 
 returns : tie.Need-returns
 unfolding sectionsRefusal
@@ -71,7 +71,7 @@ judge-sections-spec =
     section-requires-4
     section-requires-5
     calendar-good-requires
-    pairs-good-requires
+    table-good-requires
     returns
     judge-rows-requires
     returns-2)

@@ -59,7 +59,7 @@ cast-judge-engagement c = search needs
 judge-engagement-requires : tie.Need-judge-engagement-requires
 judge-engagement-requires c κs =
     let h = here (c .before .before .before .before .before) in
-    (h .fits, rw (c .y-of .ensures, c .before .category .ensures) (h .paired .twenty))
+    (h .fits, rw (c .y-of .ensures, c .before .category .ensures) (h .x-of-y .twenty))
 
 returns : tie.Need-returns
 returns c =

@@ -1,4 +1,4 @@
--- A book that passes refusals 1 and 2 has the part that the pair names.
+-- A book that passes refusals 1 and 2 has the part that the extent names.
 use Rattle.settlement.specs.SectionsLaws.{bytes-long, section-inside}
 use Rattle.settlement.proofs.sections.section.Statement.{statement}
 use Rattle.settlement.proofs.sections.section.Tie as tie

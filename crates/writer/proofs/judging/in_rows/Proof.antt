@@ -7,7 +7,7 @@ use native.Mathlib.Nat.{sub-zero}
 use native.Mathlib.Omega.{arith}
 use borrow.Author.Tests.{not-true, not-false}
 use borrow.Author.Needs.{needs}
-use Rattle.writer.specs.StepsLaws.{six-pair, behind-none, behind-not-six, behind-not-before, behind-next}
+use Rattle.writer.specs.StepsLaws.{six-directions, behind-none, behind-not-six, behind-not-before, behind-next}
 use borrow.Author.Needs.{needs}
 use native.Mathlib.Nat.{sub-zero}
 use native.Mathlib.Omega.{arith}
@@ -62,8 +62,8 @@ row-before-requires c κs =
     let a = c .before .before .before .before .before .before .before .args in
     let l = c .before .before .before .loop in (
       omega arith,
-      six-pair (a .kind) (a .last) (a .rows .now) (l .at) (l .inv .2),
-      six-pair (a .kind) (a .last) (a .rows .now) (l .at + 6) (sym (c .before .six-at2 .ensures) ∙ not-false _ (c .if2 .left)),
+      six-directions (a .kind) (a .last) (a .rows .now) (l .at) (l .inv .2),
+      six-directions (a .kind) (a .last) (a .rows .now) (l .at + 6) (sym (c .before .six-at2 .ensures) ∙ not-false _ (c .if2 .left)),
     )
 
 returns-3 : tie.Need-returns-3 Inv-loop μ-loop

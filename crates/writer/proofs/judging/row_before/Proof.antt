@@ -21,8 +21,8 @@ mul-if1-2 c = search needs
 shared-slice-read-if1-2 : tie.Need-shared-slice-read-if1-2
 shared-slice-read-if1-2 c = search needs
 
-later-pair-requires : tie.Need-later-pair-requires
-later-pair-requires c κs = search needs
+later-directions-requires : tie.Need-later-directions-requires
+later-directions-requires c κs = search needs
 
 mul-result : tie.Need-mul-result
 mul-result c = search needs
@@ -42,7 +42,7 @@ shared-slice-read-result-2 c = search needs
 returns : tie.Need-returns
 returns c =
     let a = c .before .before .before .before .before .args in
-    rw (eq-eqb (getD (a .rows .now) (a .at) 0) (getD (a .rows .now) (a .at + 6) 0) (c .before .if1 .taken)) (c .later-pair .ensures)
+    rw (eq-eqb (getD (a .rows .now) (a .at) 0) (getD (a .rows .now) (a .at + 6) 0) (c .before .if1 .taken)) (c .later-directions .ensures)
 
 returns-2 : tie.Need-returns-2
 returns-2 c =
@@ -58,7 +58,7 @@ row-before-spec =
     add-if1
     mul-if1-2
     shared-slice-read-if1-2
-    later-pair-requires
+    later-directions-requires
     mul-result
     shared-slice-read-result
     add-result

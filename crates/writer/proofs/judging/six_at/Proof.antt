@@ -1,5 +1,5 @@
 -- The tests of a row are those of the definition, one by one.
-use Rattle.writer.specs.Rows.{isNumber, isPair, isObservation}
+use Rattle.writer.specs.Rows.{isNumber, isDirections, isObservation}
 use borrow.Author.Needs.{needs}
 use Rattle.writer.proofs.judging.six_at.Statement.{statement}
 use Rattle.writer.proofs.judging.six_at.Tie as tie
@@ -60,7 +60,7 @@ shared-slice-read-z : tie.Need-shared-slice-read-z
 shared-slice-read-z c = search needs
 
 returns : tie.Need-returns
-unfolding sixAt isNumber isPair isObservation
+unfolding sixAt isNumber isDirections isObservation
 returns c = rw (c .before .before .before .before .before .before .number-limit .ensures)
 
 pub six-at-spec : {M : Type 1} → statement M

@@ -3,7 +3,7 @@ use mathlib.Core.Path.{_≡_, ap}
 use mathlib.Core.List.{map}
 use Prim.Native.Nat.{_+_, _*_, _≤_}
 use lib.ListN.{length}
-use Rattle.message.specs.Keys.{pairKeys}
+use Rattle.message.specs.Keys.{directionsKeys}
 use Rattle.message.specs.Group.{group}
 use Rattle.message.specs.Rows.{rowsFrom}
 use Rattle.writer.specs.RunsLaws.{no-series}
@@ -13,7 +13,7 @@ use Rattle.writer.proofs.runs.count_series.Statement.{statement}
 use Rattle.writer.proofs.runs.count_series.Tie as tie
 
 abbrev Inv-loop : tie.InvT-loop
-Inv-loop rows at n count₀ next₀ left₀ count next left = (next + 6 * left ≤ length rows) × (count + left ≤ n) × (count + length (group pairKeys (map (λ x. x .1) (rowsFrom rows next left))) ≡ length (group pairKeys (map (λ x. x .1) (rowsFrom rows at n))))
+Inv-loop rows at n count₀ next₀ left₀ count next left = (next + 6 * left ≤ length rows) × (count + left ≤ n) × (count + length (group directionsKeys (map (λ x. x .1) (rowsFrom rows next left))) ≡ length (group directionsKeys (map (λ x. x .1) (rowsFrom rows at n))))
 
 abbrev μ-loop : tie.MeasureT-loop
 μ-loop rows at n count₀ next₀ left₀ count next left = left
@@ -21,8 +21,8 @@ abbrev μ-loop : tie.MeasureT-loop
 loop-holds : tie.Need-loop-holds Inv-loop μ-loop
 loop-holds c = (omega arith, omega arith, omega arith)
 
-pair-run-requires : tie.Need-pair-run-requires Inv-loop μ-loop
-pair-run-requires c κs = record { some = omega arith; within = omega arith }
+directions-run-requires : tie.Need-directions-run-requires Inv-loop μ-loop
+directions-run-requires c κs = record { some = omega arith; within = omega arith }
 
 add-count : tie.Need-add-count Inv-loop μ-loop
 add-count c = search needs
@@ -41,7 +41,7 @@ loop-less c = search needs
 
 loop-again : tie.Need-loop-again Inv-loop μ-loop
 loop-again c =
-    let p = c .pair-run .ensures in
+    let p = c .directions-run .ensures in
     (omega (arith, p .within), omega (arith, p .some), omega (arith, ap length (p .first)))
 
 returns : tie.Need-returns Inv-loop μ-loop
@@ -56,7 +56,7 @@ count-series-spec =
     Inv-loop
     μ-loop
     loop-holds
-    pair-run-requires
+    directions-run-requires
     add-count
     mul-next
     add-next

@@ -21,12 +21,12 @@ abbrev μ-loop : tie.MeasureT-loop
 loop-holds : tie.Need-loop-holds Inv-loop μ-loop
 loop-holds c = let s = c .before .before in (s .pre .0, laying-none _ _ _ _ (s .pre .1))
 
-pair-run-requires : tie.Need-pair-run-requires Inv-loop μ-loop
-pair-run-requires c κs = record { some = omega arith; within = c .before .loop .inv .0 .within }
+directions-run-requires : tie.Need-directions-run-requires Inv-loop μ-loop
+directions-run-requires c κs = record { some = omega arith; within = c .before .loop .inv .0 .within }
 
 emit-series-requires : tie.Need-emit-series-requires Inv-loop μ-loop
 emit-series-requires c κs =
-    let r = c .before .pair-run in
+    let r = c .before .directions-run in
     let l = c .before .before .before .loop in
     (r .ensures .some, writable-part (l .inv .0) (l .next) 0 (r .result) (omega arith) (omega (arith, r .ensures .within)))
 
@@ -45,7 +45,7 @@ loop-less c = search needs
 loop-again : tie.Need-loop-again Inv-loop μ-loop
 loop-again c =
     let l = c .before .before .before .before .before .before .loop in
-    let r = c .before .before .before .before .pair-run in
+    let r = c .before .before .before .before .directions-run in
     let a = c .before .before .before .before .before .before .before .before .before .args in (
       writable-part (l .inv .0) (l .next + 6 * r .result) (r .result) (l .left - r .result) refl (omega (arith, r .ensures .within)),
       laying-then (flatMap (seriesBytes (a .title .kind)) (seriesIn (a .title .year, a .title .month) (a .rows .now) (l .next + 6 * r .result) (l .left - r .result))) (l .inv .1) (c .before .before .emit-series .ensures)
@@ -68,7 +68,7 @@ emit-series-list-spec =
     Inv-loop
     μ-loop
     loop-holds
-    pair-run-requires
+    directions-run-requires
     emit-series-requires
     mul-next
     add-next

@@ -1,7 +1,7 @@
 -- The tests of the definition, on X and Y.
 use borrow.Author.Needs.{needs}
-use Rattle.judging.proofs.tables.pair_good.Statement.{statement}
-use Rattle.judging.proofs.tables.pair_good.Tie as tie
+use Rattle.judging.proofs.tables.entry_good.Statement.{statement}
+use Rattle.judging.proofs.tables.entry_good.Tie as tie
 
 x-of-requires : tie.Need-x-of-requires
 x-of-requires c κs = search needs
@@ -12,5 +12,5 @@ y-of-requires c κs = search needs
 returns : tie.Need-returns
 returns c = cc
 
-pub pair-good-spec : {M : Type 1} → statement M
-pair-good-spec = tie.close (tie.spec x-of-requires y-of-requires returns)
+pub entry-good-spec : {M : Type 1} → statement M
+entry-good-spec = tie.close (tie.spec x-of-requires y-of-requires returns)

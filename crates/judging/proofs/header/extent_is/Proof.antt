@@ -1,7 +1,7 @@
--- Both numbers of the pair are compared.
+-- Both numbers of the extent are compared.
 use borrow.Author.Needs.{needs}
-use Rattle.judging.proofs.header.pair_is.Statement.{statement}
-use Rattle.judging.proofs.header.pair_is.Tie as tie
+use Rattle.judging.proofs.header.extent_is.Statement.{statement}
+use Rattle.judging.proofs.header.extent_is.Tie as tie
 
 mul-u32-at : tie.Need-mul-u32-at
 mul-u32-at c = search needs
@@ -30,8 +30,8 @@ cast-count c = search needs
 returns : tie.Need-returns
 returns c = cc
 
-pub pair-is-spec : {M : Type 1} → statement M
-pair-is-spec =
+pub extent-is-spec : {M : Type 1} → statement M
+extent-is-spec =
     tie.close
     (tie.spec
     mul-u32-at

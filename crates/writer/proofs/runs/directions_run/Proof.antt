@@ -2,12 +2,12 @@
 use mathlib.Core.Path.{sym}
 use Prim.Native.Nat.{ℕ, _+_, _-_, _*_, _≤_}
 use lib.ListN.{getD}
-use Rattle.writer.specs.RunsLaws.{OneKey, one-first, one-more, pair-run}
+use Rattle.writer.specs.RunsLaws.{OneKey, one-first, one-more, directions-run}
 use borrow.Author.Tests.{eq-eqb, ne-eqb}
 use borrow.Author.Needs.{needs}
 use native.Mathlib.Omega.{arith}
-use Rattle.writer.proofs.runs.pair_run.Statement.{statement}
-use Rattle.writer.proofs.runs.pair_run.Tie as tie
+use Rattle.writer.proofs.runs.directions_run.Statement.{statement}
+use Rattle.writer.proofs.runs.directions_run.Tie as tie
 
 abbrev Inv-loop : tie.InvT-loop
 Inv-loop rows at n supply delivery run₀ run = (1 ≤ run) × (run ≤ n) × OneKey (λ x. x .1) rows (getD rows (at + 1) 0, getD rows (at + 2) 0) at run
@@ -55,7 +55,7 @@ returns : tie.Need-returns Inv-loop μ-loop
 returns c =
     let a = c .before .before .before .before .before .before .args in
     let l = c .before .before .before .loop in
-    pair-run (a .rows .now) (a .at) (a .n) (l .run) (l .inv .0) (l .inv .1) (l .inv .2) (λ d. rw (ne-eqb (getD (a .rows .now) (a .at + 1) 0) (getD (a .rows .now) (a .at + 6 * l .run + 1) 0) (λ e. c .if1 .taken (sym e))))
+    directions-run (a .rows .now) (a .at) (a .n) (l .run) (l .inv .0) (l .inv .1) (l .inv .2) (λ d. rw (ne-eqb (getD (a .rows .now) (a .at + 1) 0) (getD (a .rows .now) (a .at + 6 * l .run + 1) 0) (λ e. c .if1 .taken (sym e))))
 
 add-if2 : tie.Need-add-if2 Inv-loop μ-loop
 add-if2 c = search needs
@@ -70,7 +70,7 @@ returns-2 : tie.Need-returns-2 Inv-loop μ-loop
 returns-2 c =
     let a = c .before .before .before .before .before .before .before .before .args in
     let l = c .before .before .before .before .before .loop in
-    pair-run (a .rows .now) (a .at) (a .n) (l .run) (l .inv .0) (l .inv .1) (l .inv .2)
+    directions-run (a .rows .now) (a .at) (a .n) (l .run) (l .inv .0) (l .inv .1) (l .inv .2)
     (λ d. rw (eq-eqb (getD (a .rows .now) (a .at + 1) 0) (getD (a .rows .now) (a .at + 6 * l .run + 1) 0) (sym (c .before .before .if1 .left)), ne-eqb (getD (a .rows .now) (a .at + 2) 0) (getD (a .rows .now) (a .at + 6 * l .run + 2) 0) (λ e. c .if2 .taken (sym e))))
 
 add-run : tie.Need-add-run Inv-loop μ-loop
@@ -90,10 +90,10 @@ returns-3 : tie.Need-returns-3 Inv-loop μ-loop
 returns-3 c =
     let a = c .before .before .before .before .args in
     let l = c .before .loop in
-    pair-run (a .rows .now) (a .at) (a .n) (l .run) (l .inv .0) (l .inv .1) (l .inv .2) (λ d. absurd (omega (arith, d)))
+    directions-run (a .rows .now) (a .at) (a .n) (l .run) (l .inv .0) (l .inv .1) (l .inv .2) (λ d. absurd (omega (arith, d)))
 
-pub pair-run-spec : {M : Type 1} → statement M
-pair-run-spec =
+pub directions-run-spec : {M : Type 1} → statement M
+directions-run-spec =
     tie.close
     (tie.spec
     Inv-loop

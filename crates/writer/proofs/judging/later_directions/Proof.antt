@@ -1,10 +1,10 @@
--- By positions in one pair of directions, or else by the pairs.
+-- By positions in the same directions, or else by the directions.
 use Prim.Native.Nat.{_+_}
-use Rattle.writer.specs.Rows.{laterPair}
-use Rattle.writer.specs.StepsLaws.{pair-same, pair-other}
+use Rattle.writer.specs.Rows.{laterDirections}
+use Rattle.writer.specs.StepsLaws.{directions-same, directions-other}
 use borrow.Author.Needs.{needs}
-use Rattle.writer.proofs.judging.later_pair.Statement.{statement}
-use Rattle.writer.proofs.judging.later_pair.Tie as tie
+use Rattle.writer.proofs.judging.later_directions.Statement.{statement}
+use Rattle.writer.proofs.judging.later_directions.Tie as tie
 use Rattle.writer.specs.RowsInner.{rowAt}
 
 add-next : tie.Need-add-next
@@ -82,16 +82,16 @@ one-supply-requires c κs = search needs
 returns : tie.Need-returns
 returns c =
     let a = c .before .before .before .before .before .before .before .before .args in
-    pair-same (a .kind) (rowAt (a .rows .now) (a .at) .1) (rowAt (a .rows .now) (a .at + 6) .1) (c .before .before .if1 .taken)
+    directions-same (a .kind) (rowAt (a .rows .now) (a .at) .1) (rowAt (a .rows .now) (a .at + 6) .1) (c .before .before .if1 .taken)
 
 returns-2 : tie.Need-returns-2
-unfolding laterPair
+unfolding laterDirections
 returns-2 c =
     let a = c .before .before .before .before .before .before .before .args in
-    rw (c .one-supply .ensures) (pair-other (a .kind) (rowAt (a .rows .now) (a .at) .1) (rowAt (a .rows .now) (a .at + 6) .1) (c .before .if1 .left))
+    rw (c .one-supply .ensures) (directions-other (a .kind) (rowAt (a .rows .now) (a .at) .1) (rowAt (a .rows .now) (a .at + 6) .1) (c .before .if1 .left))
 
-pub later-pair-spec : {M : Type 1} → statement M
-later-pair-spec =
+pub later-directions-spec : {M : Type 1} → statement M
+later-directions-spec =
     tie.close
     (tie.spec
     add-next
