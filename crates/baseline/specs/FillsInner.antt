@@ -24,7 +24,7 @@ pub record Raises (list : List Reading) (n add r : ℕ) : Type 0 where
   pub small : r ≤ grains 12884901887
 
 -- the first n places hold what they are to, and the others are as they were
-pub record Fills (holds : ℕ → ℕ → Type 0) (n : ℕ) (before after : List ℕ) : Type 0 where
+pub record FillsLevels (holds : ℕ → ℕ → Type 0) (n : ℕ) (before after : List ℕ) : Type 0 where
   pub each : (k : ℕ) → k < n → holds k (getD after k 0)
   pub rest : drop n after ≡ drop n before
 

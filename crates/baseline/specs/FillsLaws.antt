@@ -11,14 +11,14 @@ use Rattle.integers.specs.ZLaws.{over-add}
 use Rattle.grains.specs.Grains.{grains}
 use Rattle.wire.specs.declared.Reading.{Reading}
 use Rattle.baseline.specs.LevelsInner.{Means}
-use Rattle.baseline.specs.FillsInner.{Raises, Fills}
+use Rattle.baseline.specs.FillsInner.{Raises, FillsLevels}
 use Rattle.wire.specs.ReadingsInner.{raise}
 
 -- no place yet, and one more
-pub fills-none : (P : ℕ → ℕ → Type 0) (l : List ℕ) → Fills P 0 l l
+pub fills-none : (P : ℕ → ℕ → Type 0) (l : List ℕ) → FillsLevels P 0 l l
 fills-none P l = record { each = λ k h. absurd (omega arith); rest = refl }
 
-pub fills-more : (P : ℕ → ℕ → Type 0) (before l : List ℕ) (k v : ℕ) → k < length l → Fills P k before l → P k v → Fills P (k + 1) before (set l k v)
+pub fills-more : (P : ℕ → ℕ → Type 0) (before l : List ℕ) (k v : ℕ) → k < length l → FillsLevels P k before l → P k v → FillsLevels P (k + 1) before (set l k v)
 fills-more P before l k v h f p =
     record {
       each =
@@ -40,7 +40,7 @@ next-cell stored l i x e h =
 pub same-next : {A : Type 0} (l : List A) (i : ℕ) (v : A) → i < length l → set (replicate i v ++ drop i l) i v ≡ replicate (i + 1) v ++ drop (i + 1) l
 same-next l i v h = next-cell (replicate i v) l i v (length-replicate i v) h ∙ rw (replicate-append-replicate i 1 v)
 
-pub same-fills : (n v : ℕ) (before after : List ℕ) → after ≡ replicate n v ++ drop n before → Fills (λ k u. u ≡ v) n before after
+pub same-fills : (n v : ℕ) (before after : List ℕ) → after ≡ replicate n v ++ drop n before → FillsLevels (λ k u. u ≡ v) n before after
 same-fills n v before after e =
     record {
       each = λ k h. ap (λ (l : List ℕ). getD l k 0) e ∙ List·getD-append (replicate n v) (drop n before) 0 k (omega (arith, length-replicate n v)) ∙ getD-replicate n k v 0 h;

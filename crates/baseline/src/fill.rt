@@ -12,8 +12,8 @@ ghost use Rattle.grains.specs.Grains.{grains};
 ghost use Rattle.baseline.specs.ShownInner.{windowIn};
 ghost use Rattle.baseline.specs.RunsInner.{daysIn, dayRuns};
 ghost use Rattle.baseline.specs.NeedsInner.{looksBack};
-ghost use Rattle.baseline.specs.FilledInner.{Accepts, Filled};
-ghost use Rattle.baseline.specs.FillsInner.{Raises, Fills, LieAll, Adding, Added};
+ghost use Rattle.baseline.specs.FilledInner.{Accepts, LevelsFilled};
+ghost use Rattle.baseline.specs.FillsInner.{Raises, FillsLevels, LieAll, Adding, Added};
 ghost use Rattle.quarters.specs.QuartersInner.{longestCalendar};
 ghost use Rattle.wire.specs.ReadingsInner.{raise};
 
@@ -41,7 +41,7 @@ fn fill_means(
     levels: &mut [u64],
 )
     requires { ⌜ LieAll (now readings) (now keys) c e origin x × (1 ≤ x) × (add ≤ grains (4 * raise)) × (e .count ≤ length (now levels)) ⌝ }
-    ensures { λ r. ⌜ Fills (λ k. Raises (dayRuns (now (readings .entry)) c e origin k 0 1 (daysIn (now (keys .entry)) x)) x add) (e .count) (now (levels .entry)) (now (levels .exit)) ⌝ }
+    ensures { λ r. ⌜ FillsLevels (λ k. Raises (dayRuns (now (readings .entry)) c e origin k 0 1 (daysIn (now (keys .entry)) x)) x add) (e .count) (now (levels .entry)) (now (levels .exit)) ⌝ }
 {
     let n = e.count as usize;
     let mut k = 0;
@@ -85,7 +85,7 @@ fn fill_days(
     levels: &mut [u64],
 )
     requires { ⌜ Accepts c (now calendar) (now readings) point e x y × (looksBack (point .method) ≡ true) × (e .count ≤ length (now levels)) ⌝ }
-    ensures { λ r. ⌜ Filled c (now (calendar .entry)) (now (readings .entry)) point e x y (now (levels .entry)) (now (levels .exit)) ⌝ }
+    ensures { λ r. ⌜ LevelsFilled c (now (calendar .entry)) (now (readings .entry)) point e x y (now (levels .entry)) (now (levels .exit)) ⌝ }
 {
     let mut keys = [0u64; 20];
     crate::ranking::rank_days(c, calendar, readings, point, e, y, &mut keys);
@@ -108,7 +108,7 @@ fn fill_last(
     levels: &mut [u64],
 )
     requires { ⌜ Accepts c (now calendar) (now readings) point e x y × (looksBack (point .method) ≡ false) × (e .count ≤ length (now levels)) ⌝ }
-    ensures { λ r. ⌜ Filled c (now (calendar .entry)) (now (readings .entry)) point e x y (now (levels .entry)) (now (levels .exit)) ⌝ }
+    ensures { λ r. ⌜ LevelsFilled c (now (calendar .entry)) (now (readings .entry)) point e x y (now (levels .entry)) (now (levels .exit)) ⌝ }
 {
     let origin = quarters::origin_of(c, e.point);
     let q = quarters::in_calendar(c, e.day, e.first);
@@ -128,7 +128,7 @@ pub fn fill_levels(
     levels: &mut [u64],
 )
     requires { ⌜ Accepts c (now calendar) (now readings) point e x y × (e .count ≤ length (now levels)) ⌝ }
-    ensures { λ r. ⌜ Filled c (now (calendar .entry)) (now (readings .entry)) point e x y (now (levels .entry)) (now (levels .exit)) ⌝ }
+    ensures { λ r. ⌜ LevelsFilled c (now (calendar .entry)) (now (readings .entry)) point e x y (now (levels .entry)) (now (levels .exit)) ⌝ }
 {
     let method = point.method;
     if crate::judge::looks_back(method) {

@@ -36,6 +36,6 @@ abbrev pub partnerRowsOf : Book → Kind → ℕ → ℕ → List Row
 partnerRowsOf book kind receiver = partnerRowsBy (grainsAt book kind receiver) (monthQuarters (book .calendar))
 
 -- rows are stored from number `at` on: what that leaves, and the place behind them
-pub record Filled (rows : List Row) (before : List ℕ) (at : ℕ) (after : List ℕ) (next : ℕ) : Type 0 where
+pub record FileRowsFilled (rows : List Row) (before : List ℕ) (at : ℕ) (after : List ℕ) (next : ℕ) : Type 0 where
   pub behind : next ≡ at + 6 * length rows
   pub list : after ≡ sets before at (numbers rows)

@@ -49,7 +49,7 @@ use Rattle.partners.specs.ObservationsInner.{observationIf, observations
 use Rattle.partners.specs.ObservationsLaws.{no-observation, one-observation, observations-none, observations-more}
 use Rattle.reports.specs.RegisteredInner.{Registered}
 use Rattle.reports.specs.FormLaws.{partners-valid}
-use Rattle.partners.specs.PartnerRowsInner.{rowOf, rowsBy, seriesRowsOf, partnerRowsOf, Filled, seriesRowsBy, partnerRowsBy}
+use Rattle.partners.specs.PartnerRowsInner.{rowOf, rowsBy, seriesRowsOf, partnerRowsOf, FileRowsFilled, seriesRowsBy, partnerRowsBy}
 use Rattle.quarters.specs.Quarters.{monthQuarters}
 use Rattle.integers.specs.AllLaws.{each-all, all-each, all-append}
 use Rattle.integers.specs.CountsLaws.{times-mem}
@@ -219,18 +219,18 @@ rows-stand p (r ∷ rows) s =
     ap₂ _∷_ (ap (λ (t : List ℕ). rowAt t (length p)) e ∙ row-stands p r (numbers rows ++ s))
     (ap₂ (λ (t : List ℕ) (k : ℕ). rowsFrom t k (length rows)) f (sym (longer p r)) ∙ rows-stand (p ++ rowNumbers r) rows s)
 
-pub filled-stand : (rows : List Row) (before after : List ℕ) (next : ℕ) → Filled rows before 0 after next → 6 * length rows ≤ length before → rowsFrom after 0 (length rows) ≡ rows
+pub filled-stand : (rows : List Row) (before after : List ℕ) (next : ℕ) → FileRowsFilled rows before 0 after next → 6 * length rows ≤ length before → rowsFrom after 0 (length rows) ≡ rows
 filled-stand rows before after next f h =
     ap (λ (t : List ℕ). rowsFrom t 0 (length rows)) (f .list ∙ sets-eq (numbers rows) before 0 (omega (arith, length-numbers rows)))
     ∙ rows-stand [] rows (drop (0 + length (numbers rows)) before)
 
 -- ---- rows stored one behind the other
 
-pub filled-none : (before : List ℕ) (at : ℕ) → Filled [] before at before at
+pub filled-none : (before : List ℕ) (at : ℕ) → FileRowsFilled [] before at before at
 unfolding numbers flatMap
 filled-none before at = record { behind = omega arith; list = refl }
 
-pub filled-then : {a b : List Row} {before mid after : List ℕ} {at next last : ℕ} → Filled a before at mid next → Filled b mid next after last → Filled (a ++ b) before at after last
+pub filled-then : {a b : List Row} {before mid after : List ℕ} {at next last : ℕ} → FileRowsFilled a before at mid next → FileRowsFilled b mid next after last → FileRowsFilled (a ++ b) before at after last
 unfolding numbers
 filled-then {a} {b} {before} {mid} {after} {at} {next} {last} f g =
     let n : length (numbers a) ≡ 6 * length a = length-numbers a in
@@ -244,14 +244,14 @@ filled-then {a} {b} {before} {mid} {after} {at} {next} {last} f g =
           ∙ ap (sets before at) (sym (flatMap-append rowNumbers a b));
     }
 
-pub filled-is : {a : List Row} {before after : List ℕ} {at next : ℕ} (b : List Row) → a ≡ b → Filled a before at after next → Filled b before at after next
-filled-is {a} {before} {after} {at} {next} b e f = subst (λ (r : List Row). Filled r before at after next) e f
+pub filled-is : {a : List Row} {before after : List ℕ} {at next : ℕ} (b : List Row) → a ≡ b → FileRowsFilled a before at after next → FileRowsFilled b before at after next
+filled-is {a} {before} {after} {at} {next} b e f = subst (λ (r : List Row). FileRowsFilled r before at after next) e f
 
-pub filled-length : {a : List Row} {before after : List ℕ} {at next : ℕ} → Filled a before at after next → length after ≡ length before
+pub filled-length : {a : List Row} {before after : List ℕ} {at next : ℕ} → FileRowsFilled a before at after next → length after ≡ length before
 filled-length {a} {before} {after} {at} {next} f = ap length (f .list) ∙ length-sets before at (numbers a)
 
 pub filled-row : (l : List ℕ) (at : ℕ) (s : Series) (u v p w : ℕ) → u ≡ supplyNumber (s .supply) → v ≡ deliveryNumber (s .delivery)
-    → Filled (rowOf s (observed (p, w)) ∷ []) l at (set (set (set (set (set (set l at (s .partner)) (at + 1) u) (at + 2) v) (at + 3) p) (at + 4) w) (at + 5) 0) (at + 6)
+    → FileRowsFilled (rowOf s (observed (p, w)) ∷ []) l at (set (set (set (set (set (set l at (s .partner)) (at + 1) u) (at + 2) v) (at + 3) p) (at + 4) w) (at + 5) 0) (at + 6)
 unfolding numbers rowNumbers flatMap
 filled-row l at s u v p w f g =
     let c : at + 3 ≡ suc (suc (suc at)) = omega arith in

@@ -13,7 +13,7 @@ ghost use Rattle.message.specs.ObservationForm.{observed};
 ghost use Rattle.reports.specs.FileRows.{supplyNumber, deliveryNumber};
 ghost use Rattle.series.specs.SumsInner.{DeliveredIn};
 ghost use Rattle.partners.specs.ObservationsInner.{observationIf, observationsIn};
-ghost use Rattle.partners.specs.PartnerRowsInner.{rowOf, rowsBy, seriesRowsOf, partnerRowsOf, Filled};
+ghost use Rattle.partners.specs.PartnerRowsInner.{rowOf, rowsBy, seriesRowsOf, partnerRowsOf, FileRowsFilled};
 ghost use Rattle.quarters.specs.QuartersInner.{longestMonth};
 
 // The directions as a file's rows have them.
@@ -38,7 +38,7 @@ fn delivery_number(delivery: Direction) -> u64
 // The six numbers of a row, from `at` on; the place behind them.
 fn push_row(rows: &mut [u64], at: usize, s: Series, position: u64, watts: u64) -> usize
     requires { ⌜ at + 6 ≤ length (now rows) ⌝ }
-    ensures { λ r. ⌜ Filled (rowOf s (observed (position, watts)) ∷ []) (now (rows .entry)) at (now (rows .exit)) r ⌝ }
+    ensures { λ r. ⌜ FileRowsFilled (rowOf s (observed (position, watts)) ∷ []) (now (rows .entry)) at (now (rows .exit)) r ⌝ }
 {
     let supply = s.supply;
     let delivery = s.delivery;
@@ -56,7 +56,7 @@ fn push_row(rows: &mut [u64], at: usize, s: Series, position: u64, watts: u64) -
 // A position's row, if it has watts.
 fn push_position(rows: &mut [u64], at: usize, s: Series, position: u64, watts: u64) -> usize
     requires { ⌜ at + 6 ≤ length (now rows) ⌝ }
-    ensures { λ r. ⌜ Filled (rowsBy s (observationIf position watts)) (now (rows .entry)) at (now (rows .exit)) r ⌝ }
+    ensures { λ r. ⌜ FileRowsFilled (rowsBy s (observationIf position watts)) (now (rows .entry)) at (now (rows .exit)) r ⌝ }
 {
     if watts == 0 {
         return at;
@@ -67,7 +67,7 @@ fn push_position(rows: &mut [u64], at: usize, s: Series, position: u64, watts: u
 // The rows of a series whose watts stand at the first n positions.
 pub fn push_watts(rows: &mut [u64], start: usize, s: Series, watts: &[u64], n: usize) -> usize
     requires { ⌜ (n ≤ length (now watts)) × (start + 6 * n ≤ length (now rows)) ⌝ }
-    ensures { λ r. ⌜ Filled (rowsBy s (observationsIn (now (watts .entry)) n)) (now (rows .entry)) start (now (rows .exit)) r ⌝ }
+    ensures { λ r. ⌜ FileRowsFilled (rowsBy s (observationsIn (now (watts .entry)) n)) (now (rows .entry)) start (now (rows .exit)) r ⌝ }
 {
     let mut at = start;
     let mut i = 0;
@@ -89,7 +89,7 @@ pub fn fill_series(
     at: usize,
 ) -> usize
     requires { ⌜ DeliveredIn (now book) (now volumes) × (at + 6 * longestMonth ≤ length (now rows)) ⌝ }
-    ensures { λ r. ⌜ Filled (seriesRowsOf (bookOf (now (book .entry))) (role .kind) (role .receiver) s) (now (rows .entry)) at (now (rows .exit)) r × (r ≤ at + 6 * longestMonth) ⌝ }
+    ensures { λ r. ⌜ FileRowsFilled (seriesRowsOf (bookOf (now (book .entry))) (role .kind) (role .receiver) s) (now (rows .entry)) at (now (rows .exit)) r × (r ≤ at + 6 * longestMonth) ⌝ }
 {
     let mut watts = [0u64; quarters::LONGEST_MONTH];
     series_watts(book, volumes, role, s, &mut watts);
@@ -107,7 +107,7 @@ pub fn fill_partner(
     rows: &mut [u64],
 ) -> usize
     requires { ⌜ DeliveredIn (now book) (now volumes) × (24 * longestMonth ≤ length (now rows)) ⌝ }
-    ensures { λ r. ⌜ Filled (partnerRowsOf (bookOf (now (book .entry))) (role .kind) (role .receiver) partner) (now (rows .entry)) 0 (now (rows .exit)) r × (r ≤ 24 * longestMonth) ⌝ }
+    ensures { λ r. ⌜ FileRowsFilled (partnerRowsOf (bookOf (now (book .entry))) (role .kind) (role .receiver) partner) (now (rows .entry)) 0 (now (rows .exit)) r × (r ≤ 24 * longestMonth) ⌝ }
 {
     let off = Supply::OffTake;
     let inj = Supply::Injection;

@@ -139,20 +139,20 @@ module _ (s : List ℕ) (t₀ : PartnersTodo) (c₀ : Cursor) (ys : List ℕ) wh
   Starts = Room (standing s c₀) (t₀ .rows)
 
   -- at the cursor h with t left and the numbers d
-  pub record Leads (h : Cursor) (t : PartnersTodo) (d : List ℕ) : Type 0 where
+  pub record PartnersLead (h : Cursor) (t : PartnersTodo) (d : List ℕ) : Type 0 where
     pub kind : t .kind ≡ t₀ .kind
     pub room : Room (standing s h) (t .rows)
     pub leads : (m : Mark) (v : (ℕ × ℕ) × ℕ) (o : List ℕ) → Rest s (t₀ .kind) (standing s h) (t .left) (t .low) ((t .year, t .month), t .rows) d m v o
         → Rest s (t₀ .kind) (standing s c₀) (t₀ .left) (t₀ .low) ((t₀ .year, t₀ .month), t₀ .rows) ys m v o
 
-  pub leads-first : Starts → Leads c₀ t₀ ys
+  pub leads-first : Starts → PartnersLead c₀ t₀ ys
   leads-first i = record { kind = refl; room = i; leads = λ m v o r. r }
 
   none-before : (m : Mark) → t₀ .rows ≡ 0 → Room m (t₀ .rows)
   none-before (At p) e = omega (arith, e)
   none-before No e = tt
 
-  pub leads-last : (h : Cursor) (t : PartnersTodo) (d : List ℕ) → (Starts → Leads h t d) → t .left ≡ 0 → PartnersWhole s t₀ c₀ ys h t d
+  pub leads-last : (h : Cursor) (t : PartnersTodo) (d : List ℕ) → (Starts → PartnersLead h t d) → t .left ≡ 0 → PartnersWhole s t₀ c₀ ys h t d
   leads-last h t d f e i =
       let l = f (none-before (standing s c₀) (i .3)) in
       let v : (ℕ × ℕ) × ℕ = ((t .year, t .month), t .rows) in
@@ -162,14 +162,14 @@ module _ (s : List ℕ) (t₀ : PartnersTodo) (c₀ : Cursor) (ys : List ℕ) wh
         partners-filled (t₀ .kind) (t₀ .left) (z .1),
       )
 
-  module _ (h : Cursor) (t : PartnersTodo) (d : List ℕ) (l : Leads h t d) (some : 0 < t .left) (d′ : List ℕ) (same : length d′ ≡ length d) (h′ : Cursor) (t′ : PartnersTodo) (z : PartnerTurned s t h d h′ t′ d′) where
+  module _ (h : Cursor) (t : PartnersTodo) (d : List ℕ) (l : PartnersLead h t d) (some : 0 < t .left) (d′ : List ℕ) (same : length d′ ≡ length d) (h′ : Cursor) (t′ : PartnersTodo) (z : PartnerTurned s t h d h′ t′ d′) where
     abbrev seen : (ℕ × ℕ) × ℕ
     seen = ((t .year, t .month), t .rows)
 
     turned : (m : Mark) → standing s h′ ≡ m → Parsed (mapParse (partnerKept seen) (partnerItem (t₀ .kind) (t .low, (t .year, t .month)) .parse)) s (standing s h) m (z .told)
-        → Fills (partnerItem (t₀ .kind) (t .low, (t .year, t .month)) .parse) rowsOfPartner s (standing s h) (t .rows) d d′ → PartnerOn m t (z .told) t′ → Leads h′ t′ d′
+        → Fills (partnerItem (t₀ .kind) (t .low, (t .year, t .month)) .parse) rowsOfPartner s (standing s h) (t .rows) d d′ → PartnerOn m t (z .told) t′ → PartnersLead h′ t′ d′
     turned (At q) e p f n =
-        subst (λ (u : PartnersTodo). Leads h′ u d′) (sym n) (record {
+        subst (λ (u : PartnersTodo). PartnersLead h′ u d′) (sym n) (record {
           kind = l .kind;
           room = z .room;
           leads = λ m v o r. l .leads m v o
@@ -177,7 +177,7 @@ module _ (s : List ℕ) (t₀ : PartnersTodo) (c₀ : Cursor) (ys : List ℕ) wh
               (subst (λ (k : Mark). Rest s (t₀ .kind) k (t .left - 1) (z .told .0 + 1) (z .told .1) d′ m v o) e r));
         })
     turned No e p f n =
-        subst (λ (u : PartnersTodo). Leads h′ u d′) (sym n) (record {
+        subst (λ (u : PartnersTodo). PartnersLead h′ u d′) (sym n) (record {
           kind = l .kind;
           room = rw e tt;
           leads = λ m v o r.
@@ -185,5 +185,5 @@ module _ (s : List ℕ) (t₀ : PartnersTodo) (c₀ : Cursor) (ys : List ℕ) wh
               l .leads m v o (rw (from-none m (w .0)) (rest-none s (t₀ .kind) (standing s h) (t .left) (t .low) seen d v o (z .told) some p (w .1 .keeps ∙ same)));
         })
 
-    pub leads-on : Leads h′ t′ d′
+    pub leads-on : PartnersLead h′ t′ d′
     leads-on = turned (standing s h′) refl (rw (l .kind) at (z .parsed)) (rw (l .kind) at (z .fills)) (z .next)

@@ -13,7 +13,7 @@ use Rattle.series_reader.specs.declared.elements.Todo.{Todo}
 use Rattle.series_reader.specs.ReadingInner.{inOrder}
 use Rattle.passages.specs.PassagesInner.{observationFound, observationTo}
 use Rattle.series_reader.specs.TurnsInner.{atFirst, After, Whole}
-use Rattle.series_reader.specs.TurnsLaws.{Leads, leads-first, leads-last, leads-on}
+use Rattle.series_reader.specs.TurnsLaws.{ObservationsLead, leads-first, leads-last, leads-on}
 use Rattle.series_reader.proofs.elements.Todo as S
 use Rattle.series_reader.proofs.elements.Todo.Laws as S′
 
@@ -22,7 +22,7 @@ pub record Turn (s : List ℕ) (w : Wanted) (c₀ : Cursor) (ys : List ℕ) : Ty
   pub h : Cursor
   pub todo : Todo
   pub cells : List ℕ
-  pub leads : Leads s w c₀ ys h todo cells
+  pub leads : ObservationsLead s w c₀ ys h todo cells
   pub len : length cells ≡ length ys
   pub good : Is S.the-row todo (S′.lowered todo ∷ [])
 
@@ -36,7 +36,7 @@ module _ {s : List ℕ} {w : Wanted} {c₀ : Cursor} {ys : List ℕ} where
   abbrev pub begins : (t : Todo) → t ≡ atFirst w → Is S.the-row t (S′.lowered t ∷ []) → Turn s w c₀ ys
   begins t e g = record { h = c₀; todo = t; cells = ys; leads = first t e; len = refl; good = g }
     where
-      first : (t : Todo) → t ≡ atFirst w → Leads s w c₀ ys c₀ t ys
+      first : (t : Todo) → t ≡ atFirst w → ObservationsLead s w c₀ ys c₀ t ys
       first t e = rw e (leads-first s w c₀ ys)
 
   pub made : (t : Turn s w c₀ ys) → t .todo .left ≡ 0 → Whole s w c₀ ys (standing s (t .h)) (t .cells)
@@ -50,7 +50,7 @@ module _ {s : List ℕ} {w : Wanted} {c₀ : Cursor} {ys : List ℕ} where
       (t .todo) (observationFound s (t .h) .position) (observationFound s (t .h) .whole * 1000 + observationFound s (t .h) .part) (t .cells) cs h t′
 
   module _ (t : Turn s w c₀ ys) (some : 0 < t .todo .left) (cs : List ℕ) (same : length cs ≡ length (t .cells)) (h : Cursor) (t′ : Todo) (said : Said t cs h t′) (good : Is S.the-row t′ (S′.lowered t′ ∷ [])) where
-    pub on : Leads s w c₀ ys h t′ cs × (t′ .left < t .todo .left)
+    pub on : ObservationsLead s w c₀ ys h t′ cs × (t′ .left < t .todo .left)
     on = leads-on s w c₀ ys (t .h) (t .todo) (t .cells) (t .leads) some cs same h t′ said
 
     abbrev pub next : Turn s w c₀ ys

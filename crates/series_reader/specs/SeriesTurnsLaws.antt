@@ -155,7 +155,7 @@ module _ (s : List ℕ) (t₀ : SeriesTodo) (c₀ : Cursor) (ys : List ℕ) wher
   Starts = (t₀ .supply ≤ 1) × Room (standing s c₀) (t₀ .rows)
 
   -- at the cursor h with t left and the numbers d
-  pub record Leads (h : Cursor) (t : SeriesTodo) (d : List ℕ) : Type 0 where
+  pub record SeriesLead (h : Cursor) (t : SeriesTodo) (d : List ℕ) : Type 0 where
     pub kind : t .kind ≡ t₀ .kind
     pub supply : t .supply ≡ t₀ .supply
     pub partner : t .partner ≡ t₀ .partner
@@ -163,10 +163,10 @@ module _ (s : List ℕ) (t₀ : SeriesTodo) (c₀ : Cursor) (ys : List ℕ) wher
     pub leads : (m : Mark) (v : (ℕ × ℕ) × ℕ) (o : List ℕ) → Rest s (t₀ .kind) (t₀ .supply) (t₀ .partner) (standing s h) (t .left) (t .low) (t .year, t .month) (t .rows) d m v o
         → Rest s (t₀ .kind) (t₀ .supply) (t₀ .partner) (standing s c₀) (t₀ .left) (t₀ .low) (t₀ .year, t₀ .month) (t₀ .rows) ys m v o
 
-  pub leads-first : Starts → Leads c₀ t₀ ys
+  pub leads-first : Starts → SeriesLead c₀ t₀ ys
   leads-first i = record { kind = refl; supply = refl; partner = refl; room = i .1; leads = λ m v o r. r }
 
-  pub leads-last : (h : Cursor) (t : SeriesTodo) (d : List ℕ) → (Starts → Leads h t d) → t .left ≡ 0 → SeriesWhole s t₀ c₀ ys h t d
+  pub leads-last : (h : Cursor) (t : SeriesTodo) (d : List ℕ) → (Starts → SeriesLead h t d) → t .left ≡ 0 → SeriesWhole s t₀ c₀ ys h t d
   leads-last h t d f e i =
       let l = f (i .0, i .2) in
       let v : (ℕ × ℕ) × ℕ = ((t .year, t .month), t .rows) in
@@ -178,13 +178,13 @@ module _ (s : List ℕ) (t₀ : SeriesTodo) (c₀ : Cursor) (ys : List ℕ) wher
         l .partner,
       )
 
-  module _ (h : Cursor) (t : SeriesTodo) (d : List ℕ) (l : Leads h t d) (some : 0 < t .left) (d′ : List ℕ) (same : length d′ ≡ length d) (h′ : Cursor) (t′ : SeriesTodo) (b : t₀ .supply ≤ 1) (z : SeriesTurned s t h d h′ t′ d′) where
+  module _ (h : Cursor) (t : SeriesTodo) (d : List ℕ) (l : SeriesLead h t d) (some : 0 < t .left) (d′ : List ℕ) (same : length d′ ≡ length d) (h′ : Cursor) (t′ : SeriesTodo) (b : t₀ .supply ≤ 1) (z : SeriesTurned s t h d h′ t′ d′) where
     abbrev Item : Mark → Type 0
     Item m = Parsed (mapParse outline (item (t₀ .kind) (t₀ .supply) (t .low, (t .year, t .month)) .parse)) s (standing s h) m (z .told)
 
-    turned : (m : Mark) → standing s h′ ≡ m → Item m → Fills (item (t₀ .kind) (t₀ .supply) (t .low, (t .year, t .month)) .parse) (rowsOfSeries (t₀ .partner)) s (standing s h) (t .rows) d d′ → SeriesOn m t (z .told) t′ → Leads h′ t′ d′
+    turned : (m : Mark) → standing s h′ ≡ m → Item m → Fills (item (t₀ .kind) (t₀ .supply) (t .low, (t .year, t .month)) .parse) (rowsOfSeries (t₀ .partner)) s (standing s h) (t .rows) d d′ → SeriesOn m t (z .told) t′ → SeriesLead h′ t′ d′
     turned (At q) e p f n =
-        subst (λ (u : SeriesTodo). Leads h′ u d′) (sym n) (record {
+        subst (λ (u : SeriesTodo). SeriesLead h′ u d′) (sym n) (record {
           kind = l .kind;
           supply = l .supply;
           partner = l .partner;
@@ -194,7 +194,7 @@ module _ (s : List ℕ) (t₀ : SeriesTodo) (c₀ : Cursor) (ys : List ℕ) wher
               (subst (λ (k : Mark). Rest s (t₀ .kind) (t₀ .supply) (t₀ .partner) k (t .left - 1) (placeIn (z .told) + 1) (z .told .1 .0) (t .rows + z .told .1 .1) d′ m v o) e r));
         })
     turned No e p f n =
-        subst (λ (u : SeriesTodo). Leads h′ u d′) (sym n) (record {
+        subst (λ (u : SeriesTodo). SeriesLead h′ u d′) (sym n) (record {
           kind = l .kind;
           supply = l .supply;
           partner = l .partner;
@@ -205,5 +205,5 @@ module _ (s : List ℕ) (t₀ : SeriesTodo) (c₀ : Cursor) (ys : List ℕ) wher
               (rw (from-none m (w .0)) (rest-none s (t₀ .kind) (t₀ .supply) (t₀ .partner) (standing s h) (t .left) (t .low) (t .year, t .month) (t .rows) d v o (z .told) some p (w .1 .keeps ∙ same)));
         })
 
-    pub leads-on : Leads h′ t′ d′
+    pub leads-on : SeriesLead h′ t′ d′
     leads-on = turned (standing s h′) refl (rw (l .kind, l .supply) at (z .parsed)) (rw (l .kind, l .supply, l .partner) at (z .fills)) (z .next)

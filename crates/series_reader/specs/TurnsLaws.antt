@@ -74,25 +74,25 @@ module _ (s : List ℕ) (year month : ℕ) (key : Key) where
 
 module _ (s : List ℕ) (w : Wanted) (c₀ : Cursor) (ys : List ℕ) where
   -- at the cursor h with t left and the numbers d
-  pub record Leads (h : Cursor) (t : Todo) (d : List ℕ) : Type 0 where
+  pub record ObservationsLead (h : Cursor) (t : Todo) (d : List ℕ) : Type 0 where
     pub last : t .last ≡ lastPosition (w .year) (w .month)
     pub key : t .key ≡ w .key
     pub leads : (m : Mark) (o : List ℕ) → Within s m → Rest s (w .year) (w .month) (w .key) (standing s h) (t .left) (t .behind) (t .rows) d m o → Whole s w c₀ ys m o
 
-  pub leads-first : Leads c₀ (atFirst w) ys
+  pub leads-first : ObservationsLead c₀ (atFirst w) ys
   leads-first = record { last = refl; key = refl; leads = λ m o h r. rest-first s (w .year) (w .month) (w .key) (standing s c₀) (w .count) (w .rows) ys m o h r }
 
-  pub leads-last : (h : Cursor) (t : Todo) (d : List ℕ) → Leads h t d → t .left ≡ 0 → Whole s w c₀ ys (standing s h) d
+  pub leads-last : (h : Cursor) (t : Todo) (d : List ℕ) → ObservationsLead h t d → t .left ≡ 0 → Whole s w c₀ ys (standing s h) d
   leads-last h t d l e = l .leads (standing s h) d (standing-within s h) (rw e (rest-last s (w .year) (w .month) (w .key) (standing s h) (t .behind) (t .rows) d))
 
-  module _ (h : Cursor) (t : Todo) (d : List ℕ) (l : Leads h t d) (some : 0 < t .left) (d′ : List ℕ) (same : length d′ ≡ length d) (h′ : Cursor) (t′ : Todo) where
+  module _ (h : Cursor) (t : Todo) (d : List ℕ) (l : ObservationsLead h t d) (some : 0 < t .left) (d′ : List ℕ) (same : length d′ ≡ length d) (h′ : Cursor) (t′ : Todo) where
     abbrev position : ℕ
     position = observationFound s h .position
 
     abbrev watts : ℕ
     watts = observationFound s h .whole * 1000 + observationFound s h .part
 
-    turns : (k : Mark) → Within s k → Parsed (observing (lastPosition (w .year) (w .month)) (t .behind + 1)) s (standing s h) k (observed (position, watts)) → After k t position watts d d′ h′ t′ → Leads h′ t′ d′ × (t′ .left < t .left)
+    turns : (k : Mark) → Within s k → Parsed (observing (lastPosition (w .year) (w .month)) (t .behind + 1)) s (standing s h) k (observed (position, watts)) → After k t position watts d d′ h′ t′ → ObservationsLead h′ t′ d′ × (t′ .left < t .left)
     turns (At q) here p a = (
       record {
         last = a .3 ∙ l .last;
@@ -116,7 +116,7 @@ module _ (s : List ℕ) (w : Wanted) (c₀ : Cursor) (ys : List ℕ) where
       omega (arith, a .1, some),
     )
 
-    pub leads-on : ((0 < t .left) × (observationFound s h .whole ≤ 999999999) × (observationFound s h .part < 1000) → After (keep (inOrder (t .behind + 1) (t .last) (position, watts)) (standing s (observationTo s h))) t position watts d d′ h′ t′) → Leads h′ t′ d′ × (t′ .left < t .left)
+    pub leads-on : ((0 < t .left) × (observationFound s h .whole ≤ 999999999) × (observationFound s h .part < 1000) → After (keep (inOrder (t .behind + 1) (t .last) (position, watts)) (standing s (observationTo s h))) t position watts d d′ h′ t′) → ObservationsLead h′ t′ d′ × (t′ .left < t .left)
     leads-on f =
         let p = observing-parsed (t .last) (t .behind + 1) s (standing s h) (standing s (observationTo s h)) (position, watts) (observation-read s h) in
         turns (keep (inOrder (t .behind + 1) (t .last) (position, watts)) (standing s (observationTo s h))) (p .within) (rw (← l .last) p) (f (some, observation-fits s h .0, observation-fits s h .1))

@@ -19,7 +19,7 @@ use Rattle.volumes.specs.Settlement.{neededBy, needed, rowsOf}
 use Rattle.volumes.specs.SettlementLaws.{settles}
 use Rattle.volumes.specs.QuartersLaws.{map-range-cong}
 use Rattle.baseline.specs.ShownLaws.{start-at}
-use Rattle.baseline.specs.FilledInner.{Unrefused, Filled}
+use Rattle.baseline.specs.FilledInner.{Unrefused, LevelsFilled}
 use Rattle.settlement.specs.RowsInner.{readingsFrom, rowsFrom}
 use Rattle.settlement.specs.RowsLaws.{rows-from}
 
@@ -39,7 +39,7 @@ module _ {c : Calendar} {calendar readings : List ℕ} {point : Point} {e : Enga
       ap complete (map-range-cong (λ k. readingAt readings (first + k)) (ownReading book e) 0 (e .count) (λ k _ _. own-at first f k))
       ∙ both (complete own) (complete other) (sym (complete-append own other) ∙ settles book e (s .good) .known) .0
 
-  pub rows-are : {before : List ℕ} (levels : List ℕ) (first : ℕ) → Filled c calendar readings point e x y before levels → first ≡ originOf c (e .point) + start c e → rowsFrom e point levels readings first ≡ rowsOf book e
+  pub rows-are : {before : List ℕ} (levels : List ℕ) (first : ℕ) → LevelsFilled c calendar readings point e x y before levels → first ≡ originOf c (e .point) + start c e → rowsFrom e point levels readings first ≡ rowsOf book e
   rows-are levels first f g =
       ap (λ (p : Point). rowsFrom e p levels readings first) (sym (s .shows .owner))
       ∙ rows-from book e levels readings first (f .levels book s) (λ k h. own-at first g k)

@@ -3,7 +3,7 @@ use mathlib.Core.Path.{_≡_, refl, subst, _∙_}
 use Prim.Native.Nat.{ℕ, _+_, _-_, _≤_}
 use lib.ListN.{length, length-set}
 use Rattle.baseline.specs.RunsInner.{daysIn, dayRuns}
-use Rattle.baseline.specs.FillsInner.{Raises, Fills}
+use Rattle.baseline.specs.FillsInner.{Raises, FillsLevels}
 use Rattle.baseline.specs.FillsLaws.{fills-none, fills-more, raises}
 use borrow.Author.Needs.{needs}
 use native.Mathlib.Omega.{arith}
@@ -11,7 +11,7 @@ use Rattle.baseline.proofs.fill.fill_means.Statement.{statement}
 use Rattle.baseline.proofs.fill.fill_means.Tie as tie
 
 abbrev Inv-loop : tie.InvT-loop
-Inv-loop c readings keys x origin e add levels₀ n k₀ levels k = (k ≤ n) × (length levels ≡ length levels₀) × Fills (λ (j : ℕ). Raises (dayRuns readings c e origin j 0 1 (daysIn keys x)) x add) k levels₀ levels
+Inv-loop c readings keys x origin e add levels₀ n k₀ levels k = (k ≤ n) × (length levels ≡ length levels₀) × FillsLevels (λ (j : ℕ). Raises (dayRuns readings c e origin j 0 1 (daysIn keys x)) x add) k levels₀ levels
 
 abbrev μ-loop : tie.MeasureT-loop
 μ-loop c readings keys x origin e add levels₀ n k₀ levels k = n - k
@@ -61,7 +61,7 @@ returns c =
     let l = c .before in
     let s = l .before .before .before .before .before .args in
     let all : l .loop .k ≡ s .e .count = omega arith in
-    subst (λ (n : ℕ). Fills (λ (j : ℕ). Raises (dayRuns (s .readings .now) (s .c) (s .e) (s .origin) j 0 1 (daysIn (s .keys .now) (s .x))) (s .x) (s .add)) n (s .levels .now) (l .loop .levels)) all (l .loop .inv .2)
+    subst (λ (n : ℕ). FillsLevels (λ (j : ℕ). Raises (dayRuns (s .readings .now) (s .c) (s .e) (s .origin) j 0 1 (daysIn (s .keys .now) (s .x))) (s .x) (s .add)) n (s .levels .now) (l .loop .levels)) all (l .loop .inv .2)
 
 pub fill-means-spec : {M : Type 1} → statement M
 fill-means-spec =

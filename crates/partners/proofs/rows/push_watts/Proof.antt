@@ -4,13 +4,13 @@ use Prim.Native.Nat.{_-_, _≤_}
 use borrow.Author.Needs.{needs}
 use native.Mathlib.Omega.{arith}
 use Rattle.partners.specs.ObservationsInner.{observationsIn}
-use Rattle.partners.specs.PartnerRowsInner.{rowsBy, Filled}
+use Rattle.partners.specs.PartnerRowsInner.{rowsBy, FileRowsFilled}
 use Rattle.partners.specs.PartnerRowsLaws.{filled-is, filled-none, filled-then, filled-length, positions-none, positions-more, positions-few}
 use Rattle.partners.proofs.rows.push_watts.Statement.{statement}
 use Rattle.partners.proofs.rows.push_watts.Tie as tie
 
 abbrev Inv-loop : tie.InvT-loop
-Inv-loop rows₀ start s watts n at₀ i₀ rows at i = (i ≤ n) × Filled (rowsBy s (observationsIn watts i)) rows₀ start rows at
+Inv-loop rows₀ start s watts n at₀ i₀ rows at i = (i ≤ n) × FileRowsFilled (rowsBy s (observationsIn watts i)) rows₀ start rows at
 
 abbrev μ-loop : tie.MeasureT-loop
 μ-loop rows₀ start s watts n at₀ i₀ rows at i = n - i

@@ -25,7 +25,7 @@ use Rattle.reader.specs.declared.partners.PartnersTodo.{PartnersTodo}
 use Rattle.reader.proofs.partners.PartnersTodo as T-PartnersTodo
 use Rattle.reader.proofs.partners.PartnersTodo.Laws as L-PartnersTodo
 use Rattle.reader.specs.PartnerTurnsInner.{PartnerStep, PartnersWhole}
-use Rattle.reader.specs.PartnerTurnsLaws.{Starts, Leads, leads-first, leads-last, leads-on}
+use Rattle.reader.specs.PartnerTurnsLaws.{Starts, PartnersLead, leads-first, leads-last, leads-on}
 use Rattle.reader.proofs.partners.partner as one
 use Rattle.reader.proofs.partners.partner.Symbol as one-def
 use Rattle.reader.proofs.partners.partner.Symbol.{name as #one}
@@ -41,7 +41,7 @@ record Turn (s : List ℕ) (t₀ : PartnersTodo) (c₀ : Cursor) (ys : List ℕ)
   pub h : Cursor
   pub todo : PartnersTodo
   pub cells : List ℕ
-  pub leads : Starts s t₀ c₀ ys → Leads s t₀ c₀ ys h todo cells
+  pub leads : Starts s t₀ c₀ ys → PartnersLead s t₀ c₀ ys h todo cells
   pub len : length cells ≡ length ys
   pub good : Is T-PartnersTodo.the-row todo (LL.val T-PartnersTodo.the-type L-PartnersTodo.the-laws todo ∷ [])
 
@@ -59,7 +59,7 @@ module _ {s : List ℕ} {t₀ : PartnersTodo} {c₀ : Cursor} {ys : List ℕ} wh
   made t e = leads-last s t₀ c₀ ys (t .h) (t .todo) (t .cells) (t .leads) e
 
   module _ (t : Turn s t₀ c₀ ys) (some : 0 < t .todo .left) (cs : List ℕ) (same : length cs ≡ length (t .cells)) (h : Cursor) (t′ : PartnersTodo) (said : PartnerStep s (t .todo) (t .h) (t .cells) h t′ cs) (good : Is T-PartnersTodo.the-row t′ (LL.val T-PartnersTodo.the-type L-PartnersTodo.the-laws t′ ∷ [])) where
-    on : Starts s t₀ c₀ ys → Leads s t₀ c₀ ys h t′ cs
+    on : Starts s t₀ c₀ ys → PartnersLead s t₀ c₀ ys h t′ cs
     on i = let l = t .leads i in leads-on s t₀ c₀ ys (t .h) (t .todo) (t .cells) l some cs same h t′ (said .1 (l .room))
 
     abbrev next : Turn s t₀ c₀ ys

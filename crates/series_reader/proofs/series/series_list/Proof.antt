@@ -26,7 +26,7 @@ use Rattle.series_reader.specs.declared.series.SeriesTodo.{SeriesTodo}
 use Rattle.series_reader.proofs.series.SeriesTodo as T-SeriesTodo
 use Rattle.series_reader.proofs.series.SeriesTodo.Laws as L-SeriesTodo
 use Rattle.series_reader.specs.SeriesTurnsInner.{SeriesStep, SeriesWhole}
-use Rattle.series_reader.specs.SeriesTurnsLaws.{Starts, Leads, leads-first, leads-last, leads-on}
+use Rattle.series_reader.specs.SeriesTurnsLaws.{Starts, SeriesLead, leads-first, leads-last, leads-on}
 use Rattle.series_reader.proofs.series.series as one
 use Rattle.series_reader.proofs.series.series.Symbol as one-def
 use Rattle.series_reader.proofs.series.series.Symbol.{name as #one}
@@ -42,7 +42,7 @@ record Turn (s : List ℕ) (t₀ : SeriesTodo) (c₀ : Cursor) (ys : List ℕ) :
   pub h : Cursor
   pub todo : SeriesTodo
   pub cells : List ℕ
-  pub leads : Starts s t₀ c₀ ys → Leads s t₀ c₀ ys h todo cells
+  pub leads : Starts s t₀ c₀ ys → SeriesLead s t₀ c₀ ys h todo cells
   pub len : length cells ≡ length ys
   pub good : Is T-SeriesTodo.the-row todo (LL.val T-SeriesTodo.the-type L-SeriesTodo.the-laws todo ∷ [])
 
@@ -60,7 +60,7 @@ module _ {s : List ℕ} {t₀ : SeriesTodo} {c₀ : Cursor} {ys : List ℕ} wher
   made t e = leads-last s t₀ c₀ ys (t .h) (t .todo) (t .cells) (t .leads) e
 
   module _ (t : Turn s t₀ c₀ ys) (some : 0 < t .todo .left) (cs : List ℕ) (same : length cs ≡ length (t .cells)) (h : Cursor) (t′ : SeriesTodo) (said : SeriesStep s (t .todo) (t .h) (t .cells) h t′ cs) (good : Is T-SeriesTodo.the-row t′ (LL.val T-SeriesTodo.the-type L-SeriesTodo.the-laws t′ ∷ [])) where
-    on : Starts s t₀ c₀ ys → Leads s t₀ c₀ ys h t′ cs
+    on : Starts s t₀ c₀ ys → SeriesLead s t₀ c₀ ys h t′ cs
     on i = let l = t .leads i in leads-on s t₀ c₀ ys (t .h) (t .todo) (t .cells) l some cs same h t′ (i .0) (said .1 (subst (λ (n : ℕ). n ≤ 1) (sym (l .supply)) (i .0), l .room))
 
     abbrev next : Turn s t₀ c₀ ys
