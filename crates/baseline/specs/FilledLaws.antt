@@ -23,7 +23,6 @@ use Rattle.book.specs.declared.Method.the-variants.{LastQuarter, HighXOfY, Adju
 use Rattle.quarters.specs.Quarters.{originOf}
 use Rattle.book.specs.Book.{Book}
 use Rattle.volumes.specs.Quarters.{start, reference}
-use Rattle.volumes.specs.QuartersLaws.{length-flatMap}
 use Rattle.volumes.specs.Baseline.{pointOf, watts, known, complete, mean, dayReading, dayWindow, ownWindow, lastReading, taken, high, addend, baselineBy, baseline, eligibleDays, yOf}
 use Rattle.volumes.specs.BaselineLaws.{window-12}
 use Rattle.volumes.specs.Settlement.{tooFew}
@@ -43,6 +42,7 @@ use Rattle.baseline.specs.FilledInner.{Unrefused}
 use Rattle.integers.specs.AllLaws.{all-at}
 use Rattle.quarters.specs.QuartersInner.{longestDay}
 use Rattle.wire.specs.ReadingsInner.{raise}
+use Rattle.integers.specs.ListsLaws.{length-flatMap}
 
 enough : (book : Book) (e : Engagement) (m : Method) → looksBack m ≡ true → tooFew m (yOf book e) (length (eligibleDays book e)) ≡ false → yOf book e ≤ length (eligibleDays book e)
 unfolding looksBack tooFew

@@ -1,12 +1,11 @@
 -- One place more is filled; a mean and an addend are a raised baseline.
 use mathlib.Core.Path.{_≡_, refl, sym, ap, subst, _∙_}
-use mathlib.Core.List.{List, [], _∷_, _++_}
-use Prim.Native.Nat.{ℕ, suc, _+_, _≤_, _<_, _*_}
-use native.Mathlib.Numerals.{add-one}
+use mathlib.Core.List.{List, _++_}
+use Prim.Native.Nat.{ℕ, _+_, _≤_, _<_, _*_}
 use native.Mathlib.Omega.{arith}
 use borrow.Author.Count.{below-more}
-use lib.ListN.{length, getD, set, drop, replicate, length-replicate, getD-replicate, replicate-append-replicate, List·getD-append}
-use lib.Seq.{getD-set-same, getD-set-other, drop-set-lt, drop-drop, drop-cons, drop-at, set-at, append-snoc}
+use lib.ListN.{length, getD, set, drop, replicate, length-replicate, getD-replicate, List·getD-append}
+use lib.Seq.{getD-set-same, getD-set-other, drop-set-lt, drop-drop, drop-at}
 use Rattle.integers.specs.ZLaws.{over-add}
 use Rattle.grains.specs.Grains.{grains}
 use Rattle.wire.specs.declared.Reading.{Reading}
@@ -27,18 +26,6 @@ fills-more P before l k v h f p =
           (subst (P k) (sym (getD-set-same l k v 0 h)) p);
       rest = drop-set-lt (k + 1) l k v (omega arith) ∙ sym (drop-drop 1 k l) ∙ ap (drop 1) (f .rest) ∙ drop-drop 1 k before;
     }
-
--- the place behind those that are stored is the next one
-pub next-cell : {A : Type 0} (stored l : List A) (i : ℕ) (x : A) → length stored ≡ i → i < length l → set (stored ++ drop i l) i x ≡ stored ++ (x ∷ []) ++ drop (i + 1) l
-next-cell stored l i x e h =
-    ap (λ m. set (stored ++ m) i x) (drop-cons l i x h)
-    ∙ set-at stored (getD l i x) (drop (suc i) l) x i e
-    ∙ sym (append-snoc stored x (drop (suc i) l))
-    ∙ rw add-one
-
--- one place more that holds the same
-pub same-next : {A : Type 0} (l : List A) (i : ℕ) (v : A) → i < length l → set (replicate i v ++ drop i l) i v ≡ replicate (i + 1) v ++ drop (i + 1) l
-same-next l i v h = next-cell (replicate i v) l i v (length-replicate i v) h ∙ rw (replicate-append-replicate i 1 v)
 
 pub same-fills : (n v : ℕ) (before after : List ℕ) → after ≡ replicate n v ++ drop n before → FillsLevels (λ k u. u ≡ v) n before after
 same-fills n v before after e =

@@ -12,12 +12,12 @@ use Rattle.wire.specs.declared.Reading.{Reading}
 use Rattle.quarters.specs.declared.Calendar.{Calendar}
 use Rattle.book.specs.declared.Engagement.{Engagement}
 use Rattle.volumes.specs.Quarters.{quarterHours, referenceQuarter, reference}
-use Rattle.volumes.specs.QuartersLaws.{flatMap-append, map-range-cong}
 use Rattle.baseline.specs.declared.tally.Tally.{Tally}
 use Rattle.baseline.specs.TallyInner.{inRun, Tallied}
 use Rattle.baseline.specs.TallyLaws.{tally-append}
 use Rattle.baseline.specs.RunsInner.{standing, daysIn, dayRun, dayRuns}
-use Rattle.integers.specs.RangesLaws.{range-shift}
+use Rattle.integers.specs.RangesLaws.{range-shift, map-range-cong}
+use Rattle.integers.specs.ListsLaws.{flatMap-append}
 
 flatMap-one : {A B : Type 0} (f : A → List B) (a : A) → flatMap f (a ∷ []) ≡ f a
 unfolding flatMap

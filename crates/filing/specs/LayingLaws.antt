@@ -11,7 +11,6 @@ use borrow.Author.Tests.{ltb-true, ltb-false}
 use Rattle.book.specs.Header.{registerSection}
 use Rattle.book.specs.Judged.{refusalOf}
 use Rattle.book.specs.Book.{Book, bookOf}
-use Rattle.volumes.specs.QuartersLaws.{flatMap-append}
 use Rattle.volumes.specs.Series.{Kind}
 use Rattle.message.specs.Bytes.{partnerBytes}
 use Rattle.emitter.specs.PartsInner.{fileHead, fileEnd}
@@ -22,6 +21,7 @@ use Rattle.partners.specs.PartnersInner.{pointsIn, partnerColumn, noPartner, Ne
 use Rattle.partners.specs.PartnersLaws.{points-in, partners-next, partners-end}
 use Rattle.formats.specs.declared.Mark.{Mark}
 use Rattle.emitter.specs.LaidLaws.{Laid, ahead}
+use Rattle.integers.specs.ListsLaws.{flatMap-append}
 
 -- ---- all partners
 

@@ -11,6 +11,7 @@ pub mod First
 pub mod FirstLaws
 pub mod Ranges
 pub mod RangesLaws
+pub mod ListsLaws
 pub mod Rises
 pub mod RisesLaws
 pub mod All

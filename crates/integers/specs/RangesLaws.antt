@@ -1,7 +1,7 @@
 -- Numbers in a row: how many there are, which stands where, one more at the end, another start.
-use mathlib.Core.Path.{_≡_, refl, ap, _∙_}
-use mathlib.Core.List.{List, [], _∷_, _++_, map, List·Memᴰ, List·Memᴰ·head, List·Memᴰ·tail}
-use Prim.Native.Nat.{ℕ, zero, suc, _+_, _<_}
+use mathlib.Core.Path.{_≡_, refl, ap, ap₂, _∙_}
+use mathlib.Core.List.{List, [], _∷_, _++_, map, List·Memᴰ, List·Memᴰ·head, List·Memᴰ·tail, map-append}
+use Prim.Native.Nat.{ℕ, zero, suc, _+_, _<_, _≤_}
 use native.Mathlib.Omega.{arith}
 use lib.ListN.{length, getD}
 use Rattle.integers.specs.Ranges.{range}
@@ -17,14 +17,24 @@ getD-range a zero i d h = absurd (omega arith)
 getD-range a (suc n) zero d h = omega arith
 getD-range a (suc n) (suc i) d h = let e = getD-range (suc a) n i d (omega arith) in omega (arith, e)
 
--- one number more
-pub range-more : (a n : ℕ) → range a (n + 1) ≡ range a n ++ ((a + n) ∷ [])
+-- one number more, at the end
+pub range-next : (a n : ℕ) → range a (suc n) ≡ range a n ++ ((a + n) ∷ [])
 unfolding range
-range-more a zero = let e : a + 0 ≡ a = omega arith in rw e
-range-more a (suc n) =
-    let s : suc n + 1 ≡ suc (n + 1) = omega arith in
-    let e : suc a + n ≡ a + suc n = omega arith in
-    rw s (ap (λ (l : List ℕ). a ∷ l) (range-more (suc a) n ∙ ap (λ (k : ℕ). range (suc a) n ++ (k ∷ [])) e))
+range-next a zero = ap (λ m. m ∷ []) (omega arith)
+range-next a (suc n) = ap (λ l. a ∷ l) (range-next (suc a) n ∙ ap (λ m. range (suc a) n ++ (m ∷ [])) (omega arith))
+
+module _ {ℓ} {A : Type ℓ} where
+  pub map-range-next : (f : ℕ → A) (a n : ℕ) → map f (range a (suc n)) ≡ map f (range a n) ++ (f (a + n) ∷ [])
+  map-range-next f a n = ap (map f) (range-next a n) ∙ map-append f (range a n) ((a + n) ∷ [])
+
+  -- functions that agree on the numbers
+  pub map-range-cong : (f g : ℕ → A) (a n : ℕ) → ((i : ℕ) → a ≤ i → i < a + n → f i ≡ g i) → map f (range a n) ≡ map g (range a n)
+  unfolding range
+  map-range-cong f g a zero h = refl
+  map-range-cong f g a (suc n) h = ap₂ _∷_ (h a (omega arith) (omega arith)) (map-range-cong f g (suc a) n (λ i p q. h i (omega arith) (omega arith)))
+
+pub range-more : (a n : ℕ) → range a (n + 1) ≡ range a n ++ ((a + n) ∷ [])
+range-more a n = let s : n + 1 ≡ suc n = omega arith in rw s (range-next a n)
 
 -- counted from another start
 pub range-shift : {A : Type 0} (f : ℕ → A) (a b n : ℕ) → map (λ k. f (a + k)) (range b n) ≡ map f (range (a + b) n)

@@ -1,18 +1,18 @@
 -- How long a valid file is: a row takes at least 69 and at most 86 bytes, a partner beside its rows at most 1,769, and the rest at most 302.
-use mathlib.Core.Path.{_≡_, refl}
-use mathlib.Core.Bool.{Bool, true, false, _&&_}
+use mathlib.Core.Path.{_≡_}
+use mathlib.Core.Bool.{true, _&&_}
 use mathlib.Core.List.{List, [], _∷_, map, flatMap}
-use Prim.Native.Nat.{ℕ, zero, suc, _+_, _*_, _/_, _^_, _≤_, _<_}
+use Prim.Native.Nat.{ℕ, zero, suc, _+_, _*_, _/_, _≤_, _<_}
 use lib.Dec.{leb}
 use lib.ListN.{length, length-append, length-map}
 use native.Mathlib.Omega.{arith}
-use borrow.Author.Tests.{leb-true, leb-false}
+use borrow.Author.Tests.{leb-true}
 use Rattle.integers.specs.TestsLaws.{and-left, and-right}
-use Rattle.integers.specs.Rises.{rises}
+use Rattle.integers.specs.RisesLaws.{rises-few}
 use Rattle.integers.specs.All.{All}
 use Rattle.text.specs.Ascii.{bytes}
-use Rattle.text.specs.Decimal.{count, fixed, plain}
-use Rattle.text.specs.DecimalLaws.{above-none, below-within, length-fixed, length-plain, plain-has}
+use Rattle.text.specs.Decimal.{fixed, plain}
+use Rattle.text.specs.DecimalLaws.{length-fixed, few-digits}
 use Rattle.formats.specs.Words.{wordAt}
 use Rattle.moments.specs.Moments.{periodStart, periodEnd}
 use Rattle.moments.specs.MomentsLaws.{length-moment}
@@ -27,28 +27,10 @@ use Rattle.message.specs.SeriesForm.{position-small}
 use Rattle.message.specs.FileForm.{moment-length}
 use Rattle.message.specs.Group.{spread}
 use Rattle.message.specs.Rows.{seriesRows, partnerRows, rowsOf}
-use Rattle.integers.specs.AllLaws.{all-map}
+use Rattle.integers.specs.AllLaws.{all-map, all-of-map}
 use Rattle.quarters.specs.QuartersInner.{longestMonth}
 
 -- ---- numbers
-
-pub few-digits : (n v : ℕ) → 1 ≤ n → v < 10 ^ n → length (plain v) ≤ n
-few-digits n v k h = go (leb (suc (count v (v / 10))) n) refl
-  where
-    go : (b : Bool) → leb (suc (count v (v / 10))) n ≡ b → length (plain v) ≤ n
-    go true e = omega (arith, length-plain v, leb-true (suc (count v (v / 10))) n e)
-    go false e =
-        let c = count v (v / 10) in
-        let m : n ≤ c = omega (arith, leb-false (suc c) n e) in
-        absurd (omega (arith, above-none c v (below-within c n v m (above-none n v h)), plain-has v .lead (omega arith)))
-
--- numbers that rise from `low` on and stay below `top` are few
-rises-few : {A : Type 0} (key : A → ℕ) (top low : ℕ) (l : List A) → low ≤ top → rises low (map key l) ≡ true → All (λ a. key a < top) l → low + length l ≤ top
-unfolding rises All
-rises-few key top low [] h r a = omega arith
-rises-few key top low (x ∷ l) h r a =
-    let b = leb-true low (key x) (and-left (leb low (key x)) (rises (suc (key x)) (map key l)) r) in
-    omega (arith, rises-few key top (suc (key x)) l (a .0) (and-right (leb low (key x)) (rises (suc (key x)) (map key l)) r) (a .1))
 
 -- ---- an observation
 
@@ -142,7 +124,7 @@ module _ (k : Kind) where
 -- two directions of supply and two of delivery
 four-series : (k : Kind) (p : Partner) → IsPartner k p → length (p .series) ≤ 4
 four-series k p v =
-    omega (arith, rises-few place 4 0 (p .series) (omega arith) (v .rising) (all-map (λ s h. omega (arith, h .supply, h .volume .delivery)) (p .series) (v .each)))
+    omega (arith, length-map (p .series) place, rises-few 0 4 (map place (p .series)) (omega arith) (v .rising) (all-of-map (λ n. n < 4) place (p .series) (all-map (λ s h. omega (arith, h .supply, h .volume .delivery)) (p .series) (v .each))))
 
 length-partner : (k : Kind) (p : Partner) → length (partnerBytes k p) ≡ length (element (group k) (element (partner k) (fixed (digits k) (p .number)))) + length (withPartner k (supplyBytes (supplyOf (p .series)))) + 37 + length (plain (length (p .series))) + length (flatMap (seriesBytes k) (p .series))
 unfolding partnerBytes opening ending closing bytes

@@ -1,12 +1,13 @@
 -- Moments: bytes that are judged real are a real moment's and no other's, and a real moment's bytes are judged so.
 use mathlib.Core.Path.{_≡_, refl, sym, _∙_, ap}
-use mathlib.Core.Bool.{Bool, true, false, _&&_, false≢true}
+use mathlib.Core.Bool.{Bool, true, false, _&&_}
 use mathlib.Core.List.{List, [], _++_, append-nil}
 use Prim.Native.Nat.{ℕ, _+_, _*_, _^_, _≤_, _<_}
 use native.Mathlib.Omega.{arith}
 use borrow.Author.Tests.{eqb-true, leb-true, eq-eqb, ne-eqb}
 use lib.Dec.{eqb, leb}
 use lib.ListN.{length, take, drop, drop-of-length-le}
+use Rattle.integers.specs.TestsLaws.{both}
 use Rattle.text.specs.Ascii.{bytes}
 use Rattle.text.specs.Decimal.{above, fixed, fixedAt}
 use Rattle.text.specs.DecimalLaws.{digits-fixed, value-fixed}
@@ -26,10 +27,6 @@ pub length-moment : (m : Moment) → length (momentBytes m) ≡ 29
 unfolding momentBytes dateBytes timeBytes tailBytes fixed bytes
 length-moment m = refl
 
-pub and-both : (a b : Bool) → (a && b) ≡ true → (a ≡ true) × (b ≡ true)
-and-both true b e = (refl, e)
-and-both false b e = absurd (false≢true e)
-
 -- what a real moment's numbers are
 pub record RealMoment (m : Moment) : Type 0 where
   pub from : 2018 ≤ m .year
@@ -46,15 +43,15 @@ pub record RealMoment (m : Moment) : Type 0 where
 pub real-is : (m : Moment) → real m ≡ true → RealMoment m
 unfolding real realDate realTime
 real-is m e =
-    let all = and-both (realDate (m .year) (m .month) (m .day) && realTime (m .hour) (m .minute) (m .second) (m .milli)) (within 1 (m .offset) 2) e in
-    let date-time = and-both (realDate (m .year) (m .month) (m .day)) (realTime (m .hour) (m .minute) (m .second) (m .milli)) (all .0) in
-    let date = and-both (within 2018 (m .year) 2099) (within 1 (m .day) (monthLength (m .year) (m .month))) (date-time .0) in
-    let year = and-both (leb 2018 (m .year)) (leb (m .year) 2099) (date .0) in
-    let day = and-both (leb 1 (m .day)) (leb (m .day) (monthLength (m .year) (m .month))) (date .1) in
-    let h-m-s = and-both (leb (m .hour) 23 && leb (m .minute) 59 && leb (m .second) 59) (leb (m .milli) 999) (date-time .1) in
-    let h-m = and-both (leb (m .hour) 23 && leb (m .minute) 59) (leb (m .second) 59) (h-m-s .0) in
-    let h = and-both (leb (m .hour) 23) (leb (m .minute) 59) (h-m .0) in
-    let off = and-both (leb 1 (m .offset)) (leb (m .offset) 2) (all .1) in
+    let all = both (realDate (m .year) (m .month) (m .day) && realTime (m .hour) (m .minute) (m .second) (m .milli)) (within 1 (m .offset) 2) e in
+    let date-time = both (realDate (m .year) (m .month) (m .day)) (realTime (m .hour) (m .minute) (m .second) (m .milli)) (all .0) in
+    let date = both (within 2018 (m .year) 2099) (within 1 (m .day) (monthLength (m .year) (m .month))) (date-time .0) in
+    let year = both (leb 2018 (m .year)) (leb (m .year) 2099) (date .0) in
+    let day = both (leb 1 (m .day)) (leb (m .day) (monthLength (m .year) (m .month))) (date .1) in
+    let h-m-s = both (leb (m .hour) 23 && leb (m .minute) 59 && leb (m .second) 59) (leb (m .milli) 999) (date-time .1) in
+    let h-m = both (leb (m .hour) 23 && leb (m .minute) 59) (leb (m .second) 59) (h-m-s .0) in
+    let h = both (leb (m .hour) 23) (leb (m .minute) 59) (h-m .0) in
+    let off = both (leb 1 (m .offset)) (leb (m .offset) 2) (all .1) in
     record {
       from = leb-true 2018 (m .year) (year .0);
       to = leb-true (m .year) 2099 (year .1);

@@ -23,11 +23,11 @@ use Rattle.refusals.specs.Buffers.{over, afterwards}
 use Rattle.reports.specs.Calls.{textOf, fileRefusal, fileSays, fileAnswer, FileCalled}
 use Rattle.kinds.specs.Numbers.{kindNumbered}
 use Rattle.message.specs.CallsLaws.{written-over}
-use Rattle.message.specs.SizeLaws.{few-digits}
 use Rattle.reports.specs.declared.FileAnswer.{FileAnswer}
 use Rattle.reports.specs.declared.FileAnswer.the-variants.{File, Refused}
 use Rattle.outputs.specs.Output.{inputMost, rowsLent, fileLent, refusedLine, fileFor, refusalFor, judged, fileIn, rowsIn, output, Printed}
 use Rattle.requests.specs.LineInner.{asked, requestOf}
+use Rattle.text.specs.DecimalLaws.{few-digits}
 
 -- a number of 64 bits has at most 20 digits
 pub digits-few : (v : ℕ) → v < 2 ^ 64 → length (plain v) ≤ 20

@@ -12,7 +12,6 @@ use Rattle.quarters.specs.Quarters.{monthQuarters}
 use Rattle.quarters.specs.QuartersLaws.{month-quarters-most}
 use Rattle.book.specs.Header.{calendarOf}
 use Rattle.book.specs.Book.{Book, bookOf}
-use Rattle.volumes.specs.QuartersLaws.{map-range-cong}
 use Rattle.volumes.specs.SettlementLaws.{passing}
 use Rattle.volumes.specs.declared.Series.{Series}
 use Rattle.volumes.specs.Series.{Kind, seriesWatts}
@@ -26,7 +25,7 @@ use Rattle.reports.specs.FileRows.{isWritten, observationBy, observationsBy}
 use Rattle.series.specs.SumsInner.{byPosition, cellAt, DeliveredIn}
 use Rattle.series.specs.SumsLaws.{parts-of, cell-is}
 use Rattle.partners.specs.ObservationsInner.{observationIf, observationsIn}
-use Rattle.integers.specs.RangesLaws.{range-more}
+use Rattle.integers.specs.RangesLaws.{range-more, map-range-cong}
 use Rattle.quarters.specs.QuartersInner.{Ranged, longestMonth}
 use Rattle.reports.specs.FileRowsInner.{observationsOf}
 

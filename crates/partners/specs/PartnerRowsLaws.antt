@@ -40,7 +40,6 @@ use Rattle.message.specs.Group.{spread}
 use Rattle.message.specs.Rows.{Row, rowNumbers, numbers, rowsFrom, seriesRows, rowsOf, partnersOf as regrouped}
 use Rattle.message.specs.RowsLaws.{partners-undo}
 use Rattle.message.specs.SixesLaws.{length-numbers}
-use Rattle.volumes.specs.QuartersLaws.{flatMap-append}
 use Rattle.writer.specs.ContentsInner.{partnersIn, Writable}
 use Rattle.reports.specs.FileRows.{supplyNumber, deliveryNumber, directions, partnerNumbers, isWritten, partnersOf, Volumes, observationsBy, timeSeriesBy, partnerBy, partnersBy}
 use Rattle.partners.specs.PartnersInner.{partnerIf, partnerColumn, noPartner, Next}
@@ -57,6 +56,7 @@ use Rattle.integers.specs.RangesLaws.{length-range}
 use Rattle.message.specs.GroupLaws.{first-group}
 use Rattle.reports.specs.FileRowsInner.{observationsOf, partnerAt}
 use Rattle.writer.specs.RowsInner.{rowAt, Directed}
+use Rattle.integers.specs.ListsLaws.{flatMap-append}
 
 -- ---- lists
 

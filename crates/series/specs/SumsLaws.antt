@@ -26,7 +26,7 @@ use Rattle.book.specs.Engagements.{engagementAt}
 use Rattle.book.specs.Header.{calendarOf, registerSection, engagementSection}
 use Rattle.book.specs.Book.{Book, bookOf}
 use Rattle.quarters.specs.Quarters.{monthQuarters}
-use Rattle.volumes.specs.QuartersLaws.{map-range-cong, position-inside}
+use Rattle.volumes.specs.QuartersLaws.{position-inside}
 use Rattle.volumes.specs.Settlement.{delivered, rows, rowCount}
 use Rattle.volumes.specs.SettlementLaws.{passing}
 use Rattle.volumes.specs.Sheets.{startPosition, covers, quarterAt}
@@ -40,14 +40,14 @@ use Rattle.settlement.specs.SectionsInner.{engagementCountIn, engagementsIn, ro
 use Rattle.settlement.specs.SectionsLaws.{rows-counted, same-book, opened}
 use Rattle.settlement.specs.EngagedLaws.{engaged}
 use Rattle.settlement.specs.PartsLaws.{rowCountTo, count-more, count-most}
-use Rattle.baseline.specs.FillsLaws.{next-cell}
 use Rattle.series.specs.SumsInner.{byPosition, cellAt, grainsTo, added, VolumesAddable, Parts, DeliveredIn}
 use Rattle.series.specs.VolumesInner.{bookVolumes}
 use Rattle.series.specs.VolumesLaws.{volumes-length, volume-of}
-use Rattle.integers.specs.RangesLaws.{length-range, range-more, getD-made, getD-mem}
+use Rattle.integers.specs.RangesLaws.{length-range, range-more, getD-made, getD-mem, map-range-cong}
 use Rattle.integers.specs.RunningLaws.{floorAt-cong}
 use Rattle.integers.specs.SumsLaws.{sum-append}
 use Rattle.volumes.specs.SeriesInner.{takenBy}
+use Rattle.integers.specs.ListsLaws.{next-cell}
 
 -- ---- kinds and directions
 

@@ -18,7 +18,6 @@ use Rattle.integers.specs.ZLaws.{up, dn, inside}
 use Rattle.book.specs.declared.Engagement.{Engagement}
 use Rattle.book.specs.Book.{Book, bookOf}
 use Rattle.volumes.specs.Quarters.{quarterHours}
-use Rattle.volumes.specs.QuartersLaws.{flatMap-append, map-range-cong}
 use Rattle.volumes.specs.Settlement.{delivered, rowWidth, row, rowsOf, rowCount, bookRefusal}
 use Rattle.volumes.specs.SettlementLaws.{row-length, rowsOf-length, passing}
 use Rattle.volumes.specs.SoundLaws.{sound}
@@ -27,8 +26,9 @@ use Rattle.settlement.specs.SectionsInner.{engagementCountIn, bookWith}
 use Rattle.settlement.specs.StoresLaws.{sets-append}
 use Rattle.settlement.specs.PartsLaws.{partsTo, parts-all, parts-length}
 use Rattle.series.specs.VolumesInner.{volumesOf, bookVolumes, volumeIn}
-use Rattle.integers.specs.RangesLaws.{length-range, range-more, getD-made}
+use Rattle.integers.specs.RangesLaws.{length-range, range-more, getD-made, map-range-cong}
 use Rattle.quarters.specs.QuartersInner.{mostRows}
+use Rattle.integers.specs.ListsLaws.{flatMap-append}
 
 -- number j of the k-th of parts of one length
 getD-parts : {A : Type 0} (w : ℕ) (f : ℕ → List A) → ((i : ℕ) → length (f i) ≡ w) → (a n k j : ℕ) (d : A) → k < n → j < w → getD (flatMap f (range a n)) (w * k + j) d ≡ getD (f (a + k)) j d

@@ -17,11 +17,11 @@ use Rattle.volumes.specs.Baseline.{pointOf, complete, ownReading}
 use Rattle.volumes.specs.BaselineLaws.{complete-append}
 use Rattle.volumes.specs.Settlement.{neededBy, needed, rowsOf}
 use Rattle.volumes.specs.SettlementLaws.{settles}
-use Rattle.volumes.specs.QuartersLaws.{map-range-cong}
 use Rattle.baseline.specs.ShownLaws.{start-at}
 use Rattle.baseline.specs.FilledInner.{Unrefused, LevelsFilled}
 use Rattle.settlement.specs.RowsInner.{readingsFrom, rowsFrom}
 use Rattle.settlement.specs.RowsLaws.{rows-from}
+use Rattle.integers.specs.RangesLaws.{map-range-cong}
 
 module _ {c : Calendar} {calendar readings : List ℕ} {point : Point} {e : Engagement} {x y : ℕ} {book : Book} (s : Unrefused c calendar readings point e x y book) where
   pub own-at : (first : ℕ) → first ≡ originOf c (e .point) + start c e → (k : ℕ) → readingAt readings (first + k) ≡ ownReading book e k

@@ -10,12 +10,12 @@ use lib.Seq.{sets, take-all, take-suc}
 use Rattle.integers.specs.Sums.{naturals, sumOf, sumBy}
 use Rattle.book.specs.declared.Engagement.{Engagement}
 use Rattle.book.specs.Engagements.{engagementAt}
-use Rattle.volumes.specs.QuartersLaws.{flatMap-append}
 use Rattle.volumes.specs.SettlementLaws.{count-next}
 use Rattle.settlement.specs.SectionsInner.{engagementCountIn, engagementsIn, rowCountIn}
 use Rattle.settlement.specs.StoresLaws.{sets-append}
 use Rattle.integers.specs.RangesLaws.{length-range, getD-made}
 use Rattle.integers.specs.SumsLaws.{sum-append}
+use Rattle.integers.specs.ListsLaws.{flatMap-append}
 
 -- how many rows the first i engagements have, and one more
 unfoldable pub rowCountTo : List ℕ → ℕ → ℕ

@@ -20,7 +20,6 @@ use Rattle.quarters.specs.Quarters.{originOf}
 use Rattle.book.specs.Header.{calendarOf, readingSection}
 use Rattle.book.specs.Book.{Book, bookOf}
 use Rattle.volumes.specs.Quarters.{quarterHours, start}
-use Rattle.volumes.specs.QuartersLaws.{map-range-cong}
 use Rattle.volumes.specs.Baseline.{pointOf, watts, complete, ownReading, baseline}
 use Rattle.volumes.specs.BaselineLaws.{complete-append}
 use Rattle.volumes.specs.Settlement.{neededBy, needed, requestedAt, limited, deliveredBy, delivered, signed, sourceCorrection, fspCorrection, corrections, rowWidth, row, rowsOf}
@@ -29,6 +28,7 @@ use Rattle.settlement.specs.RaisedInner.{bias}
 use Rattle.settlement.specs.RaisedLaws.{is-level}
 use Rattle.settlement.specs.RowsInner.{rowFrom, firstReading, readingsFrom, rowAt, rowsFrom, largest}
 use Rattle.settlement.specs.StoresLaws.{flatMap-range-cong}
+use Rattle.integers.specs.RangesLaws.{map-range-cong}
 
 pub row-from : (book : Book) (e : Engagement) (k : ℕ) → row book e k ≡ rowFrom (e .direction) (pointOf book e) (requestedAt e k) (baseline book e k) (watts (ownReading book e k))
 unfolding row corrections sourceCorrection fspCorrection delivered rowFrom

@@ -8,8 +8,8 @@ use native.Mathlib.Numerals.{add-one, add-two}
 use lib.ListN.{length, set}
 use lib.Seq.{sets}
 use Rattle.integers.specs.Ranges.{range}
-use Rattle.volumes.specs.QuartersLaws.{range-next, flatMap-append, length-flatMap}
-use Rattle.integers.specs.RangesLaws.{length-range}
+use Rattle.integers.specs.RangesLaws.{length-range, range-next}
+use Rattle.integers.specs.ListsLaws.{flatMap-append, length-flatMap}
 
 module _ {ℓ} {A : Type ℓ} where
   pub sets-append : (l : List A) (at : ℕ) (a b : List A) → sets (sets l at a) (at + length a) b ≡ sets l at (a ++ b)

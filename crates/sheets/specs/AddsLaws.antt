@@ -9,9 +9,8 @@ use lib.IntN.{ℤ, pos, _+ℤ_}
 use lib.ListN.{length, getD, length-set, length-map}
 use lib.Seq.{getD-set-same, getD-set-other}
 use Rattle.integers.specs.Ranges.{range}
-use Rattle.volumes.specs.QuartersLaws.{map-range-next}
 use Rattle.sheets.specs.AddsInner.{addAt, adds}
-use Rattle.integers.specs.RangesLaws.{length-range}
+use Rattle.integers.specs.RangesLaws.{length-range, map-range-next}
 
 pub length-adds : (l : List ℤ) (at : ℕ) (zs : List ℤ) → length (adds l at zs) ≡ length l
 length-adds l at [] = refl

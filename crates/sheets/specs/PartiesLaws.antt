@@ -16,13 +16,13 @@ use Rattle.book.specs.Register.{pointAt}
 use Rattle.book.specs.Book.{bookOf}
 use Rattle.book.specs.Header.{registerSection}
 use Rattle.book.specs.Judged.{refusalOf}
-use Rattle.volumes.specs.QuartersLaws.{flatMap-append}
 use Rattle.volumes.specs.Sheets.{partiesOf, parties}
 use Rattle.settlement.specs.SectionsInner.{pointCountIn}
 use Rattle.settlement.specs.SectionsLaws.{points-counted}
 use Rattle.sheets.specs.PartiesInner.{partiesTo, partiesIn}
 use Rattle.integers.specs.CountsLaws.{times-append, mem-times}
 use Rattle.integers.specs.RangesLaws.{range-more}
+use Rattle.integers.specs.ListsLaws.{flatMap-append}
 
 -- in the columns of one point
 module _ (party : ℕ) (point : Point) where

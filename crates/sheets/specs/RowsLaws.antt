@@ -11,7 +11,6 @@ use Rattle.integers.specs.Ranges.{range}
 use Rattle.book.specs.declared.Engagement.{Engagement}
 use Rattle.book.specs.Book.{Book}
 use Rattle.volumes.specs.Quarters.{quarterHours}
-use Rattle.volumes.specs.QuartersLaws.{map-range-cong}
 use Rattle.volumes.specs.Baseline.{pointOf}
 use Rattle.volumes.specs.Settlement.{rowWidth, sourceCorrection, fspCorrection, corrections, row, rowsOf}
 use Rattle.volumes.specs.SettlementLaws.{row-length, rowsOf-length}
@@ -20,6 +19,7 @@ use Rattle.volumes.specs.SheetsLaws.{correction-inside}
 use Rattle.volumes.specs.SoundInner.{OnTerms, Sound}
 use Rattle.volumes.specs.WidthsLaws.{bounded-add, bounded-fits, source-bounded, fsp-bounded}
 use Rattle.sheets.specs.SharesInner.{gets, sourceIn, fspIn, getsOf, Both, correctionsFor}
+use Rattle.integers.specs.RangesLaws.{map-range-cong}
 
 -- the j-th of the k-th part, where all parts have one width
 getD-part : {A : Type 0} (w : ℕ) (f : ℕ → List A) (a n k j : ℕ) (d : A) → ((i : ℕ) → length (f i) ≡ w) → k < n → j < w → getD (flatMap f (range a n)) (w * k + j) d ≡ getD (f (a + k)) j d

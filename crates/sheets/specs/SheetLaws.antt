@@ -16,7 +16,7 @@ use Rattle.book.specs.Book.{Book}
 use Rattle.quarters.specs.Quarters.{monthQuarters}
 use Rattle.quarters.specs.QuartersLaws.{cell-position}
 use Rattle.volumes.specs.Quarters.{quarterHours}
-use Rattle.volumes.specs.QuartersLaws.{map-range-cong, position-inside}
+use Rattle.volumes.specs.QuartersLaws.{position-inside}
 use Rattle.volumes.specs.Sheets.{startPosition, covers, correctionAt, sheetAt, sheet}
 use Rattle.volumes.specs.SheetsLaws.{covers-before, covers-after}
 use Rattle.volumes.specs.SoundInner.{Placed, Sound}
@@ -25,7 +25,7 @@ use Rattle.sheets.specs.AddsInner.{adds, Addable}
 use Rattle.sheets.specs.SharesInner.{correctionsFor, firstCell}
 use Rattle.sheets.specs.CellsLaws.{cells-length, cell, cells-zero, adds-cells}
 use Rattle.sheets.specs.PartsInner.{partAt, sheetTo}
-use Rattle.integers.specs.RangesLaws.{length-range, getD-made}
+use Rattle.integers.specs.RangesLaws.{length-range, getD-made, map-range-cong}
 use Rattle.integers.specs.SumsLaws.{sum-append}
 
 -- no engagement, and all of them

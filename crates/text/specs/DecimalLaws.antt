@@ -8,7 +8,7 @@ use lib.Dec.{leb}
 use native.Mathlib.Omega.{arith}
 use native.Mathlib.Nat.{pow-suc, pow-le-pow-right, div-div-eq-div-mul}
 use native.Mathlib.Numerals.{add-one}
-use borrow.Author.Tests.{le-leb, leb-true}
+use borrow.Author.Tests.{le-leb, leb-true, leb-false}
 use Rattle.text.specs.Decimal.{digit, digits, valueFrom, valueOf, above, fixed, count, plain}
 
 pub true-false : true ≡ false → ⊥
@@ -193,3 +193,14 @@ plain-has v =
 
 pub plain-fixed : (v : ℕ) → plain v ≡ fixed (length (plain v)) v
 plain-fixed v = plain-has v .bytes ∙ ap (λ (n : ℕ). fixed n v) (sym (length-plain v))
+
+-- a number below a power of ten has no more digits
+pub few-digits : (n v : ℕ) → 1 ≤ n → v < 10 ^ n → length (plain v) ≤ n
+few-digits n v k h = go (leb (suc (count v (v / 10))) n) refl
+  where
+    go : (b : Bool) → leb (suc (count v (v / 10))) n ≡ b → length (plain v) ≤ n
+    go true e = omega (arith, length-plain v, leb-true (suc (count v (v / 10))) n e)
+    go false e =
+        let c = count v (v / 10) in
+        let m : n ≤ c = omega (arith, leb-false (suc c) n e) in
+        absurd (omega (arith, above-none c v (below-within c n v m (above-none n v h)), plain-has v .lead (omega arith)))

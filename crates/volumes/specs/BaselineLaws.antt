@@ -20,12 +20,13 @@ use Rattle.book.specs.declared.Engagement.{Engagement}
 use Rattle.book.specs.Book.{Book}
 use Rattle.volumes.specs.OrderLaws.{le-library}
 use Rattle.volumes.specs.Quarters.{quarterHours}
-use Rattle.volumes.specs.QuartersLaws.{map-range-next, map-range-cong, length-flatMap}
 use Rattle.volumes.specs.RankingLaws.{length-ranked, largest}
 use Rattle.volumes.specs.Baseline.{watts, known, complete, mean, readingBefore, window, dayReading, dayReadings, ownWindow, dayWindow, eligibleDays, xOf, yOf, latest, daySum, taken, high, addend}
 use Rattle.grains.specs.GrainsInner.{Shares}
 use Rattle.integers.specs.SumsLaws.{sum-append, sum-cong, sum-swap, sum-map, sum-flatMap}
 use Rattle.volumes.specs.RankingInner.{sumOfLargest}
+use Rattle.integers.specs.RangesLaws.{map-range-next, map-range-cong}
+use Rattle.integers.specs.ListsLaws.{length-flatMap}
 
 pub complete-append : (l m : List Reading) → complete (l ++ m) ≡ (complete l && complete m)
 unfolding complete

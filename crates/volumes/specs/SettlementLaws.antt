@@ -19,12 +19,12 @@ use Rattle.refusals.specs.RefusalsLaws.{not-first, not-later, else-none}
 use Rattle.book.specs.Book.{Book, bookOf}
 use Rattle.book.specs.Judged.{refusalOf}
 use Rattle.volumes.specs.Quarters.{quarterHours}
-use Rattle.volumes.specs.QuartersLaws.{range-next, flatMap-append, length-flatMap}
 use Rattle.volumes.specs.Baseline.{pointOf, complete, eligibleDays, taken, xOf, yOf}
 use Rattle.volumes.specs.BaselineLaws.{taken-length}
 use Rattle.volumes.specs.Settlement.{needed, tooFew, refusalNumber, rowRefusal, refusalFrom, settlementRefusal, corrections, rowWidth, row, rowsOf, rows, rowCount, bookRefusal, settlingRefusal, Accepted}
-use Rattle.integers.specs.RangesLaws.{length-range}
+use Rattle.integers.specs.RangesLaws.{length-range, range-next}
 use Rattle.integers.specs.SumsLaws.{sum-append}
+use Rattle.integers.specs.ListsLaws.{flatMap-append, length-flatMap}
 
 -- an engagement that is not refused
 pub record Settles (book : Book) (e : Engagement) : Type 0 where

@@ -2,11 +2,10 @@
 use mathlib.Core.Path.{_≡_, refl, ap, _∙_, sym}
 use mathlib.Core.Bool.{Bool, true, false, cond, _&&_, and-assoc, and-true}
 use mathlib.Core.List.{List, [], _∷_, map}
-use Prim.Native.Nat.{ℕ, suc, _+_, _≤_, _<_}
+use Prim.Native.Nat.{ℕ, suc, _≤_}
 use lib.Dec.{leb, ltb}
 use lib.ListN.{length}
 use native.Mathlib.Omega.{arith}
-use borrow.Author.Tests.{leb-true}
 use Rattle.integers.specs.TestsLaws.{and-left, and-right, and-both}
 use Rattle.integers.specs.Rises.{rises}
 use Rattle.integers.specs.All.{All}
@@ -138,10 +137,3 @@ pub rises-follow : (low a : ℕ) (l : List ℕ) → rises low (a ∷ l) ≡ (leb
 unfolding rises follow
 rises-follow low a [] = refl
 rises-follow low a (b ∷ l) = ap (λ (t : Bool). leb low a && t) (rises-follow (suc a) b l)
-
--- numbers that rise up to below `high` are no more than it
-pub rises-few : (low high : ℕ) (l : List ℕ) → low ≤ high → rises low l ≡ true → All (λ n. n < high) l → low + length l ≤ high
-unfolding rises All
-rises-few low high [] h r v = omega arith
-rises-few low high (n ∷ l) h r v =
-    omega (arith, leb-true low n (and-left (leb low n) (rises (suc n) l) r), rises-few (suc n) high l (v .0) (and-right (leb low n) (rises (suc n) l) r) (v .1))

@@ -26,8 +26,9 @@ use Rattle.writer.specs.Order.{every, follow, ordered, by, both}
 use Rattle.writer.specs.Rows.{isObservation, isDirections, isNumber, oneSupply, laterDirections, later, isRow, rowBefore, ofMonth, isRows, rowsMessage}
 use Rattle.integers.specs.AllLaws.{all-map, all-of, all-append, all-both, all-of-map, map-all}
 use Rattle.message.specs.GroupLaws.{first-group}
-use Rattle.writer.specs.OrderLaws.{every-group, full-groups, every-all, all-every, ordered-map, ordered-both, rises-follow, rises-few, keysOf, inOrder, order-groups}
+use Rattle.writer.specs.OrderLaws.{every-group, full-groups, every-all, all-every, ordered-map, ordered-both, rises-follow, keysOf, inOrder, order-groups}
 use Rattle.writer.specs.RowsInner.{rowAt, sixAt, behind}
+use Rattle.integers.specs.RisesLaws.{rises-few}
 
 -- ---- observations
 

@@ -3,11 +3,11 @@ use mathlib.Core.Path.{_≡_, refl, ap, _∙_}
 use mathlib.Core.List.{List, _++_}
 use Prim.Native.Nat.{ℕ, _-_, _≤_}
 use lib.ListN.{length, set, drop, replicate, length-append, length-replicate, length-drop}
-use Rattle.baseline.specs.FillsLaws.{same-next}
 use borrow.Author.Needs.{needs}
 use native.Mathlib.Omega.{arith}
 use Rattle.baseline.proofs.fill.fill_flat.Statement.{statement}
 use Rattle.baseline.proofs.fill.fill_flat.Tie as tie
+use Rattle.integers.specs.ListsLaws.{same-next}
 
 abbrev Inv-loop : tie.InvT-loop
 Inv-loop levels₀ n level k₀ levels k = (k ≤ n) × (levels ≡ replicate k level ++ drop k levels₀)

@@ -6,9 +6,9 @@ use mathlib.Core.List.{List, _++_}
 use Prim.Native.Nat.{_-_, _≤_}
 use lib.IntN.{ℤ, pos}
 use lib.ListN.{length, set, drop, replicate, length-append, length-replicate, length-drop}
-use Rattle.baseline.specs.FillsLaws.{same-next}
 use Rattle.sheets.proofs.cells.clear.Statement.{statement}
 use Rattle.sheets.proofs.cells.clear.Tie as tie
+use Rattle.integers.specs.ListsLaws.{same-next}
 
 abbrev Inv-loop : tie.InvT-loop
 Inv-loop sums₀ n i₀ sums i = (i ≤ n) × (sums ≡ replicate i (pos 0) ++ drop i sums₀)
