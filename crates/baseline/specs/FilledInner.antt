@@ -32,7 +32,7 @@ pub record Accepts (c : Calendar) (calendar readings : List ℕ) (point : Point)
   pub within : x ≤ y
   pub most : y ≤ 20
 
--- each quarter-hour's baseline, raised by 3 times 2^31 watts; the places behind them are as they were
+-- each quarter-hour's level, its baseline and three raises; the places behind them are as they were
 pub record LevelsFilled (c : Calendar) (calendar readings : List ℕ) (point : Point) (e : Engagement) (x y : ℕ) (before after : List ℕ) : Type 0 where
   pub small : (k : ℕ) → k < e .count → getD after k 0 ≤ grains 12884901887
   pub levels : (book : Book) → Unrefused c calendar readings point e x y book → (k : ℕ) → k < e .count → Over (grains (3 * raise)) (baseline book e k) (getD after k 0)

@@ -18,7 +18,7 @@ use Rattle.baseline.specs.RunsInner.{Lie}
 use Rattle.baseline.specs.LevelsInner.{Adds}
 use Rattle.wire.specs.ReadingsInner.{raise}
 
--- the mean of n readings and an addend, raised by 3 times 2^31 watts, where the addend is raised by 2^32
+-- the mean of n readings, an addend, and three raises, of which the addend has two
 pub record Raises (list : List Reading) (n add r : ℕ) : Type 0 where
   pub level : (z : ℤ) → complete list ≡ true → Over (grains (2 * raise)) z add → Over (grains (3 * raise)) (sumZ watts list *ℤ pos (share n) +ℤ z) r
   pub small : r ≤ grains 12884901887

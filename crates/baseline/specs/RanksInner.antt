@@ -19,7 +19,7 @@ pub record Considered (keys₀ keys : List ℕ) (n : ℕ) (t : Tally) (d r : ℕ
   pub no : t .whole ≡ false → (r ≡ n) × (keys ≡ keys₀)
   pub most : r ≤ n + 1
 
--- a day's sum over the engagement's quarter-hours is raised by 2^31 a reading
+-- a day's sum over the engagement's quarter-hours has a raise more for each reading
 abbrev pub bias : Engagement → ℕ
 bias e = raise * e .count
 

@@ -16,7 +16,7 @@ use Rattle.wire.specs.ReadingsInner.{raise}
 abbrev pub inRun : List ℕ → ℕ → ℕ → List Reading
 inRun readings at n = map (readingAt readings) (range at n)
 
--- whole where no reading of a list of n is missing, and then their sum, raised by 2^31 a reading
+-- whole where no reading of a list of n is missing, and then their sum with a raise for each
 pub record Tallied (list : List Reading) (n : ℕ) (t : Tally) : Type 0 where
   pub whole : t .whole ≡ complete list
   pub sum : t .whole ≡ true → Over (raise * n) (sumZ watts list) (t .sum)

@@ -52,7 +52,7 @@ fn fill_means(
     }
 }
 
-// What methods 1 and 2 add to a mean, raised by 2^32 watts.
+// What methods 1 and 2 add to a mean, and two raises.
 fn addend_of(
     c: Calendar,
     readings: &[u8],

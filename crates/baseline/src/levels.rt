@@ -1,4 +1,4 @@
-// Levels: raised baselines, in grains. A raised reading has 2^31 watts more than the reading; a raised baseline has three times as much more, so that no
+// Levels: raised baselines, in grains. A raised reading has one raise more than the reading; a level has three more than the baseline, so that no
 // addend makes it less than 0.
 use book::Engagement;
 use grains::Grains;
@@ -13,7 +13,7 @@ ghost use Rattle.baseline.specs.LevelsInner.{Means, Adds, Lasts};
 ghost use Rattle.quarters.specs.QuartersInner.{longestCalendar, farthestOrigin};
 ghost use Rattle.wire.specs.ReadingsInner.{raise};
 
-// 2^32 watts.
+// Two raises.
 pub fn lift() -> u64
     ensures { λ r. ⌜ r ≡ grains (2 * raise) ⌝ }
 {
@@ -45,7 +45,7 @@ pub fn mean_level(
     Grains::mean(t.sum, x as u64).count
 }
 
-// The addend of method 2, raised by 2^32 watts: the mean of A's window less that of the days' windows.
+// The addend of method 2 and two raises: the mean of A's window less that of the days' windows.
 pub fn addend_level(
     c: Calendar,
     readings: &[u8],

@@ -23,7 +23,7 @@ quartersOf c = dayStart c (daysOf c)
 abbrev pub inCalendar : Calendar → ℕ → ℕ → ℕ
 inCalendar c d q = dayStart c d + q
 
--- "Position is 96 (day - L) + q + 1.": of quarter-hour q of day d, and its cell; positions are counted from 1, cells from 0
+-- "Position is 96 (day - L) + q + 1.": of quarter-hour q of day d
 unfoldable pub position : Calendar → ℕ → ℕ → ℕ
 position c d q = dayStart c d - dayStart c (c .lead) + q + 1
 

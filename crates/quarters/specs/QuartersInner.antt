@@ -1,8 +1,9 @@
--- The calendars that a header may have, and bounds that code needs.
+-- Cells of a month, the calendars that a header may have, and bounds that code needs.
 use Prim.Native.Nat.{ℕ, _-_, _*_, _≤_}
 use Rattle.quarters.specs.declared.Calendar.{Calendar}
 use Rattle.quarters.specs.Quarters.{position}
 
+-- the cell of quarter-hour q of day d: positions are counted from 1, cells from 0
 abbrev pub cellOf : Calendar → ℕ → ℕ → ℕ
 cellOf c d q = position c d q - 1
 

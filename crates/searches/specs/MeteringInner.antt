@@ -1,8 +1,9 @@
 -- A reading's range, told from the raised reading.
 use mathlib.Core.Bool.{Bool, not, _&&_, _||_}
-use Prim.Native.Nat.{ℕ}
+use Prim.Native.Nat.{ℕ, _+_, _-_, _^_}
 use lib.Dec.{eqb, ltb}
+use Rattle.wire.specs.ReadingsInner.{raise}
 
--- the same of a reading that is raised by 2^31, 0 being missing: `outside-is` of MeteringLaws
+-- the same of a raised reading, 0 being missing: `outside-is` of MeteringLaws
 abbrev pub isOutside : ℕ → Bool
-isOutside r = not (eqb r 0) && (ltb r 1147483648 || ltb 3147483648 r)
+isOutside r = not (eqb r 0) && (ltb r (raise - 10 ^ 9) || ltb (raise + 10 ^ 9) r)

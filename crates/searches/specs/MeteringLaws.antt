@@ -1,4 +1,4 @@
--- A reading's range, told from the raised reading: 10^9 each way of 2^31, or 0.
+-- A reading's range, told from the raised reading: 10^9 each way of the raise, or 0.
 use mathlib.Core.Path.{_≡_, refl}
 use mathlib.Core.Bool.{Bool, true, false, not}
 use Prim.Native.Nat.{ℕ, suc}

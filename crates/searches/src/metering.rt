@@ -8,11 +8,16 @@ ghost use Rattle.searches.specs.FoundInner.{foundAt};
 ghost use Rattle.book.specs.Metering.{badReading};
 ghost use Rattle.searches.specs.MeteringInner.{isOutside};
 
+// The least and the greatest raised reading in range: 10^9 watts each way.
+const LEAST: u32 = wire::RAISE - 1000000000;
+
+const GREATEST: u32 = wire::RAISE + 1000000000;
+
 // A raised reading is there, and more than 10^9 watts off.
 fn outside(raised: u32) -> bool
     ensures { λ r. ⌜ r ≡ isOutside raised ⌝ }
 {
-    (raised != 0) & ((raised < 1147483648) | (3147483648 < raised))
+    (raised != 0) & ((raised < LEAST) | (GREATEST < raised))
 }
 
 // Whether one of n readings from `at` on is out of range. None ends the loop, so that the compiler tests several at once.

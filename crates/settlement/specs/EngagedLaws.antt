@@ -12,6 +12,8 @@ use borrow.Author.Tests.{ltb-true, ltb-false}
 use Rattle.quarters.specs.declared.Calendar.{Calendar}
 use Rattle.book.specs.declared.Engagement.{Engagement}
 use Rattle.quarters.specs.Quarters.{quartersOf}
+use Rattle.quarters.specs.QuartersInner.{longestDay}
+use Rattle.quarters.specs.QuartersLaws.{days-few, quarters-most}
 use Rattle.book.specs.Header.{calendarOf, pointCount, sectionOf, calendarSection, tableSection, registerSection, readingSection}
 use Rattle.book.specs.HeaderLaws.{headed}
 use Rattle.book.specs.Tables.{categoryAt, xAt, yAt}
@@ -19,7 +21,7 @@ use Rattle.book.specs.Register.{pointAt}
 use Rattle.book.specs.Engagements.{engagementAt}
 use Rattle.book.specs.Book.{Book}
 use Rattle.volumes.specs.Baseline.{pointOf, noPoint, xOf, yOf}
-use Rattle.volumes.specs.Settlement.{refusalNumber, rowRefusal}
+use Rattle.volumes.specs.Settlement.{refusalNumber, rowRefusal, rowWidth}
 use Rattle.volumes.specs.SoundInner.{XOfY, Placed}
 use Rattle.volumes.specs.SoundLaws.{passes}
 use Rattle.volumes.specs.SettlementLaws.{refusalAt, refusal-next, refusal-end}
@@ -127,3 +129,20 @@ module _ {bytes engagements : List ℕ} (s : Opened bytes engagements) where
 
   pub refusal-last : (i : ℕ) → engagementCountIn engagements ≤ i → refusalAt (bookWith bytes engagements) i ≡ none
   refusal-last i h = refusal-end (bookWith bytes engagements) i (omega (arith, row-count))
+
+-- its day is a settled one of the calendar, its rows are those of a day at most
+pub record Placing (c : Calendar) (e : Engagement) : Type 0 where
+  pub day : e .day < 64
+  pub settled : c .lead ≤ e .day
+  pub few : rowWidth * e .count ≤ rowWidth * longestDay
+
+module _ {bytes engagements : List ℕ} (s : Opened bytes engagements) (i : ℕ) (h : i < engagementCountIn engagements) where
+  pub engagement-placed : Placing (calendarOf bytes) (engagementAt engagements i)
+  unfolding bookWith
+  engagement-placed =
+      let p = s .sound .engagements (engagementAt engagements i) (member s i h) in
+      record {
+        day = omega (arith, p .inside, days-few (calendarOf bytes) (s .sound .ranged));
+        settled = p .settled;
+        few = omega (arith, p .ends, quarters-most (calendarOf bytes) (engagementAt engagements i .day));
+      }

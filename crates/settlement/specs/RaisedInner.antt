@@ -1,10 +1,10 @@
--- Numbers without a sign: a baseline raised by the bias, in grains, and a reading raised by 2^31 watts.
+-- Numbers without a sign: a level, which is a baseline and the bias, in grains, and a raised reading.
 use Prim.Native.Nat.{ℕ, _*_}
 use lib.IntN.{ℤ, subℕ}
 use Rattle.grains.specs.Grains.{grains}
 use Rattle.wire.specs.ReadingsInner.{raise}
 
--- 3 times 2^31 watts, in grains: as much as method 2 can take off, a reading's 2^31 for each of its three means
+-- three raises, in grains: as much as method 2 can take off, a reading's raise for each of its three means
 abbrev pub bias : ℕ
 bias = grains (3 * raise)
 

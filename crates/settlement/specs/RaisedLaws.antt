@@ -47,7 +47,7 @@ pub is-watts : {w : ℤ} {raised : ℕ} → Over raise w raised → w ≡ wattsO
 unfolding wattsOf
 is-watts h = is-sub h
 
--- what the baseline is above the reading, and the reading above the baseline, 2^32 watts giving the reading the baseline's bias
+-- what the baseline is above the reading, and the reading above the baseline, two raises giving the reading the level's bias
 pub above-up : (level raised : ℕ) → up (baselineOf level -ℤ grainsZ (wattsOf raised)) ≡ level - grains (raised + 2 * raise)
 above-up level raised =
     let z = baselineOf level in

@@ -19,9 +19,9 @@ use Rattle.settlement.specs.RaisedInner.{baselineOf}
 
 -- "four signed numbers: baseline, delivered, source and FSP correction", of the requested volume and the baseline, in grains, and the reading, in watts
 unfoldable pub rowFrom : Direction → Point → ℕ → ℤ → ℤ → List ℤ
-rowFrom direction point requested amount read =
-    let volume : ℤ = pos (deliveredBy direction point amount (grainsZ read)) in
-    amount ∷ volume ∷ signed direction volume ∷ signed direction (pos requested -ℤ volume) ∷ []
+rowFrom direction point requested baseline read =
+    let volume : ℤ = pos (deliveredBy direction point baseline (grainsZ read)) in
+    baseline ∷ volume ∷ signed direction volume ∷ signed direction (pos requested -ℤ volume) ∷ []
 
 -- "the register's largest watts" in a direction
 unfoldable pub largest : Direction → Point → ℕ

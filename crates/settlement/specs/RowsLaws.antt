@@ -34,9 +34,9 @@ pub row-from : (book : Book) (e : Engagement) (k : ℕ) → row book e k ≡ row
 unfolding row corrections sourceCorrection fspCorrection delivered rowFrom
 row-from book e k = refl
 
-pub from-length : (direction : Direction) (point : Point) (requested : ℕ) (amount read : ℤ) → length (rowFrom direction point requested amount read) ≡ rowWidth
+pub from-length : (direction : Direction) (point : Point) (requested : ℕ) (baseline read : ℤ) → length (rowFrom direction point requested baseline read) ≡ rowWidth
 unfolding rowFrom
-from-length direction point requested amount read = refl
+from-length direction point requested baseline read = refl
 
 -- where the raised baselines are the book's, and the readings
 pub rows-from : (book : Book) (e : Engagement) (levels readings : List ℕ) (first : ℕ)
@@ -72,10 +72,10 @@ pub turned : (a b : ℤ) → negℤ (a -ℤ b) ≡ b -ℤ a
 turned a b = eqZ (negℤ (a -ℤ b)) (b -ℤ a) (omega (arith, neg (a -ℤ b), dif a b, dif b a))
 
 -- the delivered volume is one difference, negated downward and limited to the direction's largest watts
-pub delivered-by : (direction : Direction) (point : Point) (amount read : ℤ) → deliveredBy direction point amount read ≡ limited (signed direction (amount -ℤ read)) (largest direction point)
+pub delivered-by : (direction : Direction) (point : Point) (baseline read : ℤ) → deliveredBy direction point baseline read ≡ limited (signed direction (baseline -ℤ read)) (largest direction point)
 unfolding deliveredBy signed largest
-delivered-by Up point amount read = refl
-delivered-by Down point amount read = rw turned
+delivered-by Up point baseline read = refl
+delivered-by Down point baseline read = rw turned
 
 -- limited in ℕ
 pub limited-is : (z : ℤ) (most : ℕ) → limited z most ≡ min (up z) (grains most)

@@ -19,14 +19,14 @@ ghost use Rattle.wire.specs.ReadingsInner.{raise};
 // The numbers of a row.
 pub const ROW_WIDTH: usize = 4;
 
-// The bias of a raised baseline: 3 times 2^31 watts, 2^31 being that of a raised reading.
+// The bias of a level: three raises, one being that of a raised reading.
 pub fn bias() -> u64
     ensures { λ r. ⌜ r ≡ bias ⌝ }
 {
     3 * Grains::from_watts(wire::RAISE).count
 }
 
-// A raised reading in grains, with the bias of a raised baseline.
+// A raised reading in grains, with the bias of a level.
 fn reading_grains(raised: u32) -> u64
     ensures { λ r. ⌜ r ≡ grains (raised + 2 * raise) ⌝ }
 {

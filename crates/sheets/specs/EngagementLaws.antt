@@ -17,7 +17,7 @@ use Rattle.book.specs.Engagements.{engagementAt}
 use Rattle.volumes.specs.Settlement.{rowWidth, rowsOf}
 use Rattle.volumes.specs.Sheets.{sheet}
 use Rattle.settlement.specs.SectionsInner.{engagementCountIn, bookWith, Opened}
-use Rattle.settlement.specs.EngagedLaws.{member, row-count, row-named, engaged}
+use Rattle.settlement.specs.EngagedLaws.{member, row-count, row-named, engaged, engagement-placed}
 use Rattle.sheets.specs.AddsInner.{adds, Addable}
 use Rattle.sheets.specs.SharesInner.{getsOf, Both, correctionsFor, firstCell}
 use Rattle.sheets.specs.RowsLaws.{rows-get, rows-both}
@@ -25,27 +25,11 @@ use Rattle.sheets.specs.PartsInner.{sheetTo}
 use Rattle.sheets.specs.SheetLaws.{sheet-none, sheet-all, sheet-more, sheet-addable}
 use Rattle.quarters.specs.QuartersInner.{Ranged, longestDay}
 
--- its day is a settled one of the calendar, its rows are those of a day at most
-pub record Placing (c : Calendar) (e : Engagement) : Type 0 where
-  pub day : e .day < 64
-  pub settled : c .lead ≤ e .day
-  pub few : rowWidth * e .count ≤ rowWidth * longestDay
-
 module _ {bytes engagements : List ℕ} (s : Opened bytes engagements) (i : ℕ) (h : i < engagementCountIn engagements) where
-  pub engagement-placed : Placing (calendarOf bytes) (engagementAt engagements i)
-  unfolding bookWith
-  engagement-placed =
-      let p = s .sound .engagements (engagementAt engagements i) (member s i h) in
-      record {
-        day = omega (arith, p .inside, days-few (calendarOf bytes) (s .sound .ranged));
-        settled = p .settled;
-        few = omega (arith, p .ends, quarters-most (calendarOf bytes) (engagementAt engagements i .day));
-      }
-
   -- the point and the rows that were read and filled
   module _ (l : List ℤ) (room : rowWidth * longestDay ≤ length l) {e : Engagement} {point : Point} {register : List ℕ} {rows : List ℤ} (is : e ≡ engagementAt engagements i) (at : point ≡ pointAt register (e .point)) (cut : register ≡ registerSection bytes) (filled : rows ≡ sets l 0 (rowsOf (bookWith bytes engagements) (engagementAt engagements i))) where
     enough : rowWidth * engagementAt engagements i .count ≤ length l
-    enough = omega (arith, engagement-placed .few)
+    enough = omega (arith, engagement-placed s i h .few)
 
     pub engagement-gets : (party : ℕ) → getsOf party point rows (e .count) ≡ correctionsFor (bookWith bytes engagements) party (engagementAt engagements i)
     engagement-gets party =

@@ -1,4 +1,4 @@
--- The raised reading in grains, and 2^32 watts more.
+-- The raised reading in grains, and two raises more.
 use mathlib.Core.Path.{_≡_, ap₂}
 use Prim.Native.Nat.{_+_, _*_}
 use borrow.Author.Tests.{le-leb}

@@ -7,14 +7,13 @@ use lib.ListN.{length}
 use borrow.Author.Needs.{needs}
 use Rattle.book.specs.declared.Engagement.{Engagement}
 use Rattle.quarters.specs.Quarters.{monthQuarters}
-use Rattle.quarters.specs.QuartersLaws.{days-few}
+use Rattle.quarters.specs.QuartersLaws.{days-few, cell-position}
 use Rattle.book.specs.Engagements.{engagementAt}
 use Rattle.book.specs.Book.{Book}
 use Rattle.volumes.specs.Sheets.{startPosition}
 use Rattle.volumes.specs.Series.{isEngagement}
 use Rattle.settlement.specs.SectionsInner.{engagementCountIn}
 use Rattle.settlement.specs.PartsLaws.{rowCountTo, count-none, count-more}
-use Rattle.sheets.specs.SheetLaws.{first-cell}
 use Rattle.series.specs.SumsInner.{byPosition, grainsTo, Parts}
 use Rattle.series.specs.SumsLaws.{by-cong, added-length, rows-few, placed, volumes-room, grains-none, grains-all, turn-adds, turn-sums}
 use Rattle.series.proofs.sums.add_engagements.Statement.{statement}
@@ -46,7 +45,7 @@ start-is : (c : tie.After-cell-of Inv-loop μ-loop) → let a = c .before .befor
     c .cell-of .result + 1 ≡ startPosition (a .c) (engagementAt (a .engagements .now) (c .before .before .before .before .loop .i))
 start-is c = let a = c .before .before .before .before .before .before .before .before .before .args in
     let e = c .before .before .engagement-at .result in
-    let from-one : c .cell-of .result + 1 ≡ startPosition (a .c) e = omega (arith, c .cell-of .ensures, first-cell (a .c) e) in
+    let from-one : c .cell-of .result + 1 ≡ startPosition (a .c) e = omega (arith, c .cell-of .ensures, cell-position (a .c) (e .day) (e .first)) in
     from-one ∙ ap (startPosition (a .c)) (c .before .before .engagement-at .ensures)
 
 loop-holds : tie.Need-loop-holds Inv-loop μ-loop

@@ -12,7 +12,8 @@ use Rattle.settlement.specs.EngagedLaws.{engaged}
 use Rattle.volumes.specs.Settlement.{rowWidth}
 use Rattle.sheets.specs.AddsInner.{adds}
 use Rattle.sheets.specs.SharesInner.{getsOf, Both, correctionsFor, firstCell}
-use Rattle.sheets.specs.EngagementLaws.{Placing, engagement-placed, engagement-gets, engagement-both}
+use Rattle.settlement.specs.EngagedLaws.{Placing, engagement-placed}
+use Rattle.sheets.specs.EngagementLaws.{engagement-gets, engagement-both}
 use Rattle.sheets.proofs.fill.add_engagement.Statement.{statement}
 use Rattle.sheets.proofs.fill.add_engagement.Tie as tie
 use Rattle.quarters.specs.QuartersInner.{longestDay}
