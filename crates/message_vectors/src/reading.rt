@@ -14,12 +14,9 @@ use message::WriteAnswer;
 ghost use Prim.Native.Nat.{_≤_};
 ghost use lib.ListN.{length};
 
-pub fn kind_number(kind: Kind) -> u8 {
-    match kind {
-        Kind::Toe01 => 1,
-        Kind::Toe02 => 2,
-        Kind::Toe03 => 3,
-    }
+// A kind's number as the write call takes it.
+pub fn kind_byte(kind: Kind) -> u8 {
+    kinds::kind_number(kind) as u8
 }
 
 // Whether a file is written again, byte by byte, from what was read of it.
@@ -30,7 +27,7 @@ pub fn written_back(facts: FileFacts, file: &[u8], rows: &[u64], again: &mut [u8
     let moment = clamp(facts.moment, file.len());
     let moment_end = moment + clamp(29, file.len() - moment);
     let answer = writer::writing::write(
-        kind_number(kind),
+        kind_byte(kind),
         facts.receiver,
         facts.year,
         facts.month,
@@ -55,7 +52,7 @@ fn space(n: u64) {
 fn print_facts(facts: FileFacts) {
     let kind = facts.kind;
     cases::answers::text(b"file ");
-    space(kind_number(kind) as u64);
+    space(kinds::kind_number(kind));
     space(facts.receiver);
     space(facts.year);
     space(facts.month);

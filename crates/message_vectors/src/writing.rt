@@ -1,7 +1,7 @@
 // The writer's cases.
 use crate::marks::same_bytes;
 use crate::marks::same_numbers;
-use crate::reading::kind_number;
+use crate::reading::kind_byte;
 use crate::words::bytes;
 use crate::words::clamp;
 use crate::words::numbers;
@@ -23,7 +23,7 @@ struct FileHead {
 // Whether a file's kind, receiver, year and month are those that it was written of.
 fn same_head(head: FileHead, facts: FileFacts) -> bool {
     let kind = facts.kind;
-    if kind_number(kind) != head.kind {
+    if kind_byte(kind) != head.kind {
         return false;
     }
     if facts.receiver != head.receiver {

@@ -29,8 +29,8 @@ clamp-requires-4 c κs = search needs
 add-moment-end : tie.Need-add-moment-end
 add-moment-end c = search needs
 
-kind-number-requires : tie.Need-kind-number-requires
-kind-number-requires c κs = search needs
+kind-byte-requires : tie.Need-kind-byte-requires
+kind-byte-requires c κs = search needs
 
 sub-write : tie.Need-sub-write
 sub-write c = search needs
@@ -95,7 +95,7 @@ written-back-spec =
     sub-clamp-2
     clamp-requires-4
     add-moment-end
-    kind-number-requires
+    kind-byte-requires
     sub-write
     part-write-start
     part-write-end
