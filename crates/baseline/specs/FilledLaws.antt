@@ -15,7 +15,6 @@ use Rattle.grains.specs.Grains.{grains, share}
 use Rattle.wire.specs.Readings.{readingAt}
 use Rattle.wire.specs.declared.Reading.{Reading}
 use Rattle.wire.specs.declared.Reading.the-variants.{Missing}
-use Rattle.quarters.specs.declared.Calendar.{Calendar}
 use Rattle.book.specs.declared.Engagement.{Engagement}
 use Rattle.book.specs.declared.Point.{Point}
 use Rattle.book.specs.declared.Method.{Method}
@@ -28,6 +27,7 @@ use Rattle.volumes.specs.BaselineLaws.{window-12}
 use Rattle.volumes.specs.Settlement.{tooFew}
 use Rattle.volumes.specs.SettlementLaws.{settles}
 use Rattle.volumes.specs.UsedLaws.{high-complete, windows-complete, own-window-complete, last-known}
+use Rattle.baseline.specs.declared.shown.Shown.{Shown}
 use Rattle.baseline.specs.ShownInner.{Fits, beforeIn, windowIn}
 use Rattle.baseline.specs.ShownLaws.{own-window, before-at, start-at, stands, stands-on}
 use Rattle.baseline.specs.RunsInner.{daysIn, dayRuns, Lies, Lie}
@@ -66,76 +66,76 @@ known-inside readings origin q n h = go (leb n q) refl h
     go true e k = leb-true n q e
     go false e k = let z : _≡_ {A = ℕ} 0 1 = cc in absurd (omega arith)
 
-module _ {c : Calendar} {calendar readings : List ℕ} {point : Point} {e : Engagement} {x y : ℕ} {book : Book} (s : Unrefused c calendar readings point e x y book) where
-  method-is : pointOf book e .method ≡ point .method
+module _ {shown : Shown} {calendar readings : List ℕ} {book : Book} (s : Unrefused shown calendar readings book) where
+  method-is : pointOf book (shown .e) .method ≡ shown .point .method
   method-is = ap (λ (p : Point). p .method) (s .shows .owner)
 
   -- the ranking has its Y days, and the first X keys tell the days that are taken
-  pub took-days : {keys₀ : List ℕ} (keys : List ℕ) (n : ℕ) → looksBack (point .method) ≡ true → x ≤ y → RankedTo book e y keys₀ keys n → Took book e keys x
-  took-days {keys₀} keys n back few r = took book e keys₀ keys x y n r (s .takes) (s .wants) (omega (arith, r .count, length-take y (eligibleDays book e), enough book e (point .method) back (rw method-is at (settles book e (s .good) .enough)), s .wants)) few
+  pub took-days : {keys₀ : List ℕ} (keys : List ℕ) (n : ℕ) → looksBack (shown .point .method) ≡ true → shown .x ≤ shown .y → RankedTo book (shown .e) (shown .y) keys₀ keys n → Took book (shown .e) keys (shown .x)
+  took-days {keys₀} keys n back few r = took book (shown .e) keys₀ keys (shown .x) (shown .y) n r (s .shows .takes) (s .shows .wants) (omega (arith, r .count, length-take (shown .y) (eligibleDays book (shown .e)), enough book (shown .e) (shown .point .method) back (rw method-is at (settles book (shown .e) (s .good) .enough)), s .shows .wants)) few
 
   -- a quarter-hour's mean
-  pub high-level : (keys : List ℕ) (k add r : ℕ) (z : ℤ) → Took book e keys x → k < e .count → Over (grains (2 * raise)) z add
-      → Raises (dayRuns readings c e (originOf c (e .point)) k 0 1 (daysIn keys x)) x add r → Over (grains (3 * raise)) (high book e k +ℤ z) r
+  pub high-level : (keys : List ℕ) (k add r : ℕ) (z : ℤ) → Took book (shown .e) keys (shown .x) → k < shown .e .count → Over (grains (2 * raise)) z add
+      → Raises (dayRuns readings (shown .c) (shown .e) (originOf (shown .c) (shown .e .point)) k 0 1 (daysIn keys (shown .x))) (shown .x) add r → Over (grains (3 * raise)) (high book (shown .e) k +ℤ z) r
   unfolding high mean
   high-level keys k add r z t h o raises =
-      let runs : dayRuns readings c e (originOf c (e .point)) k 0 1 (daysIn keys x) ≡ map (dayReading book e k) (taken book e) = ap (dayRuns readings c e (originOf c (e .point)) k 0 1) (t .days) ∙ quarter-runs (s .shows) k (taken book e) in
-      let count : length (map (dayReading book e k) (taken book e)) ≡ x = length-map (taken book e) (dayReading book e k) ∙ t .count in
-      rw count (subst (λ (l : List Reading). Over (grains (3 * raise)) (sumZ watts l *ℤ pos (share x) +ℤ z) r) runs (raises .level z (ap complete runs ∙ high-complete book e k h) o))
+      let runs : dayRuns readings (shown .c) (shown .e) (originOf (shown .c) (shown .e .point)) k 0 1 (daysIn keys (shown .x)) ≡ map (dayReading book (shown .e) k) (taken book (shown .e)) = ap (dayRuns readings (shown .c) (shown .e) (originOf (shown .c) (shown .e .point)) k 0 1) (t .days) ∙ quarter-runs (s .shows) k (taken book (shown .e)) in
+      let count : length (map (dayReading book (shown .e) k) (taken book (shown .e))) ≡ shown .x = length-map (taken book (shown .e)) (dayReading book (shown .e) k) ∙ t .count in
+      rw count (subst (λ (l : List Reading). Over (grains (3 * raise)) (sumZ watts l *ℤ pos (share (shown .x)) +ℤ z) r) runs (raises .level z (ap complete runs ∙ high-complete book (shown .e) k h) o))
 
   -- method 2's addend
-  pub addend-level-is : (keys : List ℕ) (r : ℕ) → Took book e keys x → point .method ≡ Adjusted
-      → Adds (windowIn readings (originOf c (e .point)) (start c e)) (dayRuns readings c e (originOf c (e .point)) 0 24 12 (daysIn keys x)) x r → Over (grains (2 * raise)) (addend book e) r
+  pub addend-level-is : (keys : List ℕ) (r : ℕ) → Took book (shown .e) keys (shown .x) → shown .point .method ≡ Adjusted
+      → Adds (windowIn readings (originOf (shown .c) (shown .e .point)) (start (shown .c) (shown .e))) (dayRuns readings (shown .c) (shown .e) (originOf (shown .c) (shown .e .point)) 0 24 12 (daysIn keys (shown .x))) (shown .x) r → Over (grains (2 * raise)) (addend book (shown .e)) r
   unfolding addend mean
   addend-level-is keys r t m adds =
       let own = sym (own-window (s .shows)) in
-      let runs = ap (dayRuns readings c e (originOf c (e .point)) 0 24 12) (t .days) ∙ window-runs (s .shows) (taken book e) m (t .each) in
-      let mine : length (ownWindow book e) ≡ 12 = own-length book e in
-      let count : length (flatMap (dayWindow book e) (taken book e)) ≡ 12 * x = length-flatMap 12 (dayWindow book e) (λ d. day-length book e d) (taken book e) ∙ ap (λ (n : ℕ). 12 * n) (t .count) in
+      let runs = ap (dayRuns readings (shown .c) (shown .e) (originOf (shown .c) (shown .e .point)) 0 24 12) (t .days) ∙ window-runs (s .shows) (taken book (shown .e)) m (t .each) in
+      let mine : length (ownWindow book (shown .e)) ≡ 12 = own-length book (shown .e) in
+      let count : length (flatMap (dayWindow book (shown .e)) (taken book (shown .e))) ≡ 12 * (shown .x) = length-flatMap 12 (dayWindow book (shown .e)) (λ d. day-length book (shown .e) d) (taken book (shown .e)) ∙ ap (λ (n : ℕ). 12 * n) (t .count) in
       let here = method-is ∙ m in
       rw (mine, count)
-      (subst (λ (l : List Reading). Over (grains (2 * raise)) (sumZ watts (ownWindow book e) *ℤ pos (share 12) -ℤ sumZ watts l *ℤ pos (share (12 * x))) r) runs
-      (subst (λ (l : List Reading). Over (grains (2 * raise)) (sumZ watts l *ℤ pos (share 12) -ℤ sumZ watts (dayRuns readings c e (originOf c (e .point)) 0 24 12 (daysIn keys x)) *ℤ pos (share (12 * x))) r) own
-      (adds .level (ap complete own ∙ own-window-complete book e (settles book e (s .good)) here) (ap complete runs ∙ windows-complete book e here))))
+      (subst (λ (l : List Reading). Over (grains (2 * raise)) (sumZ watts (ownWindow book (shown .e)) *ℤ pos (share 12) -ℤ sumZ watts l *ℤ pos (share (12 * (shown .x)))) r) runs
+      (subst (λ (l : List Reading). Over (grains (2 * raise)) (sumZ watts l *ℤ pos (share 12) -ℤ sumZ watts (dayRuns readings (shown .c) (shown .e) (originOf (shown .c) (shown .e .point)) 0 24 12 (daysIn keys (shown .x))) *ℤ pos (share (12 * (shown .x)))) r) own
+      (adds .level (ap complete own ∙ own-window-complete book (shown .e) (settles book (shown .e) (s .good)) here) (ap complete runs ∙ windows-complete book (shown .e) here))))
 
   -- what the methods make of these
-  pub by-mean : (keys : List ℕ) (k add r : ℕ) → Took book e keys x → point .method ≡ HighXOfY → k < e .count → add ≡ grains (2 * raise)
-      → Raises (dayRuns readings c e (originOf c (e .point)) k 0 1 (daysIn keys x)) x add r → Over (grains (3 * raise)) (baseline book e k) r
+  pub by-mean : (keys : List ℕ) (k add r : ℕ) → Took book (shown .e) keys (shown .x) → shown .point .method ≡ HighXOfY → k < shown .e .count → add ≡ grains (2 * raise)
+      → Raises (dayRuns readings (shown .c) (shown .e) (originOf (shown .c) (shown .e .point)) k 0 1 (daysIn keys (shown .x))) (shown .x) add r → Over (grains (3 * raise)) (baseline book (shown .e) k) r
   unfolding baseline baselineBy
   by-mean keys k add r t m h a raises =
-      rw (method-is ∙ m) (rw (+ℤ-idr (high book e k)) at (high-level keys k add r (pos 0) t h (record { law = omega arith }) raises))
+      rw (method-is ∙ m) (rw (+ℤ-idr (high book (shown .e) k)) at (high-level keys k add r (pos 0) t h (record { law = omega arith }) raises))
 
-  pub by-addend : (keys : List ℕ) (k add r : ℕ) → Took book e keys x → point .method ≡ Adjusted → k < e .count
-      → Adds (windowIn readings (originOf c (e .point)) (start c e)) (dayRuns readings c e (originOf c (e .point)) 0 24 12 (daysIn keys x)) x add
-      → Raises (dayRuns readings c e (originOf c (e .point)) k 0 1 (daysIn keys x)) x add r → Over (grains (3 * raise)) (baseline book e k) r
+  pub by-addend : (keys : List ℕ) (k add r : ℕ) → Took book (shown .e) keys (shown .x) → shown .point .method ≡ Adjusted → k < shown .e .count
+      → Adds (windowIn readings (originOf (shown .c) (shown .e .point)) (start (shown .c) (shown .e))) (dayRuns readings (shown .c) (shown .e) (originOf (shown .c) (shown .e .point)) 0 24 12 (daysIn keys (shown .x))) (shown .x) add
+      → Raises (dayRuns readings (shown .c) (shown .e) (originOf (shown .c) (shown .e .point)) k 0 1 (daysIn keys (shown .x))) (shown .x) add r → Over (grains (3 * raise)) (baseline book (shown .e) k) r
   unfolding baseline baselineBy
-  by-addend keys k add r t m h adds raises = rw (method-is ∙ m) (high-level keys k add r (addend book e) t h (addend-level-is keys add t m adds) raises)
+  by-addend keys k add r t m h adds raises = rw (method-is ∙ m) (high-level keys k add r (addend book (shown .e)) t h (addend-level-is keys add t m adds) raises)
 
-  last-is : lastReading book e ≡ beforeIn readings (originOf c (e .point)) (start c e) (e .notice + 1)
+  last-is : lastReading book (shown .e) ≡ beforeIn readings (originOf (shown .c) (shown .e .point)) (start (shown .c) (shown .e)) (shown .e .notice + 1)
   unfolding lastReading
-  last-is = before-at (s .shows) (start (book .calendar) e) (e .notice + 1) ∙ ap (λ (q : ℕ). beforeIn readings (originOf c (e .point)) q (e .notice + 1)) (start-at (s .shows))
+  last-is = before-at (s .shows) (start (book .calendar) (shown .e)) (shown .e .notice + 1) ∙ ap (λ (q : ℕ). beforeIn readings (originOf (shown .c) (shown .e .point)) q (shown .e .notice + 1)) (start-at (s .shows))
 
-  last-there : point .method ≡ LastQuarter → known (beforeIn readings (originOf c (e .point)) (start c e) (e .notice + 1)) ≡ true
-  last-there m = ap known (sym last-is) ∙ last-known book e (settles book e (s .good)) (method-is ∙ m)
+  last-there : shown .point .method ≡ LastQuarter → known (beforeIn readings (originOf (shown .c) (shown .e .point)) (start (shown .c) (shown .e)) (shown .e .notice + 1)) ≡ true
+  last-there m = ap known (sym last-is) ∙ last-known book (shown .e) (settles book (shown .e) (s .good)) (method-is ∙ m)
 
-  pub last-inside : point .method ≡ LastQuarter → e .notice + 1 ≤ start c e
-  last-inside m = known-inside readings (originOf c (e .point)) (start c e) (e .notice + 1) (last-there m)
+  pub last-inside : shown .point .method ≡ LastQuarter → shown .e .notice + 1 ≤ start (shown .c) (shown .e)
+  last-inside m = known-inside readings (originOf (shown .c) (shown .e .point)) (start (shown .c) (shown .e)) (shown .e .notice + 1) (last-there m)
 
-  pub by-last : (k r : ℕ) → point .method ≡ LastQuarter → Lasts (beforeIn readings (originOf c (e .point)) (start c e) (e .notice + 1)) r → Over (grains (3 * raise)) (baseline book e k) r
+  pub by-last : (k r : ℕ) → shown .point .method ≡ LastQuarter → Lasts (beforeIn readings (originOf (shown .c) (shown .e .point)) (start (shown .c) (shown .e)) (shown .e .notice + 1)) r → Over (grains (3 * raise)) (baseline book (shown .e) k) r
   unfolding baseline baselineBy
   by-last k r m lasts = rw (method-is ∙ m, last-is) (lasts .level (last-there m))
 
   -- the days that are taken can be read
-  pub serves-at : (keys : List ℕ) → Took book e keys x → x ≤ length keys → (j : ℕ) → j < x → Serves book e (getD keys j 0 % 64)
+  pub serves-at : (keys : List ℕ) → Took book (shown .e) keys (shown .x) → shown .x ≤ length keys → (j : ℕ) → j < shown .x → Serves book (shown .e) (getD keys j 0 % 64)
   serves-at keys t h j i =
-      let day : getD (daysIn keys x) j 0 ≡ getD keys j 0 % 64 = List·getD-map (λ k. k % 64) (take x keys) j 0 ∙ ap (λ (k : ℕ). k % 64) (getD-take x keys j 0 i) in
-      subst (Serves book e) day (all-at (Serves book e) (daysIn keys x) j 0 (rw (t .days) (t .each)) (omega (arith, length-map (take x keys) (λ k. k % 64), length-take x keys)))
+      let day : getD (daysIn keys (shown .x)) j 0 ≡ getD keys j 0 % 64 = List·getD-map (λ k. k % 64) (take (shown .x) keys) j 0 ∙ ap (λ (k : ℕ). k % 64) (getD-take (shown .x) keys j 0 i) in
+      subst (Serves book (shown .e)) day (all-at (Serves book (shown .e)) (daysIn keys (shown .x)) j 0 (rw (t .days) (t .each)) (omega (arith, length-map (take (shown .x) keys) (λ k. k % 64), length-take (shown .x) keys)))
 
-  lie-of : (keys : List ℕ) → Fits c calendar readings e → Took book e keys x → x ≤ 10 → x ≤ length keys → (k back n : ℕ) → k ≤ longestDay → n ≤ 12
-      → ((d : ℕ) → Serves book e d → Lies readings c e (originOf c (e .point)) k back n d) → Lie readings keys c e (originOf c (e .point)) k back n x
+  lie-of : (keys : List ℕ) → Fits shown calendar readings → Took book (shown .e) keys (shown .x) → shown .x ≤ 10 → shown .x ≤ length keys → (k back n : ℕ) → k ≤ longestDay → n ≤ 12
+      → ((d : ℕ) → Serves book (shown .e) d → Lies readings (shown .c) (shown .e) (originOf (shown .c) (shown .e .point)) k back n d) → Lie readings keys (shown .c) (shown .e) (originOf (shown .c) (shown .e .point)) k back n (shown .x)
   lie-of keys f t few room k back n h short lies =
       record {
-        start = stands c calendar readings e f .origin;
+        start = stands shown calendar readings f .origin;
         quarter = h;
         short = short;
         few = few;
@@ -143,32 +143,32 @@ module _ {c : Calendar} {calendar readings : List ℕ} {point : Point} {e : Enga
         lies = λ j i. lies (getD keys j 0 % 64) (serves-at keys t room j i);
       }
 
-  pub lie-quarters : (keys : List ℕ) → Fits c calendar readings e → Took book e keys x → x ≤ 10 → x ≤ length keys → (k : ℕ) → k < e .count → Lie readings keys c e (originOf c (e .point)) k 0 1 x
+  pub lie-quarters : (keys : List ℕ) → Fits shown calendar readings → Took book (shown .e) keys (shown .x) → shown .x ≤ 10 → shown .x ≤ length keys → (k : ℕ) → k < shown .e .count → Lie readings keys (shown .c) (shown .e) (originOf (shown .c) (shown .e .point)) k 0 1 (shown .x)
   lie-quarters keys f t few room k h =
-      let own = stands c calendar readings e f in
+      let own = stands shown calendar readings f in
       lie-of keys f t few room k 0 1 (omega (arith, own .many)) (omega arith)
-      (λ d v. let m = stands-on c calendar readings e d f (v .early) .each k h in record { early = v .small; inside = omega (arith, own .few); from = omega arith; room = omega (arith, own .roomy) })
+      (λ d v. let m = stands-on shown calendar readings d f (v .early) .each k h in record { early = v .small; inside = omega (arith, own .few); from = omega arith; room = omega (arith, own .roomy) })
 
-  pub lie-windows : (keys : List ℕ) → Fits c calendar readings e → Took book e keys x → x ≤ 10 → x ≤ length keys → point .method ≡ Adjusted → Lie readings keys c e (originOf c (e .point)) 0 24 12 x
+  pub lie-windows : (keys : List ℕ) → Fits shown calendar readings → Took book (shown .e) keys (shown .x) → shown .x ≤ 10 → shown .x ≤ length keys → shown .point .method ≡ Adjusted → Lie readings keys (shown .c) (shown .e) (originOf (shown .c) (shown .e .point)) 0 24 12 (shown .x)
   lie-windows keys f t few room w =
-      let own = stands c calendar readings e f in
+      let own = stands shown calendar readings f in
       lie-of keys f t few room 0 24 12 (omega arith) (omega arith)
       (λ d v.
-      let m = stands-on c calendar readings e d f (v .early) .run in
+      let m = stands-on shown calendar readings d f (v .early) .run in
       let q = window-inside (s .shows) d w (v .good) in
       record { early = v .small; inside = omega (arith, own .few); from = q; room = omega (arith, own .roomy) })
 
   -- methods 1 and 2 together
-  pub by-days : (keys : List ℕ) (k add r : ℕ) (m : Method) → point .method ≡ m → looksBack m ≡ true → Took book e keys x → k < e .count
-      → Added m (windowIn readings (originOf c (e .point)) (start c e)) (dayRuns readings c e (originOf c (e .point)) 0 24 12 (daysIn keys x)) x add
-      → Raises (dayRuns readings c e (originOf c (e .point)) k 0 1 (daysIn keys x)) x add r → Over (grains (3 * raise)) (baseline book e k) r
+  pub by-days : (keys : List ℕ) (k add r : ℕ) (m : Method) → shown .point .method ≡ m → looksBack m ≡ true → Took book (shown .e) keys (shown .x) → k < shown .e .count
+      → Added m (windowIn readings (originOf (shown .c) (shown .e .point)) (start (shown .c) (shown .e))) (dayRuns readings (shown .c) (shown .e) (originOf (shown .c) (shown .e .point)) 0 24 12 (daysIn keys (shown .x))) (shown .x) add
+      → Raises (dayRuns readings (shown .c) (shown .e) (originOf (shown .c) (shown .e .point)) k 0 1 (daysIn keys (shown .x))) (shown .x) add r → Over (grains (3 * raise)) (baseline book (shown .e) k) r
   unfolding looksBack
   by-days keys k add r LastQuarter m b t h a raises = let z : _≡_ {A = ℕ} 0 1 = cc in absurd (omega arith)
   by-days keys k add r HighXOfY m b t h a raises = by-mean keys k add r t m h (a .plain refl) raises
   by-days keys k add r Adjusted m b t h a raises = by-addend keys k add r t m h (a .adjusted refl) raises
 
   -- and method 0
-  pub method-0 : (m : Method) → point .method ≡ m → looksBack m ≡ false → point .method ≡ LastQuarter
+  pub method-0 : (m : Method) → shown .point .method ≡ m → looksBack m ≡ false → shown .point .method ≡ LastQuarter
   unfolding looksBack
   method-0 LastQuarter m b = m
   method-0 HighXOfY m b = let z : _≡_ {A = ℕ} 0 1 = cc in absurd (omega arith)

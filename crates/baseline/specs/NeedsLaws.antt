@@ -8,7 +8,6 @@ use native.Mathlib.Omega.{arith}
 use lib.Dec.{ltb}
 use lib.ListN.{length, take}
 use Rattle.wire.specs.declared.Reading.{Reading}
-use Rattle.quarters.specs.declared.Calendar.{Calendar}
 use Rattle.book.specs.declared.Engagement.{Engagement}
 use Rattle.book.specs.declared.Point.{Point}
 use Rattle.book.specs.declared.Method.{Method}
@@ -20,27 +19,28 @@ use Rattle.volumes.specs.Baseline.{pointOf, complete, lastReading, ownReading, 
 use Rattle.volumes.specs.BaselineLaws.{complete-append}
 use Rattle.volumes.specs.DaysLaws.{few-latest}
 use Rattle.volumes.specs.Settlement.{neededBy, needed, tooFew, refusalNumber}
+use Rattle.baseline.specs.declared.shown.Shown.{Shown}
 use Rattle.baseline.specs.TallyInner.{inRun}
 use Rattle.baseline.specs.ShownInner.{Shows, beforeIn}
 use Rattle.baseline.specs.ShownLaws.{own-run, before-at, start-at, own-window}
 use Rattle.baseline.specs.NeedsInner.{neededIn, looksBack, firstOf}
 
-module _ {c : Calendar} {calendar readings : List ℕ} {point : Point} {e : Engagement} {book : Book} (s : Shows c calendar readings point e book) where
-  needed-by : (method : Method) → neededBy method book e ≡ neededIn method readings (originOf c (e .point)) (start c e) (e .notice)
+module _ {shown : Shown} {calendar readings : List ℕ} {book : Book} (s : Shows shown calendar readings book) where
+  needed-by : (method : Method) → neededBy method book (shown .e) ≡ neededIn method readings (originOf (shown .c) (shown .e .point)) (start (shown .c) (shown .e)) (shown .e .notice)
   unfolding neededBy neededIn lastReading
-  needed-by LastQuarter = ap (λ (r : Reading). r ∷ []) (before-at s (start (book .calendar) e) (e .notice + 1) ∙ ap (λ (q : ℕ). beforeIn readings (originOf c (e .point)) q (e .notice + 1)) (start-at s))
+  needed-by LastQuarter = ap (λ (r : Reading). r ∷ []) (before-at s (start (book .calendar) (shown .e)) (shown .e .notice + 1) ∙ ap (λ (q : ℕ). beforeIn readings (originOf (shown .c) (shown .e .point)) q (shown .e .notice + 1)) (start-at s))
   needed-by HighXOfY = refl
   needed-by Adjusted = own-window s
 
-  pub needed-is : complete (needed book e) ≡ (complete (inRun readings (originOf c (e .point) + start c e) (e .count)) && complete (neededIn (point .method) readings (originOf c (e .point)) (start c e) (e .notice)))
+  pub needed-is : complete (needed book (shown .e)) ≡ (complete (inRun readings (originOf (shown .c) (shown .e .point) + start (shown .c) (shown .e)) (shown .e .count)) && complete (neededIn (shown .point .method) readings (originOf (shown .c) (shown .e .point)) (start (shown .c) (shown .e)) (shown .e .notice)))
   unfolding needed
   needed-is =
-      complete-append (map (ownReading book e) (quarterHours e)) (neededBy (pointOf book e .method) book e)
-      ∙ ap₂ _&&_ (ap complete (own-run s)) (ap complete (needed-by (pointOf book e .method) ∙ ap (λ (p : Point). neededIn (p .method) readings (originOf c (e .point)) (start c e) (e .notice)) (s .owner)))
+      complete-append (map (ownReading book (shown .e)) (quarterHours (shown .e))) (neededBy (pointOf book (shown .e) .method) book (shown .e))
+      ∙ ap₂ _&&_ (ap complete (own-run s)) (ap complete (needed-by (pointOf book (shown .e) .method) ∙ ap (λ (p : Point). neededIn (p .method) readings (originOf (shown .c) (shown .e .point)) (start (shown .c) (shown .e)) (shown .e .notice)) (s .owner)))
 
   -- 8 before 9
-  pub first-lack : (whole few : Bool) → whole ≡ complete (needed book e) → few ≡ tooFew (point .method) (yOf book e) (length (eligibleDays book e))
-      → firstOf (cond whole none (some 8)) (cond few (some 9) none) ≡ refusalNumber book e
+  pub first-lack : (whole few : Bool) → whole ≡ complete (needed book (shown .e)) → few ≡ tooFew (shown .point .method) (yOf book (shown .e)) (length (eligibleDays book (shown .e)))
+      → firstOf (cond whole none (some 8)) (cond few (some 9) none) ≡ refusalNumber book (shown .e)
   unfolding refusalNumber
   first-lack true few w f = rw (sym w, ap (λ (p : Point). p .method) (s .owner), sym f)
   first-lack false few w f = rw (sym w)

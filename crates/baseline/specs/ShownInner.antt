@@ -10,34 +10,37 @@ use Rattle.integers.specs.ZLaws.{Over}
 use Rattle.wire.specs.Readings.{readingAt}
 use Rattle.wire.specs.declared.Reading.{Reading}
 use Rattle.wire.specs.declared.Reading.the-variants.{Missing}
-use Rattle.quarters.specs.declared.Calendar.{Calendar}
 use Rattle.book.specs.declared.Engagement.{Engagement}
-use Rattle.book.specs.declared.Point.{Point}
 use Rattle.quarters.specs.Quarters.{daysOf, quarters, quartersOf, originOf}
 use Rattle.book.specs.Tables.{categoryAt}
 use Rattle.book.specs.Book.{Book}
-use Rattle.volumes.specs.Baseline.{pointOf, eligible, daySum}
+use Rattle.volumes.specs.Baseline.{pointOf, xOf, yOf, eligible, daySum}
+use Rattle.volumes.specs.SoundInner.{XOfY}
+use Rattle.baseline.specs.declared.shown.Shown.{Shown}
 use Rattle.baseline.specs.declared.tally.Tally.{Tally}
 use Rattle.quarters.specs.QuartersInner.{Ranged}
 use Rattle.wire.specs.ReadingsInner.{raise}
 
--- the sections are those of a book, and the point is that of the engagement
-pub record Shows (c : Calendar) (calendar readings : List ℕ) (point : Point) (e : Engagement) (book : Book) : Type 0 where
-  pub when : book .calendar ≡ c
+-- the sections are those of a book; the point, X and Y are those of the engagement
+pub record Shows (shown : Shown) (calendar readings : List ℕ) (book : Book) : Type 0 where
+  pub when : book .calendar ≡ shown .c
   pub category : (d : ℕ) → book .category d ≡ categoryAt calendar d
-  pub reading : (p k : ℕ) → book .reading p k ≡ readingAt readings (originOf c p + k)
-  pub owner : pointOf book e ≡ point
+  pub reading : (p k : ℕ) → book .reading p k ≡ readingAt readings (originOf (shown .c) p + k)
+  pub owner : pointOf book (shown .e) ≡ shown .point
+  pub takes : shown .x ≡ xOf book (shown .e)
+  pub wants : shown .y ≡ yOf book (shown .e)
 
--- the engagement lies in the calendar, and its point's readings in theirs
-pub record Fits (c : Calendar) (calendar readings : List ℕ) (e : Engagement) : Type 0 where
-  pub ranged : Ranged c
-  pub days : length calendar ≡ daysOf c
-  pub day : e .day < daysOf c
-  pub quarter : e .first + e .count ≤ quarters c (e .day)
-  pub some : 1 ≤ e .count
-  pub soon : e .notice ≤ 96
-  pub few : e .point < 256
-  pub room : 4 * (originOf c (e .point) + quartersOf c) ≤ length readings
+-- the engagement lies in the calendar, and its point's readings in theirs; X and Y are in range
+pub record Fits (shown : Shown) (calendar readings : List ℕ) : Type 0 where
+  pub ranged : Ranged (shown .c)
+  pub days : length calendar ≡ daysOf (shown .c)
+  pub day : shown .e .day < daysOf (shown .c)
+  pub quarter : shown .e .first + shown .e .count ≤ quarters (shown .c) (shown .e .day)
+  pub some : 1 ≤ shown .e .count
+  pub soon : shown .e .notice ≤ 96
+  pub few : shown .e .point < 256
+  pub room : 4 * (originOf (shown .c) (shown .e .point) + quartersOf (shown .c)) ≤ length readings
+  pub x-of-y : XOfY (shown .x) (shown .y)
 
 -- the reading n quarter-hours before quarter-hour q, of the point whose readings start at `origin`
 abbrev pub beforeIn : List ℕ → ℕ → ℕ → ℕ → Reading

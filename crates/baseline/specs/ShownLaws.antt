@@ -13,12 +13,12 @@ use Rattle.wire.specs.declared.Reading.{Reading}
 use Rattle.wire.specs.declared.Reading.the-variants.{Missing}
 use Rattle.quarters.specs.declared.Calendar.{Calendar}
 use Rattle.book.specs.declared.Engagement.{Engagement}
-use Rattle.book.specs.declared.Point.{Point}
 use Rattle.quarters.specs.Quarters.{quarters, dayStart, quartersOf, originOf}
 use Rattle.quarters.specs.QuartersLaws.{days-few, quarters-few, origin-few}
 use Rattle.book.specs.Book.{Book}
 use Rattle.volumes.specs.Quarters.{quarterHours, start, referenceQuarter, reference}
 use Rattle.volumes.specs.Baseline.{readingBefore, window, ownReading, dayReading, dayReadings, ownWindow, dayWindow, known, complete}
+use Rattle.baseline.specs.declared.shown.Shown.{Shown}
 use Rattle.baseline.specs.TallyInner.{inRun}
 use Rattle.baseline.specs.RunsInner.{standing}
 use Rattle.baseline.specs.ShownInner.{Shows, Fits, beforeIn, windowIn}
@@ -29,51 +29,51 @@ map-cong : {A B : Type 0} (f g : A → B) (l : List A) → ((a : A) → f a ≡ 
 map-cong f g [] h = refl
 map-cong f g (a ∷ l) h = ap₂ _∷_ (h a) (map-cong f g l h)
 
-module _ {c : Calendar} {calendar readings : List ℕ} {point : Point} {e : Engagement} {book : Book} (s : Shows c calendar readings point e book) where
+module _ {shown : Shown} {calendar readings : List ℕ} {book : Book} (s : Shows shown calendar readings book) where
   -- a run of readings from quarter-hour q on
-  run-at : (q n : ℕ) → map (λ k. book .reading (e .point) (q + k)) (range 0 n) ≡ inRun readings (originOf c (e .point) + q) n
+  run-at : (q n : ℕ) → map (λ k. book .reading (shown .e .point) (q + k)) (range 0 n) ≡ inRun readings (originOf (shown .c) (shown .e .point) + q) n
   run-at q n =
-      let origin = originOf c (e .point) in
+      let origin = originOf (shown .c) (shown .e .point) in
       let index : (k : ℕ) → origin + (q + k) ≡ origin + q + k = λ k. omega arith in
       let none : origin + q + 0 ≡ origin + q = omega arith in
-      map-cong (λ k. book .reading (e .point) (q + k)) (λ k. readingAt readings (origin + q + k)) (range 0 n) (λ k. s .reading (e .point) (q + k) ∙ ap (readingAt readings) (index k))
+      map-cong (λ k. book .reading (shown .e .point) (q + k)) (λ k. readingAt readings (origin + q + k)) (range 0 n) (λ k. s .reading (shown .e .point) (q + k) ∙ ap (readingAt readings) (index k))
       ∙ range-shift (readingAt readings) (origin + q) 0 n
       ∙ ap (λ (a : ℕ). inRun readings a n) none
 
   -- the readings of day d that stand for the engagement's quarter-hours
-  pub day-reading : (k d : ℕ) → dayReading book e k d ≡ readingAt readings (originOf c (e .point) + reference c e d k)
+  pub day-reading : (k d : ℕ) → dayReading book (shown .e) k d ≡ readingAt readings (originOf (shown .c) (shown .e .point) + reference (shown .c) (shown .e) d k)
   unfolding dayReading
-  day-reading k d = s .reading (e .point) (reference (book .calendar) e d k) ∙ ap (λ (b : Calendar). readingAt readings (originOf c (e .point) + reference b e d k)) (s .when)
+  day-reading k d = s .reading (shown .e .point) (reference (book .calendar) (shown .e) d k) ∙ ap (λ (b : Calendar). readingAt readings (originOf (shown .c) (shown .e .point) + reference b (shown .e) d k)) (s .when)
 
-  pub day-standing : (d : ℕ) → dayReadings book e d ≡ standing readings c e (originOf c (e .point)) d
+  pub day-standing : (d : ℕ) → dayReadings book (shown .e) d ≡ standing readings (shown .c) (shown .e) (originOf (shown .c) (shown .e .point)) d
   unfolding dayReadings
-  day-standing d = map-cong _ _ (quarterHours e) (λ k. day-reading k d)
+  day-standing d = map-cong _ _ (quarterHours (shown .e)) (λ k. day-reading k d)
 
   -- those of A in the engagement's quarter-hours
-  pub own-run : map (ownReading book e) (quarterHours e) ≡ inRun readings (originOf c (e .point) + start c e) (e .count)
+  pub own-run : map (ownReading book (shown .e)) (quarterHours (shown .e)) ≡ inRun readings (originOf (shown .c) (shown .e .point) + start (shown .c) (shown .e)) (shown .e .count)
   unfolding ownReading quarterHours
   own-run =
-      map-cong _ (λ k. book .reading (e .point) (start c e + k)) (range 0 (e .count)) (λ k. ap (λ (b : Calendar). book .reading (e .point) (start b e + k)) (s .when))
-      ∙ run-at (start c e) (e .count)
+      map-cong _ (λ k. book .reading (shown .e .point) (start (shown .c) (shown .e) + k)) (range 0 (shown .e .count)) (λ k. ap (λ (b : Calendar). book .reading (shown .e .point) (start b (shown .e) + k)) (s .when))
+      ∙ run-at (start (shown .c) (shown .e)) (shown .e .count)
 
-  pub before-at : (q n : ℕ) → readingBefore book (e .point) q n ≡ beforeIn readings (originOf c (e .point)) q n
+  pub before-at : (q n : ℕ) → readingBefore book (shown .e .point) q n ≡ beforeIn readings (originOf (shown .c) (shown .e .point)) q n
   unfolding readingBefore
-  before-at q n = ap (λ (r : Reading). cond (leb n q) r Missing) (s .reading (e .point) (q - n))
+  before-at q n = ap (λ (r : Reading). cond (leb n q) r Missing) (s .reading (shown .e .point) (q - n))
 
-  pub window-at : (q : ℕ) → window book (e .point) q ≡ windowIn readings (originOf c (e .point)) q
+  pub window-at : (q : ℕ) → window book (shown .e .point) q ≡ windowIn readings (originOf (shown .c) (shown .e .point)) q
   unfolding window
   window-at q = map-cong _ _ (range 0 12) (λ i. before-at q (24 - i))
 
-  pub start-at : start (book .calendar) e ≡ start c e
-  start-at = ap (λ (b : Calendar). start b e) (s .when)
+  pub start-at : start (book .calendar) (shown .e) ≡ start (shown .c) (shown .e)
+  start-at = ap (λ (b : Calendar). start b (shown .e)) (s .when)
 
-  pub own-window : ownWindow book e ≡ windowIn readings (originOf c (e .point)) (start c e)
+  pub own-window : ownWindow book (shown .e) ≡ windowIn readings (originOf (shown .c) (shown .e .point)) (start (shown .c) (shown .e))
   unfolding ownWindow
-  own-window = window-at (start (book .calendar) e) ∙ ap (windowIn readings (originOf c (e .point))) start-at
+  own-window = window-at (start (book .calendar) (shown .e)) ∙ ap (windowIn readings (originOf (shown .c) (shown .e .point))) start-at
 
-  pub day-window : (d : ℕ) → dayWindow book e d ≡ windowIn readings (originOf c (e .point)) (reference c e d 0)
+  pub day-window : (d : ℕ) → dayWindow book (shown .e) d ≡ windowIn readings (originOf (shown .c) (shown .e .point)) (reference (shown .c) (shown .e) d 0)
   unfolding dayWindow
-  day-window d = window-at (reference (book .calendar) e d 0) ∙ ap (λ (b : Calendar). windowIn readings (originOf c (e .point)) (reference b e d 0)) (s .when)
+  day-window d = window-at (reference (book .calendar) (shown .e) d 0) ∙ ap (λ (b : Calendar). windowIn readings (originOf (shown .c) (shown .e .point)) (reference b (shown .e) d 0)) (s .when)
 
 -- a window that lies in the calendar is a run of 12, and another is not whole
 pub window-run : (readings : List ℕ) (origin q : ℕ) → 24 ≤ q → windowIn readings origin q ≡ inRun readings (origin + (q - 24)) 12
@@ -101,9 +101,10 @@ pub record DayStands (c : Calendar) (e : Engagement) (room : ℕ) : Type 0 where
   pub origin : originOf c (e .point) ≤ farthestOrigin
   pub roomy : 4 * (originOf c (e .point) + quartersOf c) ≤ room
 
-pub stands : (c : Calendar) (calendar readings : List ℕ) (e : Engagement) → Fits c calendar readings e → DayStands c e (length readings)
+pub stands : (shown : Shown) (calendar readings : List ℕ) → Fits shown calendar readings → DayStands (shown .c) (shown .e) (length readings)
 unfolding start dayStart quarters
-stands c calendar readings e f =
+stands shown calendar readings f =
+    let c = shown .c in
     let n = days-few c (f .ranged) in
     let q = f .quarter in
     let d = f .day in
@@ -112,7 +113,7 @@ stands c calendar readings e f =
       early = omega arith;
       inside = omega arith;
       few = quarters-few c (f .ranged);
-      origin = origin-few c (e .point) (f .ranged) (f .few);
+      origin = origin-few c (shown .e .point) (f .ranged) (f .few);
       roomy = f .room;
     }
 
@@ -122,10 +123,10 @@ pub record StandsOn (c : Calendar) (e : Engagement) (d : ℕ) : Type 0 where
   pub each : (k : ℕ) → k < e .count → reference c e d k < quartersOf c
   pub run : reference c e d 0 + e .count ≤ quartersOf c
 
-pub stands-on : (c : Calendar) (calendar readings : List ℕ) (e : Engagement) (d : ℕ) → Fits c calendar readings e → d < e .day → StandsOn c e d
+pub stands-on : (shown : Shown) (calendar readings : List ℕ) (d : ℕ) → Fits shown calendar readings → d < shown .e .day → StandsOn (shown .c) (shown .e) d
 unfolding reference referenceQuarter dayStart quarters
-stands-on c calendar readings e d f h =
-    let n = days-few c (f .ranged) in
+stands-on shown calendar readings d f h =
+    let n = days-few (shown .c) (f .ranged) in
     let q = f .quarter in
     let b = f .day in
     record { early = omega arith; each = λ k l. omega arith; run = omega arith }

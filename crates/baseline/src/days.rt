@@ -1,8 +1,8 @@
 // Reference days: which are eligible, and their sums over the engagement's quarter-hours.
+use crate::shown::Shown;
 use crate::tally::Tally;
 use book::Engagement;
 use book::Method;
-use book::Point;
 use quarters::Calendar;
 ghost use mathlib.Core.Path.{_≡_};
 ghost use Prim.Native.Nat.{_+_, _*_, _≤_, _<_};
@@ -61,17 +61,18 @@ fn tally_standing(c: Calendar, readings: &[u8], e: Engagement, origin: usize, da
 
 // A day before the engagement's, of the point whose readings start at `origin`: whole where it is eligible, and then its sum.
 pub fn reference_day(
-    c: Calendar,
+    shown: Shown,
     calendar: &[u8],
     readings: &[u8],
-    point: Point,
-    e: Engagement,
     origin: usize,
     day: usize,
 ) -> Tally
-    requires { ⌜ Fits c (now calendar) (now readings) e × (origin ≡ originOf c (e .point)) × (day < e .day) ⌝ }
-    ensures { λ r. ⌜ (r .sum ≤ 4294967295 * e .count) × ((b : Book) → Shows c (now (calendar .entry)) (now (readings .entry)) point e b → Refers b e day r) ⌝ }
+    requires { ⌜ Fits shown (now calendar) (now readings) × (origin ≡ originOf (shown .c) (shown .e .point)) × (day < shown .e .day) ⌝ }
+    ensures { λ r. ⌜ (r .sum ≤ 4294967295 * shown .e .count) × ((b : Book) → Shows shown (now (calendar .entry)) (now (readings .entry)) b → Refers b (shown .e) day r) ⌝ }
 {
+    let c = shown.c;
+    let e = shown.e;
+    let point = shown.point;
     let own = e.day as usize;
     let mask = point.mask;
     let method = point.method;

@@ -1,7 +1,7 @@
 // The raised baselines of an engagement's quarter-hours.
+use crate::shown::Shown;
 use book::Engagement;
 use book::Method;
-use book::Point;
 use quarters::Calendar;
 ghost use mathlib.Core.Path.{_≡_};
 ghost use mathlib.Core.Bool.{true, false};
@@ -74,21 +74,16 @@ fn addend_of(
 }
 
 // Methods 1 and 2: the days are ranked, and the first x of them taken.
-fn fill_days(
-    c: Calendar,
-    calendar: &[u8],
-    readings: &[u8],
-    point: Point,
-    e: Engagement,
-    x: usize,
-    y: usize,
-    levels: &mut [u64],
-)
-    requires { ⌜ Accepts c (now calendar) (now readings) point e x y × (looksBack (point .method) ≡ true) × (e .count ≤ length (now levels)) ⌝ }
-    ensures { λ r. ⌜ LevelsFilled c (now (calendar .entry)) (now (readings .entry)) point e x y (now (levels .entry)) (now (levels .exit)) ⌝ }
+fn fill_days(shown: Shown, calendar: &[u8], readings: &[u8], levels: &mut [u64])
+    requires { ⌜ Accepts shown (now calendar) (now readings) × (looksBack (shown .point .method) ≡ true) × (shown .e .count ≤ length (now levels)) ⌝ }
+    ensures { λ r. ⌜ LevelsFilled shown (now (calendar .entry)) (now (readings .entry)) (now (levels .entry)) (now (levels .exit)) ⌝ }
 {
+    let c = shown.c;
+    let e = shown.e;
+    let point = shown.point;
+    let x = shown.x;
     let mut keys = [0u64; 20];
-    crate::ranking::rank_days(c, calendar, readings, point, e, y, &mut keys);
+    crate::ranking::rank_days(shown, calendar, readings, &mut keys);
     let origin = quarters::origin_of(c, e.point);
     let q = quarters::in_calendar(c, e.day, e.first);
     let method = point.method;
@@ -97,19 +92,12 @@ fn fill_days(
 }
 
 // Method 0: one reading for all quarter-hours.
-fn fill_last(
-    c: Calendar,
-    calendar: &[u8],
-    readings: &[u8],
-    point: Point,
-    e: Engagement,
-    x: usize,
-    y: usize,
-    levels: &mut [u64],
-)
-    requires { ⌜ Accepts c (now calendar) (now readings) point e x y × (looksBack (point .method) ≡ false) × (e .count ≤ length (now levels)) ⌝ }
-    ensures { λ r. ⌜ LevelsFilled c (now (calendar .entry)) (now (readings .entry)) point e x y (now (levels .entry)) (now (levels .exit)) ⌝ }
+fn fill_last(shown: Shown, calendar: &[u8], readings: &[u8], levels: &mut [u64])
+    requires { ⌜ Accepts shown (now calendar) (now readings) × (looksBack (shown .point .method) ≡ false) × (shown .e .count ≤ length (now levels)) ⌝ }
+    ensures { λ r. ⌜ LevelsFilled shown (now (calendar .entry)) (now (readings .entry)) (now (levels .entry)) (now (levels .exit)) ⌝ }
 {
+    let c = shown.c;
+    let e = shown.e;
     let origin = quarters::origin_of(c, e.point);
     let q = quarters::in_calendar(c, e.day, e.first);
     let level = crate::levels::last_level(readings, origin, q, e.notice as usize + 1);
@@ -117,23 +105,15 @@ fn fill_last(
 }
 
 // The raised baselines of an engagement that is not refused, in the first places; the others stay.
-pub fn fill_levels(
-    c: Calendar,
-    calendar: &[u8],
-    readings: &[u8],
-    point: Point,
-    e: Engagement,
-    x: usize,
-    y: usize,
-    levels: &mut [u64],
-)
-    requires { ⌜ Accepts c (now calendar) (now readings) point e x y × (e .count ≤ length (now levels)) ⌝ }
-    ensures { λ r. ⌜ LevelsFilled c (now (calendar .entry)) (now (readings .entry)) point e x y (now (levels .entry)) (now (levels .exit)) ⌝ }
+pub fn fill_levels(shown: Shown, calendar: &[u8], readings: &[u8], levels: &mut [u64])
+    requires { ⌜ Accepts shown (now calendar) (now readings) × (shown .e .count ≤ length (now levels)) ⌝ }
+    ensures { λ r. ⌜ LevelsFilled shown (now (calendar .entry)) (now (readings .entry)) (now (levels .entry)) (now (levels .exit)) ⌝ }
 {
+    let point = shown.point;
     let method = point.method;
     if crate::judge::looks_back(method) {
-        fill_days(c, calendar, readings, point, e, x, y, levels);
+        fill_days(shown, calendar, readings, levels);
     } else {
-        fill_last(c, calendar, readings, point, e, x, y, levels);
+        fill_last(shown, calendar, readings, levels);
     }
 }

@@ -1,15 +1,13 @@
 // Refusals 8 and 9 of an engagement.
-use book::Engagement;
+use crate::shown::Shown;
 use book::Method;
-use book::Point;
-use quarters::Calendar;
 ghost use mathlib.Core.Path.{_≡_};
 ghost use mathlib.Core.Bool.{cond};
 ghost use mathlib.Core.Option.{none, some};
 ghost use Prim.Native.Nat.{_+_, _*_, _≤_, _<_};
 ghost use lib.ListN.{length};
 ghost use Rattle.book.specs.Book.{Book};
-ghost use Rattle.volumes.specs.Baseline.{known, complete, eligibleDays, yOf};
+ghost use Rattle.volumes.specs.Baseline.{known, complete, eligibleDays};
 ghost use Rattle.volumes.specs.Settlement.{needed, tooFew, refusalNumber};
 ghost use Rattle.baseline.specs.ShownInner.{Shows, Fits, beforeIn};
 ghost use Rattle.baseline.specs.NeedsInner.{neededIn, looksBack, numberOf, firstOf};
@@ -46,16 +44,13 @@ fn method_whole(readings: &[u8], origin: usize, q: usize, notice: usize, method:
 }
 
 // The readings of A that the engagement needs are there.
-fn readings_whole(
-    c: Calendar,
-    calendar: &[u8],
-    readings: &[u8],
-    point: Point,
-    e: Engagement,
-) -> bool
-    requires { ⌜ Fits c (now calendar) (now readings) e ⌝ }
-    ensures { λ r. ⌜ ((b : Book) → Shows c (now (calendar .entry)) (now (readings .entry)) point e b → r ≡ complete (needed b e)) ⌝ }
+fn readings_whole(shown: Shown, calendar: &[u8], readings: &[u8]) -> bool
+    requires { ⌜ Fits shown (now calendar) (now readings) ⌝ }
+    ensures { λ r. ⌜ ((b : Book) → Shows shown (now (calendar .entry)) (now (readings .entry)) b → r ≡ complete (needed b (shown .e))) ⌝ }
 {
+    let c = shown.c;
+    let e = shown.e;
+    let point = shown.point;
     let origin = quarters::origin_of(c, e.point);
     let q = quarters::in_calendar(c, e.day, e.first);
     let method = point.method;
@@ -75,25 +70,19 @@ pub fn looks_back(method: Method) -> bool
     }
 }
 
-// Fewer than y days are eligible, where the method looks at them.
-fn too_few(
-    c: Calendar,
-    calendar: &[u8],
-    readings: &[u8],
-    point: Point,
-    e: Engagement,
-    y: usize,
-) -> bool
-    requires { ⌜ Fits c (now calendar) (now readings) e × (y ≤ 20) ⌝ }
-    ensures { λ r. ⌜ ((b : Book) → Shows c (now (calendar .entry)) (now (readings .entry)) point e b → y ≡ yOf b e → r ≡ tooFew (point .method) y (length (eligibleDays b e))) ⌝ }
+// Fewer than Y days are eligible, where the method looks at them.
+fn too_few(shown: Shown, calendar: &[u8], readings: &[u8]) -> bool
+    requires { ⌜ Fits shown (now calendar) (now readings) ⌝ }
+    ensures { λ r. ⌜ ((b : Book) → Shows shown (now (calendar .entry)) (now (readings .entry)) b → r ≡ tooFew (shown .point .method) (shown .y) (length (eligibleDays b (shown .e)))) ⌝ }
 {
+    let point = shown.point;
     let method = point.method;
     if !looks_back(method) {
         return false;
     }
     let mut keys = [0u64; 20];
-    let found = crate::ranking::rank_days(c, calendar, readings, point, e, y, &mut keys);
-    found < y
+    let found = crate::ranking::rank_days(shown, calendar, readings, &mut keys);
+    found < shown.y
 }
 
 fn reading_lack(whole: bool) -> Lack
@@ -125,19 +114,12 @@ fn first_of(a: Lack, b: Lack) -> Lack
     }
 }
 
-// What the engagement lacks, where y eligible days are wanted: 8 before 9.
-pub fn judge_engagement(
-    c: Calendar,
-    calendar: &[u8],
-    readings: &[u8],
-    point: Point,
-    e: Engagement,
-    y: usize,
-) -> Lack
-    requires { ⌜ Fits c (now calendar) (now readings) e × (y ≤ 20) ⌝ }
-    ensures { λ r. ⌜ ((b : Book) → Shows c (now (calendar .entry)) (now (readings .entry)) point e b → y ≡ yOf b e → numberOf r ≡ refusalNumber b e) ⌝ }
+// What the engagement lacks: 8 before 9.
+pub fn judge_engagement(shown: Shown, calendar: &[u8], readings: &[u8]) -> Lack
+    requires { ⌜ Fits shown (now calendar) (now readings) ⌝ }
+    ensures { λ r. ⌜ ((b : Book) → Shows shown (now (calendar .entry)) (now (readings .entry)) b → numberOf r ≡ refusalNumber b (shown .e)) ⌝ }
 {
-    let reading = reading_lack(readings_whole(c, calendar, readings, point, e));
-    let days = days_lack(too_few(c, calendar, readings, point, e, y));
+    let reading = reading_lack(readings_whole(shown, calendar, readings));
+    let days = days_lack(too_few(shown, calendar, readings));
     first_of(reading, days)
 }

@@ -5,4 +5,5 @@ pub mod judge;
 mod levels;
 mod means;
 mod ranking;
+pub mod shown;
 mod tally;

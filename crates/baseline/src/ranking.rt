@@ -1,8 +1,6 @@
 // A short list that falls: each number in its place among those before it.
+use crate::shown::Shown;
 use crate::tally::Tally;
-use book::Engagement;
-use book::Point;
-use quarters::Calendar;
 ghost use mathlib.Core.Path.{_≡_};
 ghost use mathlib.Core.List.{_++_};
 ghost use Prim.Native.Nat.{_+_, _*_, _≤_, _<_, max, min};
@@ -54,28 +52,21 @@ fn consider(keys: &mut [u64], n: usize, t: Tally, day: usize) -> usize
     n
 }
 
-// Ranks the y latest eligible days before the engagement's; answers how many there are. The keys behind them stay.
-pub fn rank_days(
-    c: Calendar,
-    calendar: &[u8],
-    readings: &[u8],
-    point: Point,
-    e: Engagement,
-    y: usize,
-    keys: &mut [u64],
-) -> usize
-    requires { ⌜ Fits c (now calendar) (now readings) e × (y ≤ length (now keys)) ⌝ }
-    ensures { λ r. ⌜ ((b : Book) → Shows c (now (calendar .entry)) (now (readings .entry)) point e b → RankedTo b e y (now (keys .entry)) (now (keys .exit)) r) ⌝ }
+// Ranks the Y latest eligible days before the engagement's; answers how many there are. The keys behind them stay.
+pub fn rank_days(shown: Shown, calendar: &[u8], readings: &[u8], keys: &mut [u64]) -> usize
+    requires { ⌜ Fits shown (now calendar) (now readings) × (shown .y ≤ length (now keys)) ⌝ }
+    ensures { λ r. ⌜ ((b : Book) → Shows shown (now (calendar .entry)) (now (readings .entry)) b → RankedTo b (shown .e) (shown .y) (now (keys .entry)) (now (keys .exit)) r) ⌝ }
 {
-    let origin = quarters::origin_of(c, e.point);
-    let mut day = e.day as usize;
+    let origin = quarters::origin_of(shown.c, shown.e.point);
+    let y = shown.y;
+    let mut day = shown.e.day as usize;
     let mut found = 0;
     while found < y {
         if day == 0 {
             return found;
         }
         day -= 1;
-        let t = crate::days::reference_day(c, calendar, readings, point, e, origin, day);
+        let t = crate::days::reference_day(shown, calendar, readings, origin, day);
         found = consider(keys, found, t, day);
     }
     found

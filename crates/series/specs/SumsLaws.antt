@@ -38,7 +38,7 @@ use Rattle.volumes.specs.SoundLaws.{sound}
 use Rattle.volumes.specs.WidthsLaws.{most, delivered-most}
 use Rattle.settlement.specs.SectionsInner.{engagementCountIn, engagementsIn, rowCountIn}
 use Rattle.settlement.specs.SectionsLaws.{rows-counted, same-book, opened}
-use Rattle.settlement.specs.EngagedLaws.{engaged}
+use Rattle.settlement.specs.DrawnLaws.{registered, owner}
 use Rattle.settlement.specs.PartsLaws.{rowCountTo, count-more, count-most}
 use Rattle.series.specs.SumsInner.{byPosition, cellAt, grainsTo, added, VolumesAddable, Parts, DeliveredIn}
 use Rattle.series.specs.VolumesInner.{bookVolumes}
@@ -363,8 +363,8 @@ parts-of bytes volumes h =
       sound = sound bytes passed;
       when = refl;
       listed = rw (rows-counted bytes passed);
-      registered = λ i k. engaged s i k .registered;
-      owner = λ i k. ap (λ (b : Book). pointOf b (engagementAt (engagementSection bytes) i)) (sym (same-book bytes passed)) ∙ engaged s i k .shows .owner;
+      registered = registered s;
+      owner = λ i k. ap (λ (b : Book). pointOf b (engagementAt (engagementSection bytes) i)) (sym (same-book bytes passed)) ∙ owner s i k;
       starts = h .starts;
     }
 

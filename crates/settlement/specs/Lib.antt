@@ -6,7 +6,7 @@ pub mod StoresLaws
 pub mod FillLaws
 pub mod SectionsInner
 pub mod SectionsLaws
-pub mod EngagedLaws
+pub mod DrawnLaws
 pub mod VerdictsInner
 pub mod VerdictsLaws
 pub mod Calls

@@ -15,6 +15,7 @@ use Rattle.book.specs.Engagements.{engagementAt}
 use Rattle.book.specs.Book.{Book}
 use Rattle.book.specs.Judged.{refusalOf}
 use Rattle.volumes.specs.SoundInner.{Sound}
+use Rattle.baseline.specs.declared.shown.Shown.{Shown}
 
 -- "Register, P rows of 64 bytes", "Engagements, 16 bytes"
 abbrev pub pointCountIn : List ℕ → ℕ
@@ -41,6 +42,19 @@ bookWith bytes engagements =
       points = map (pointAt (registerSection bytes)) (range 0 (pointCount bytes));
       reading = meterAt (calendarOf bytes) (readingSection bytes);
       engagements = engagementsIn engagements;
+    }
+
+-- what they show of engagement i
+unfoldable pub shownIn : List ℕ → List ℕ → ℕ → Shown
+shownIn bytes engagements i =
+    let e : Engagement = engagementAt engagements i in
+    let category : ℕ = categoryAt (calendarSection bytes) (e .day) in
+    record {
+      c = calendarOf bytes;
+      e = e;
+      point = pointAt (registerSection bytes) (e .point);
+      x = xAt (tableSection bytes) category;
+      y = yAt (tableSection bytes) category;
     }
 
 -- the bytes pass refusals 1 to 7, and with these engagements too they are a sound book

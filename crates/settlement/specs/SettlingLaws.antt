@@ -6,16 +6,13 @@ use Prim.Native.Nat.{ℕ, _≤_, _<_}
 use native.Mathlib.Omega.{arith}
 use Rattle.quarters.specs.declared.Calendar.{Calendar}
 use Rattle.book.specs.declared.Engagement.{Engagement}
-use Rattle.book.specs.declared.Point.{Point}
-use Rattle.book.specs.Tables.{categoryAt, xAt, yAt}
-use Rattle.book.specs.Register.{pointAt}
+use Rattle.book.specs.Header.{calendarSection, readingSection}
 use Rattle.book.specs.Engagements.{engagementAt}
-use Rattle.book.specs.Book.{Book}
 use Rattle.volumes.specs.Settlement.{refusalNumber, settlementRefusal, rowsOf, rows}
 use Rattle.volumes.specs.SettlementLaws.{all-settle}
 use Rattle.baseline.specs.FilledInner.{Unrefused, Accepts}
-use Rattle.settlement.specs.SectionsInner.{engagementCountIn, bookWith, Opened}
-use Rattle.settlement.specs.EngagedLaws.{Engaged, member}
+use Rattle.settlement.specs.SectionsInner.{engagementCountIn, bookWith, shownIn, Opened}
+use Rattle.settlement.specs.DrawnLaws.{drawn, member}
 use Rattle.settlement.specs.PartsLaws.{partsTo, parts-all}
 
 module _ {bytes engagements : List ℕ} (s : Opened bytes engagements) where
@@ -31,19 +28,11 @@ pub rows-all : (bytes engagements : List ℕ) (i : ℕ) → engagementCountIn en
 unfolding rows bookWith
 rows-all bytes engagements i h = parts-all (rowsOf (bookWith bytes engagements)) engagements i h
 
-module _ {c : Calendar} {calendar table register readings : List ℕ} {x y : ℕ} {e : Engagement} {point : Point} {book : Book} (g : Engaged c calendar table register readings e book) (good : refusalNumber book e ≡ none) (p : point ≡ pointAt register (e .point)) (h : x ≡ xAt table (categoryAt calendar (e .day))) (k : y ≡ yAt table (categoryAt calendar (e .day))) where
+module _ {bytes engagements : List ℕ} (s : Opened bytes engagements) (i : ℕ) (h : i < engagementCountIn engagements) (good : refusalNumber (bookWith bytes engagements) (engagementAt engagements i) ≡ none) where
   -- what settling an engagement asks, of one that is not refused
-  pub settled : Unrefused c calendar readings point e x y book
-  settled = record { shows = rw p (g .shows); good = good; takes = h ∙ sym (g .x); wants = k ∙ sym (g .y) }
+  pub settled : Unrefused (shownIn bytes engagements i) (calendarSection bytes) (readingSection bytes) (bookWith bytes engagements)
+  unfolding shownIn
+  settled = record { shows = drawn s i h .shows; good = good }
 
-  pub accepts : Accepts c calendar readings point e x y
-  accepts =
-      record {
-        fits = g .fits;
-        book = book;
-        settled = settled;
-        some = omega (arith, g .x-of-y .one);
-        few = omega (arith, g .x-of-y .ten);
-        within = omega (arith, g .x-of-y .order);
-        most = omega (arith, g .x-of-y .twenty);
-      }
+  pub accepts : Accepts (shownIn bytes engagements i) (calendarSection bytes) (readingSection bytes)
+  accepts = record { fits = drawn s i h .fits; book = bookWith bytes engagements; settled = settled }

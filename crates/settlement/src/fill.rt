@@ -1,7 +1,5 @@
 // An engagement's rows, from its baselines and its readings.
-use book::Engagement;
-use book::Point;
-use quarters::Calendar;
+use baseline::shown::Shown;
 ghost use mathlib.Core.Path.{_≡_};
 ghost use Prim.Native.Nat.{_+_, _*_, _≤_};
 ghost use lib.ListN.{length};
@@ -11,22 +9,15 @@ ghost use Rattle.volumes.specs.Settlement.{rowWidth, rowsOf};
 ghost use Rattle.baseline.specs.FilledInner.{Unrefused, Accepts};
 
 // Fills the rows of an engagement that is not refused, from place `at` on.
-pub fn settle_engagement(
-    c: Calendar,
-    calendar: &[u8],
-    readings: &[u8],
-    point: Point,
-    e: Engagement,
-    x: usize,
-    y: usize,
-    out: &mut [i64],
-    at: usize,
-)
-    requires { ⌜ Accepts c (now calendar) (now readings) point e x y × (at + rowWidth * e .count ≤ length (now out)) ⌝ }
-    ensures { λ r. ⌜ ((b : Book) → Unrefused c (now (calendar .entry)) (now (readings .entry)) point e x y b → now (out .exit) ≡ sets (now (out .entry)) at (rowsOf b e)) ⌝ }
+pub fn settle_engagement(shown: Shown, calendar: &[u8], readings: &[u8], out: &mut [i64], at: usize)
+    requires { ⌜ Accepts shown (now calendar) (now readings) × (at + rowWidth * shown .e .count ≤ length (now out)) ⌝ }
+    ensures { λ r. ⌜ ((b : Book) → Unrefused shown (now (calendar .entry)) (now (readings .entry)) b → now (out .exit) ≡ sets (now (out .entry)) at (rowsOf b (shown .e))) ⌝ }
 {
+    let c = shown.c;
+    let e = shown.e;
+    let point = shown.point;
     let mut levels = [0u64; quarters::LONGEST_DAY];
-    baseline::fill::fill_levels(c, calendar, readings, point, e, x, y, &mut levels);
+    baseline::fill::fill_levels(shown, calendar, readings, &mut levels);
     let first = quarters::origin_of(c, e.point) + quarters::in_calendar(c, e.day, e.first);
     crate::rows::write_rows(out, at, e, point, &levels, readings, first);
 }

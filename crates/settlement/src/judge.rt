@@ -39,15 +39,10 @@ fn judge_engagement_at(c: Calendar, book: &[u8], engagements: &[u8], i: usize) -
     requires { ⌜ Opened (now book) (now engagements) × (c ≡ calendarOf (now book)) × (i < engagementCountIn (now engagements)) ⌝ }
     ensures { λ r. ⌜ numberOf r ≡ refusalNumber (bookWith (now (book .entry)) (now (engagements .entry))) (engagementAt (now (engagements .entry)) i) ⌝ }
 {
+    let shown = crate::sections::shown_at(c, book, engagements, i);
     let calendar = crate::sections::section(book, 0);
-    let table = crate::sections::section(book, 1);
-    let register = crate::sections::section(book, 2);
     let readings = crate::sections::section(book, 3);
-    let e = book::engagements::engagement_at(engagements, i);
-    let point = book::register::point_at(register, e.point as usize);
-    let category = book::tables::category(calendar, e.day as usize);
-    let y = book::tables::y_of(table, category as usize);
-    baseline::judge::judge_engagement(c, calendar, readings, point, e, y as usize)
+    baseline::judge::judge_engagement(shown, calendar, readings)
 }
 
 // Refusals 8 and 9, by engagement.

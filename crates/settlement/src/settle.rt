@@ -57,17 +57,11 @@ pub fn settle_engagement_at(
     requires { ⌜ Opened (now book) (now engagements) × (c ≡ calendarOf (now book)) × (i < engagementCountIn (now engagements)) × (refusalNumber (bookWith (now book) (now engagements)) (engagementAt (now engagements) i) ≡ none) × (at + rowWidth * engagementAt (now engagements) i .count ≤ length (now out)) ⌝ }
     ensures { λ r. ⌜ (r ≡ at + rowWidth * engagementAt (now (engagements .entry)) i .count) × (now (out .exit) ≡ sets (now (out .entry)) at (rowsOf (bookWith (now (book .entry)) (now (engagements .entry))) (engagementAt (now (engagements .entry)) i))) ⌝ }
 {
+    let shown = crate::sections::shown_at(c, book, engagements, i);
     let calendar = crate::sections::section(book, 0);
-    let table = crate::sections::section(book, 1);
-    let register = crate::sections::section(book, 2);
     let readings = crate::sections::section(book, 3);
-    let e = book::engagements::engagement_at(engagements, i);
-    let point = book::register::point_at(register, e.point as usize);
-    let category = book::tables::category(calendar, e.day as usize) as usize;
-    let x = book::tables::x_of(table, category) as usize;
-    let y = book::tables::y_of(table, category) as usize;
-    crate::fill::settle_engagement(c, calendar, readings, point, e, x, y, out, at);
-    at + ROW_WIDTH * (e.count as usize)
+    crate::fill::settle_engagement(shown, calendar, readings, out, at);
+    at + ROW_WIDTH * (shown.e.count as usize)
 }
 
 // The rows of all engagements, of a book that is not refused.

@@ -17,7 +17,7 @@ use Rattle.book.specs.Engagements.{engagementAt}
 use Rattle.volumes.specs.Settlement.{rowWidth, rowsOf}
 use Rattle.volumes.specs.Sheets.{sheet}
 use Rattle.settlement.specs.SectionsInner.{engagementCountIn, bookWith, Opened}
-use Rattle.settlement.specs.EngagedLaws.{member, row-count, row-named, engaged, engagement-placed}
+use Rattle.settlement.specs.DrawnLaws.{member, row-count, row-named, owner, engagement-placed}
 use Rattle.sheets.specs.AddsInner.{adds, Addable}
 use Rattle.sheets.specs.SharesInner.{getsOf, Both, correctionsFor, firstCell}
 use Rattle.sheets.specs.RowsLaws.{rows-get, rows-both}
@@ -33,7 +33,7 @@ module _ {bytes engagements : List ℕ} (s : Opened bytes engagements) (i : ℕ)
 
     pub engagement-gets : (party : ℕ) → getsOf party point rows (e .count) ≡ correctionsFor (bookWith bytes engagements) party (engagementAt engagements i)
     engagement-gets party =
-        rw (at, cut, is, filled, ← engaged s i h .shows .owner)
+        rw (at, cut, is, filled, ← owner s i h)
         (rows-get (bookWith bytes engagements) (engagementAt engagements i) l enough party)
 
     pub engagement-both : Both rows (e .count)

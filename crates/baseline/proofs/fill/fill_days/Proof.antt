@@ -21,22 +21,22 @@ slice-aggregate-rank-days : tie.Need-slice-aggregate-rank-days
 slice-aggregate-rank-days c = search needs
 
 rank-days-requires : tie.Need-rank-days-requires
-rank-days-requires c κs = (c .before .before .before .before .pre .0 .fits, omega (arith, c .before .before .before .before .pre .0 .most))
+rank-days-requires c κs = (c .before .before .before .before .before .before .before .pre .0 .fits, omega (arith, c .before .before .before .before .before .before .before .pre .0 .fits .x-of-y .twenty))
 
 -- the keys tell the days that a book takes, and there are enough of them
-took-at : (c : tie.After-rank-days) (b : Book) → Unrefused (c .before .before .before .before .before .args .c) (c .before .before .before .before .before .args .calendar .now) (c .before .before .before .before .before .args .readings .now) (c .before .before .before .before .before .args .point) (c .before .before .before .before .before .args .e) (c .before .before .before .before .before .args .x) (c .before .before .before .before .before .args .y) b → Took b (c .before .before .before .before .before .args .e) (c .rank-days .last .1 .1 .1 .1 .1 .1 .0) (c .before .before .before .before .before .args .x)
-took-at c b s = took-days s (c .rank-days .last .1 .1 .1 .1 .1 .1 .0) (c .rank-days .result) (c .before .before .before .before .before .pre .1) (c .before .before .before .before .before .pre .0 .within) (c .rank-days .ensures b (s .shows))
+took-at : (c : tie.After-rank-days) (b : Book) → Unrefused (c .before .before .before .before .before .before .before .before .args .shown) (c .before .before .before .before .before .before .before .before .args .calendar .now) (c .before .before .before .before .before .before .before .before .args .readings .now) b → Took b (c .before .before .before .before .before .before .before .before .args .shown .e) (c .rank-days .last .1 .1 .1 .0) (c .before .before .before .before .before .before .before .before .args .shown .x)
+took-at c b s = took-days s (c .rank-days .last .1 .1 .1 .0) (c .rank-days .result) (c .before .before .before .before .before .before .before .before .pre .1) (c .before .before .before .before .before .before .before .before .pre .0 .fits .x-of-y .order) (c .rank-days .ensures b (s .shows))
 
-roomy : (c : tie.After-rank-days) → c .before .before .before .before .before .args .x ≤ length (c .rank-days .last .1 .1 .1 .1 .1 .1 .0)
-roomy c = omega (arith, c .rank-days .kept .1 .1 .1 .1 .1 .1 .0, c .before .before .before .before .before .pre .0 .few)
+roomy : (c : tie.After-rank-days) → c .before .before .before .before .before .before .before .before .args .shown .x ≤ length (c .rank-days .last .1 .1 .1 .0)
+roomy c = omega (arith, c .rank-days .kept .1 .1 .1 .0, c .before .before .before .before .before .before .before .before .pre .0 .fits .x-of-y .ten)
 
 origin-of-requires : tie.Need-origin-of-requires
-origin-of-requires c κs = (c .before .before .before .before .before .before .pre .0 .fits .ranged, c .before .before .before .before .before .before .pre .0 .fits .few)
+origin-of-requires c κs = (c .before .before .before .before .before .before .before .before .before .pre .0 .fits .ranged, c .before .before .before .before .before .before .before .before .before .pre .0 .fits .few)
 
 in-calendar-requires : tie.Need-in-calendar-requires
-in-calendar-requires c κs = let s = c .before .before .before .before .before .before .before in
+in-calendar-requires c κs = let s = c .before .before .before .before .before .before .before .before .before .before in
     let a = s .pre .0 in
-    let m = stands (s .args .c) (s .args .calendar .now) (s .args .readings .now) (s .args .e) (a .fits) in
+    let m = stands (s .args .shown) (s .args .calendar .now) (s .args .readings .now) (a .fits) in
     m .early
 
 slice-aggregate-addend-of : tie.Need-slice-aggregate-addend-of
@@ -44,14 +44,14 @@ slice-aggregate-addend-of c = search needs
 
 addend-of-requires : tie.Need-addend-of-requires
 addend-of-requires c κs =
-    let s = c .before .before .before .before .before .before .before .before .before in
+    let s = c .before .before .before .before .before .before .before .before .before .before .before .before in
     let a = s .pre .0 in
-    let m = stands (s .args .c) (s .args .calendar .now) (s .args .readings .now) (s .args .e) (a .fits) in
+    let m = stands (s .args .shown) (s .args .calendar .now) (s .args .readings .now) (a .fits) in
     let r = c .before .before .before .before in
-    let keys = r .rank-days .last .1 .1 .1 .1 .1 .1 .0 in
-    let begins = start-is (s .args .c) (s .args .e) in (
-      λ w. subst (λ (b : ℕ). Lie (s .args .readings .now) keys (s .args .c) (s .args .e) b 0 24 12 (s .args .x)) (sym (c .before .before .origin-of .ensures)) (lie-windows (a .settled) keys (a .fits) (took-at r (a .book) (a .settled)) (a .few) (roomy r) w),
-      a .some,
+    let keys = r .rank-days .last .1 .1 .1 .0 in
+    let begins = start-is (s .args .shown .c) (s .args .shown .e) in (
+      λ w. subst (λ (b : ℕ). Lie (s .args .readings .now) keys (s .args .shown .c) (s .args .shown .e) b 0 24 12 (s .args .shown .x)) (sym (c .before .before .origin-of .ensures)) (lie-windows (a .settled) keys (a .fits) (took-at r (a .book) (a .settled)) (a .fits .x-of-y .ten) (roomy r) w),
+      a .fits .x-of-y .one,
       omega (arith, m .inside, m .few, begins, c .before .in-calendar .ensures),
       omega (arith, m .roomy, m .inside, begins, c .before .before .origin-of .ensures, c .before .in-calendar .ensures),
     )
@@ -61,12 +61,12 @@ slice-aggregate-fill-means c = search needs
 
 fill-means-requires : tie.Need-fill-means-requires
 fill-means-requires c κs =
-    let s = c .before .before .before .before .before .before .before .before .before .before .before .before in
+    let s = c .before .before .before .before .before .before .before .before .before .before .before .before .before .before .before in
     let a = s .pre .0 in
     let r = c .before .before .before .before .before .before .before in
-    let keys = r .rank-days .last .1 .1 .1 .1 .1 .1 .0 in (
-      λ k h. subst (λ (b : ℕ). Lie (s .args .readings .now) keys (s .args .c) (s .args .e) b k 0 1 (s .args .x)) (sym (c .before .before .before .before .before .origin-of .ensures)) (lie-quarters (a .settled) keys (a .fits) (took-at r (a .book) (a .settled)) (a .few) (roomy r) k h),
-      a .some,
+    let keys = r .rank-days .last .1 .1 .1 .0 in (
+      λ k h. subst (λ (b : ℕ). Lie (s .args .readings .now) keys (s .args .shown .c) (s .args .shown .e) b k 0 1 (s .args .shown .x)) (sym (c .before .before .before .before .before .origin-of .ensures)) (lie-quarters (a .settled) keys (a .fits) (took-at r (a .book) (a .settled)) (a .fits .x-of-y .ten) (roomy r) k h),
+      a .fits .x-of-y .one,
       c .before .before .addend-of .ensures .small,
       s .pre .2,
     )
@@ -76,19 +76,19 @@ same-length c = search needs
 
 returns : tie.Need-returns
 returns c =
-    let s = c .before .before .before .before .before .before .before .before .before .before .before .before .before .before .before in
+    let s = c .before .before .before .before .before .before .before .before .before .before .before .before .before .before .before .before .before .before in
     let r = c .before .before .before .before .before .before .before .before .before .before in
-    let keys = r .rank-days .last .1 .1 .1 .1 .1 .1 .0 in
+    let keys = r .rank-days .last .1 .1 .1 .0 in
     let origin = c .before .before .before .before .before .before .before .before .origin-of .ensures in
-    let begins = c .before .before .before .before .before .before .before .in-calendar .ensures ∙ sym (start-is (s .args .c) (s .args .e)) in
+    let begins = c .before .before .before .before .before .before .before .in-calendar .ensures ∙ sym (start-is (s .args .shown .c) (s .args .shown .e)) in
     let add = c .before .before .before .before .before .addend-of in
     let out = c .before .before .fill-means .last .1 .1 .1 .1 .1 .1 .1 .0 in
     record {
       small = λ k h. c .before .before .fill-means .ensures .each k h .small;
       levels = λ book settled k h.
-          by-days settled keys k (add .result) (getD out k 0) (s .args .point .method) refl (s .pre .1) (took-at r book settled) h
-          (subst-both (λ (b q : ℕ). Added (s .args .point .method) (windowIn (s .args .readings .now) b q) (dayRuns (s .args .readings .now) (s .args .c) (s .args .e) b 0 24 12 (daysIn keys (s .args .x))) (s .args .x) (add .result)) origin begins (add .ensures))
-          (subst (λ (b : ℕ). Raises (dayRuns (s .args .readings .now) (s .args .c) (s .args .e) b k 0 1 (daysIn keys (s .args .x))) (s .args .x) (add .result) (getD out k 0)) origin (c .before .before .fill-means .ensures .each k h));
+          by-days settled keys k (add .result) (getD out k 0) (s .args .shown .point .method) refl (s .pre .1) (took-at r book settled) h
+          (subst-both (λ (b q : ℕ). Added (s .args .shown .point .method) (windowIn (s .args .readings .now) b q) (dayRuns (s .args .readings .now) (s .args .shown .c) (s .args .shown .e) b 0 24 12 (daysIn keys (s .args .shown .x))) (s .args .shown .x) (add .result)) origin begins (add .ensures))
+          (subst (λ (b : ℕ). Raises (dayRuns (s .args .readings .now) (s .args .shown .c) (s .args .shown .e) b k 0 1 (daysIn keys (s .args .shown .x))) (s .args .shown .x) (add .result) (getD out k 0)) origin (c .before .before .fill-means .ensures .each k h));
       rest = c .before .before .fill-means .ensures .rest;
     }
 

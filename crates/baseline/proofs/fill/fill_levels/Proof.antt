@@ -8,11 +8,11 @@ looks-back-requires : tie.Need-looks-back-requires
 looks-back-requires c κs = search needs
 
 fill-days-requires : tie.Need-fill-days-requires
-fill-days-requires c κs = let s = c .before .before .before .before .before .before in
+fill-days-requires c κs = let s = c .before .before .before .before .before .before .before in
     (s .pre .0, sym (c .before .before .looks-back .ensures) ∙ c .before .if1 .taken, s .pre .1)
 
 fill-last-requires : tie.Need-fill-last-requires
-fill-last-requires c κs = let s = c .before .before .before .before .before .before in
+fill-last-requires c κs = let s = c .before .before .before .before .before .before .before in
     (s .pre .0, sym (c .before .before .looks-back .ensures) ∙ c .before .if1 .left, s .pre .1)
 
 same-length : tie.Need-same-length

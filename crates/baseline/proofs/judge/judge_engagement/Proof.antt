@@ -22,12 +22,12 @@ first-of-requires : tie.Need-first-of-requires
 first-of-requires c κs = search needs
 
 returns : tie.Need-returns
-returns c = λ b shows y.
+returns c = λ b shows.
     let few = c .before .before .too-few in
     let whole = c .before .before .before .before .readings-whole in
     c .first-of .ensures
     ∙ ap₂ firstOf (c .before .before .before .reading-lack .ensures) (c .before .days-lack .ensures)
-    ∙ first-lack shows (whole .result) (few .result) (whole .ensures b shows) (rw (← y) (few .ensures b shows y))
+    ∙ first-lack shows (whole .result) (few .result) (whole .ensures b shows) (rw (← shows .wants) (few .ensures b shows))
 
 pub judge-engagement-spec : {M : Type 1} → statement M
 judge-engagement-spec =

@@ -10,7 +10,7 @@ looks-back-requires : tie.Need-looks-back-requires
 looks-back-requires c κs = search needs
 
 returns : tie.Need-returns
-returns c = λ b shows y.
+returns c = λ b shows.
     no-days _ _ _ (sym (c .before .looks-back .ensures) ∙ not-true _ (c .if1 .taken))
 
 slice-aggregate-rank-days : tie.Need-slice-aggregate-rank-days
@@ -20,8 +20,8 @@ rank-days-requires : tie.Need-rank-days-requires
 rank-days-requires c κs = search needs
 
 returns-2 : tie.Need-returns-2
-returns-2 c = λ b shows y.
-    days-found _ b _ _ _ (sym (c .before .before .before .before .looks-back .ensures) ∙ not-false _ (c .before .before .before .if1 .left)) y (c .before .rank-days .ensures b shows .count)
+returns-2 c = λ b shows.
+    days-found _ b _ _ _ (sym (c .before .before .before .before .before .looks-back .ensures) ∙ not-false _ (c .before .before .before .before .if1 .left)) (shows .wants) (c .before .before .rank-days .ensures b shows .count)
 
 pub too-few-spec : {M : Type 1} → statement M
 too-few-spec =

@@ -13,7 +13,7 @@ use Rattle.book.specs.declared.Engagement.{Engagement}
 use Rattle.book.specs.Engagements.{engagementAt}
 use Rattle.volumes.specs.Settlement.{rowWidth}
 use Rattle.settlement.specs.SectionsInner.{bookWith}
-use Rattle.settlement.specs.EngagedLaws.{engagement-placed}
+use Rattle.settlement.specs.DrawnLaws.{engagement-placed}
 use Rattle.series.specs.VolumesInner.{volumeIn}
 use Rattle.series.specs.VolumesLaws.{volume-is, volumes-are}
 use Rattle.series.proofs.delivered.fill_engagement.Statement.{statement}

@@ -6,7 +6,7 @@ use Rattle.volumes.specs.Settlement.{settlementRefusal, rowRefusal}
 use Rattle.volumes.specs.SettlementLaws.{refusalAt, refusal-all}
 use Rattle.baseline.specs.NeedsInner.{numberOf}
 use Rattle.settlement.specs.SectionsInner.{bookWith}
-use Rattle.settlement.specs.EngagedLaws.{refusal-row, refusal-last}
+use Rattle.settlement.specs.DrawnLaws.{refusal-row, refusal-last}
 use borrow.Author.Needs.{needs}
 use Rattle.settlement.proofs.judge.judge_engagements.Statement.{statement}
 use Rattle.settlement.proofs.judge.judge_engagements.Tie as tie

@@ -8,11 +8,11 @@ use Prim.Native.Nat.{_*_}
 use Rattle.book.specs.declared.Engagement.{Engagement}
 use Rattle.book.specs.Engagements.{engagementAt}
 use Rattle.settlement.specs.SectionsInner.{bookWith}
-use Rattle.settlement.specs.EngagedLaws.{engaged}
+use Rattle.settlement.specs.DrawnLaws.{registered}
 use Rattle.volumes.specs.Settlement.{rowWidth}
 use Rattle.sheets.specs.AddsInner.{adds}
 use Rattle.sheets.specs.SharesInner.{getsOf, Both, correctionsFor, firstCell}
-use Rattle.settlement.specs.EngagedLaws.{Placing, engagement-placed}
+use Rattle.settlement.specs.DrawnLaws.{Placing, engagement-placed}
 use Rattle.sheets.specs.EngagementLaws.{engagement-gets, engagement-both}
 use Rattle.sheets.proofs.fill.add_engagement.Statement.{statement}
 use Rattle.sheets.proofs.fill.add_engagement.Tie as tie
@@ -34,7 +34,7 @@ cast-point-at c = search needs
 point-at-requires : tie.Need-point-at-requires
 point-at-requires c κs =
     let s = c .before .before .before .before .before in
-    rw (c .before .before .section .ensures, c .before .engagement-at .ensures) (engaged (s .pre .0) (s .args .i) (s .pre .2) .registered)
+    rw (c .before .before .section .ensures, c .before .engagement-at .ensures) (registered (s .pre .0) (s .args .i) (s .pre .2))
 
 cell-of-requires : tie.Need-cell-of-requires
 cell-of-requires c κs = let p = placed (c .before .before .before .before .before .before) in rw (c .before .before .engagement-at .ensures) (p .day, p .settled)

@@ -26,19 +26,14 @@ use Rattle.volumes.specs.SoundInner.{XOfY, Placed}
 use Rattle.volumes.specs.SoundLaws.{passes}
 use Rattle.volumes.specs.SettlementLaws.{refusalAt, refusal-next, refusal-end}
 use Rattle.baseline.specs.ShownInner.{Shows, Fits}
-use Rattle.settlement.specs.SectionsInner.{engagementCountIn, engagementsIn, bookWith, Opened}
+use Rattle.settlement.specs.SectionsInner.{engagementCountIn, engagementsIn, bookWith, shownIn, Opened}
 use Rattle.settlement.specs.SectionsLaws.{all-held}
 use Rattle.integers.specs.RangesLaws.{length-range, getD-made, getD-mem}
 
--- a calendar and sections that show engagement e of a book: all that judging and settling it ask
-pub record Engaged (c : Calendar) (calendar table register readings : List ℕ) (e : Engagement) (book : Book) : Type 0 where
-  pub registered : 64 * e .point + 64 ≤ length register
-  pub category : 2 * categoryAt calendar (e .day) + 2 ≤ length table
-  pub x-of-y : XOfY (xAt table (categoryAt calendar (e .day))) (yAt table (categoryAt calendar (e .day)))
-  pub x : xOf book e ≡ xAt table (categoryAt calendar (e .day))
-  pub y : yOf book e ≡ yAt table (categoryAt calendar (e .day))
-  pub fits : Fits c calendar readings e
-  pub shows : Shows c calendar readings (pointAt register (e .point)) e book
+-- what is shown of an engagement fits the sections and is the book's: all that judging and settling it ask
+pub record Drawn (bytes engagements : List ℕ) (i : ℕ) : Type 0 where
+  pub fits : Fits (shownIn bytes engagements i) (calendarSection bytes) (readingSection bytes)
+  pub shows : Shows (shownIn bytes engagements i) (calendarSection bytes) (readingSection bytes) (bookWith bytes engagements)
 
 module _ {bytes engagements : List ℕ} (s : Opened bytes engagements) where
   -- the points are as many as the header says, the engagements as the length says
@@ -54,16 +49,16 @@ module _ {bytes engagements : List ℕ} (s : Opened bytes engagements) where
   unfolding bookWith engagementsIn
   row-named i d h = getD-made (engagementAt engagements) (engagementCountIn engagements) i d h
 
-  owner : (e : Engagement) → e .point < pointCount bytes → pointOf (bookWith bytes engagements) e ≡ pointAt (registerSection bytes) (e .point)
+  owner-at : (e : Engagement) → e .point < pointCount bytes → pointOf (bookWith bytes engagements) e ≡ pointAt (registerSection bytes) (e .point)
   unfolding bookWith pointOf
-  owner e h = getD-made (pointAt (registerSection bytes)) (pointCount bytes) (e .point) noPoint h
+  owner-at e h = getD-made (pointAt (registerSection bytes)) (pointCount bytes) (e .point) noPoint h
 
   table-of : (d : ℕ) → XOfY (xAt (tableSection bytes) (categoryAt (calendarSection bytes) d)) (yAt (tableSection bytes) (categoryAt (calendarSection bytes) d))
   unfolding bookWith
   table-of d = s .sound .table d
 
   -- X is 1 or more, so it stands in the section
-  category-in : (d : ℕ) → 2 * categoryAt (calendarSection bytes) d + 2 ≤ length (tableSection bytes)
+  pub category-in : (d : ℕ) → 2 * categoryAt (calendarSection bytes) d + 2 ≤ length (tableSection bytes)
   category-in d = go (ltb (2 * categoryAt (calendarSection bytes) d) (length table)) refl
     where
       table : List ℕ
@@ -81,43 +76,44 @@ module _ {bytes engagements : List ℕ} (s : Opened bytes engagements) where
   unfolding bookWith
   placed i h = rw (← point-count) (s .sound .engagements (engagementAt engagements i) (member i h))
 
+  pub owner : (i : ℕ) → i < engagementCountIn engagements → pointOf (bookWith bytes engagements) (engagementAt engagements i) ≡ pointAt (registerSection bytes) (engagementAt engagements i .point)
+  owner i h = owner-at (engagementAt engagements i) (placed i h .point)
+
+  -- its row of the register, its day's category, and its point's number
+  pub registered : (i : ℕ) → i < engagementCountIn engagements → 64 * engagementAt engagements i .point + 64 ≤ length (registerSection bytes)
+  registered i h = omega (arith, placed i h .point, all-held bytes (s .passed) .register .size)
+
+  pub categorised : (i : ℕ) → i < engagementCountIn engagements → engagementAt engagements i .day < length (calendarSection bytes)
+  categorised i h = omega (arith, placed i h .inside, all-held bytes (s .passed) .calendar .size)
+
+  pub point-few : (i : ℕ) → i < engagementCountIn engagements → engagementAt engagements i .point < 256
+  point-few i h = omega (arith, placed i h .point, headed bytes (passes bytes (s .passed) .header) .points)
+
   readings-room : (p : ℕ) → p < pointCount bytes → 4 * (quartersOf (calendarOf bytes) * p + quartersOf (calendarOf bytes)) ≤ length (readingSection bytes)
   readings-room p h =
       let q = quartersOf (calendarOf bytes) in
       omega (arith, all-held bytes (s .passed) .readings .size, mul-le-mul-left {m = suc p} {n = pointCount bytes} (4 * q) (omega arith), mul-assoc 4 q (suc p), mul-suc q p)
 
-  pub engaged : (i : ℕ) → i < engagementCountIn engagements
-      → Engaged (calendarOf bytes) (calendarSection bytes) (tableSection bytes) (registerSection bytes) (readingSection bytes) (engagementAt engagements i) (bookWith bytes engagements)
-  unfolding bookWith
-  engaged i h =
+  pub drawn : (i : ℕ) → i < engagementCountIn engagements → Drawn bytes engagements i
+  unfolding bookWith shownIn
+  drawn i h =
       let e = engagementAt engagements i in
       let at = placed i h in
-      let held = all-held bytes (s .passed) in
       record {
-        registered = omega (arith, at .point, held .register .size);
-        category = category-in (e .day);
-        x-of-y = table-of (e .day);
-        x = refl;
-        y = refl;
         fits =
             record {
               ranged = s .sound .ranged;
-              days = held .calendar .size;
+              days = all-held bytes (s .passed) .calendar .size;
               day = at .inside;
               quarter = at .ends;
               some = at .some;
               soon = s .sound .terms e (member i h) .notice;
-              few = omega (arith, at .point, headed bytes (passes bytes (s .passed) .header) .points);
+              few = point-few i h;
               room = readings-room (e .point) (at .point);
+              x-of-y = table-of (e .day);
             };
-        shows = record { when = refl; category = λ d. refl; reading = λ p k. refl; owner = owner e (at .point) };
+        shows = record { when = refl; category = λ d. refl; reading = λ p k. refl; owner = owner-at e (at .point); takes = refl; wants = refl };
       }
-
-  -- the same of sections that were cut and an engagement that was read
-  pub engaged-as : (i : ℕ) {c : Calendar} {calendar table register readings : List ℕ} {e : Engagement} → i < engagementCountIn engagements
-      → c ≡ calendarOf bytes → calendar ≡ sectionOf bytes 0 → table ≡ sectionOf bytes 1 → register ≡ sectionOf bytes 2 → readings ≡ sectionOf bytes 3 → e ≡ engagementAt engagements i
-      → Engaged c calendar table register readings e (bookWith bytes engagements)
-  engaged-as i h c calendar table register readings e = rw (c, calendar, table, register, readings, e) (engaged i h)
 
   -- the refusals from row i on: that of row i, or of those after it
   pub refusal-row : (i : ℕ) → i < engagementCountIn engagements → refusalAt (bookWith bytes engagements) i ≡ rowRefusal i (refusalNumber (bookWith bytes engagements) (engagementAt engagements i)) (refusalAt (bookWith bytes engagements) (i + 1))

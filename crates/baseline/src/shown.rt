@@ -1,0 +1,13 @@
+// What a book shows of an engagement, besides its categories and readings, which are lent.
+use book::Engagement;
+use book::Point;
+use quarters::Calendar;
+
+// The engagement, its delivery point, and X and Y of its day's category.
+pub struct Shown {
+    pub c: Calendar,
+    pub e: Engagement,
+    pub point: Point,
+    pub x: usize,
+    pub y: usize,
+}
