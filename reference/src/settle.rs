@@ -103,14 +103,20 @@ fn baselines_last_quarter_hour(book: &Book, engagement: &Engagement) -> Vec<i128
     vec![watts * GRAINS_PER_WATT; engagement.count as usize]
 }
 
+/// "the book holds an engagement of that point on it": at whatever quarter-hour, of that row of the register.
+fn is_engaged(book: &Book, point: u16, day: usize) -> bool {
+    book.engagements.iter().any(|engagement| engagement.point == point && engagement.day as usize == day)
+}
+
 /// "day d before A is eligible if it has A's category, isn't excluded and misses no reading in the
-/// engagement's quarter-hours"; with method 2 "an eligible day's 12 must lie in the calendar and not be
-/// missing".
+/// engagement's quarter-hours"; C-11: "a day isn't eligible if the book holds an engagement of that point on
+/// it"; with method 2 "an eligible day's 12 must lie in the calendar and not be missing".
 fn is_eligible(book: &Book, engagement: &Engagement, day: usize, adjusted: bool) -> bool {
     let settled = engagement.day as usize;
     day < settled
         && book.calendar[day] == book.calendar[settled]
         && !book.register[engagement.point as usize].excludes(day)
+        && !is_engaged(book, engagement.point, day)
         && day_readings(book, engagement, day).is_some()
         && (!adjusted || window_readings(book, engagement, day).is_some())
 }

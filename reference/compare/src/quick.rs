@@ -191,7 +191,16 @@ fn reading(readings: &[u8], place: usize) -> i32 {
     i32::from_le_bytes(readings[4 * place..4 * place + 4].try_into().unwrap())
 }
 
-/// The X reference days; none if fewer than Y are eligible.
+/// The days of each point that have an engagement, as bits.
+fn engaged_days(s: &Sections) -> Vec<u64> {
+    let mut engaged = vec![0; s.register.len() / 64];
+    for row in s.engagements.chunks_exact(16) {
+        engaged[u16_at(row, 0) as usize] |= 1u64 << row[2];
+    }
+    engaged
+}
+
+/// The X reference days; none if fewer than Y are eligible. The bits of `mask` are those of the days that can't be.
 fn reference_days(
     s: &Sections,
     e: &Engagement,
@@ -229,7 +238,13 @@ fn reference_days(
 }
 
 /// The rows of one engagement, into `out`; the refusal's number where it is refused.
-fn settle_engagement(s: &Sections, e: &Engagement, sums: &DaySums, bases: &mut [i64; 96]) -> Result<(), u8> {
+fn settle_engagement(
+    s: &Sections,
+    e: &Engagement,
+    engaged: u64,
+    sums: &DaySums,
+    bases: &mut [i64; 96],
+) -> Result<(), u8> {
     let row = &s.register[64 * e.point..64 * e.point + 64];
     let method = row[54];
     let readings = &s.readings[384 * s.days * e.point..384 * s.days * (e.point + 1)];
@@ -253,7 +268,7 @@ fn settle_engagement(s: &Sections, e: &Engagement, sums: &DaySums, bases: &mut [
     }
     let category = s.calendar[e.day] as usize;
     let (x, y) = (s.pairs[2 * category] as usize, s.pairs[2 * category + 1] as usize);
-    let days = reference_days(s, e, u64_at(row, 32), adjusted, sums, x, y).ok_or(9)?;
+    let days = reference_days(s, e, u64_at(row, 32) | engaged, adjusted, sums, x, y).ok_or(9)?;
     bases.fill(0);
     let mut windows = 0;
     for &day in &days[..x] {
@@ -302,6 +317,7 @@ pub fn settle(book: &[u8], rows: &mut [i64]) -> Result<usize, Refusal> {
     let count: usize = s.engagements.chunks_exact(16).map(|row| row[4] as usize).sum();
     // A refusal changes no buffer: where the rows might not be filled, they are filled apart.
     let mut apart = vec![0; 4 * count];
+    let engaged = engaged_days(&s);
     let mut sums = DaySums { sums: vec![0; 96 * s.days + 1] };
     let mut bases = [0; 96];
     let (mut at, mut kept) = (0, usize::MAX);
@@ -311,7 +327,7 @@ pub fn settle(book: &[u8], rows: &mut [i64]) -> Result<usize, Refusal> {
             sums.keep(&s.readings[384 * s.days * e.point..384 * s.days * (e.point + 1)]);
             kept = e.point;
         }
-        if let Err(number) = settle_engagement(&s, &e, &sums, &mut bases) {
+        if let Err(number) = settle_engagement(&s, &e, engaged[e.point], &sums, &mut bases) {
             return refused(number, index);
         }
         write_rows(&s, &e, &bases[..e.count], &mut apart[at..at + 4 * e.count]);
