@@ -1,13 +1,14 @@
 -- What a loop over numbers needs of the first one that a test names, and of whether it names one at all.
-use mathlib.Core.Path.{_≡_, _∙_}
+use mathlib.Core.Path.{_≡_, refl, sym, ap, _∙_}
 use mathlib.Core.Logic.{⊎-elim}
-use mathlib.Core.Bool.{Bool, true, false, _||_, or-true}
+use mathlib.Core.Bool.{Bool, true, false, _||_, or-true, or-assoc}
+use mathlib.Core.List.{List, [], _∷_, _++_}
 use mathlib.Core.Option.{none, some}
 use Prim.Native.Nat.{ℕ, zero, suc, _+_, _-_, _≤_, _<_}
 use native.Mathlib.Nat.{eq-or-lt-of-le}
 use native.Mathlib.Omega.{arith}
 use Rattle.integers.specs.TestsLaws.{neither}
-use Rattle.integers.specs.First.{first, anyBelow}
+use Rattle.integers.specs.First.{first, anyOf, anyBelow}
 
 module _ (test : ℕ → Bool) (n i : ℕ) where
   pub first-end : n ≤ i → first test i (n - i) ≡ none
@@ -48,3 +49,9 @@ first-behind test a (suc k) m e =
     let s : suc k + m ≡ k + suc m = omega arith in
     let t : a + suc k ≡ suc (a + k) = omega arith in
     rw (s, t) (first-behind test a k (suc m) (n .0) ∙ rw (n .1))
+
+-- one of two lists, one after the other
+pub any-append : {A : Type 0} (test : A → Bool) (l m : List A) → anyOf test (l ++ m) ≡ (anyOf test l || anyOf test m)
+unfolding anyOf
+any-append test [] m = refl
+any-append test (a ∷ l) m = ap (λ (b : Bool). test a || b) (any-append test l m) ∙ sym (or-assoc (test a) (anyOf test l) (anyOf test m))

@@ -20,4 +20,5 @@ pub mod Keep
 pub mod KeepLaws
 pub mod Ascending
 pub mod AscendingLaws
+pub mod BitsLaws
 pub mod ScanLaws
