@@ -54,6 +54,32 @@ pub fn heat_pumps() -> Book {
     book
 }
 
+/// Four points, two of them of one access point and two of another, each with engagements on days of its own, up and down,
+/// so that which days its baselines look at differs from point to point.
+pub fn busy_pool() -> Book {
+    let mut book = june(4, 4, 2, 3);
+    for (point, (fsp, situation)) in [(7, 0), (8, 0), (7, 0), (8, 1)].into_iter().enumerate() {
+        let row = &mut book.register[point];
+        (row.fsp, row.situation, row.method) = (fsp, situation, 1 + point as u8 % 2);
+        (row.source_party, row.fsp_party) = (11, 20 + fsp as u16);
+        row.access_ean = 500 + point as u64 / 2;
+        for day in 0..14 {
+            let watts = 3000 + 10 * (day as i32 * 7 % 13) + point as i32;
+            read(&mut book, point, day, 36, &[watts / 2; 12]);
+            read(&mut book, point, day, 60, &[watts, watts + 1, watts + 3]);
+        }
+    }
+    for (point, days) in
+        [vec![4, 5, 6, 13], vec![8, 9, 11, 12], vec![5, 7, 9, 11, 13], vec![12, 13]].into_iter().enumerate()
+    {
+        for day in days {
+            read(&mut book, point, day as usize, 60, &[2500, 2600, 2700]);
+            engage(&mut book, point as u16, day, 60, 3, day % 5 / 4, 400);
+        }
+    }
+    book
+}
+
 /// Half a watt at each of three positions, far apart: a watt at the second, half a watt never written.
 fn slow() -> Book {
     let mut book = june(2, 1, 2, 2);
@@ -178,6 +204,10 @@ pub fn sheet_cases() -> Vec<SheetCase> {
         add("P7", party, 2880, &limited_down());
         add("P8", party, 2880, &above_baseline());
     }
+    let busy = busy_pool();
+    for party in [11, 27, 28] {
+        add(&format!("engagements on several days, party {party}"), party, 2880, &busy);
+    }
     let pumps = heat_pumps();
     for party in [11, 12, 13, 21, 22] {
         add(&format!("case two: 180 points, party {party}"), party, 2880, &pumps);
@@ -291,6 +321,11 @@ pub fn file_cases() -> Vec<FileCase> {
     let pool = pool();
     for (kind, receiver) in [(1, 7), (1, 8), (2, 3), (2, 4), (3, 3), (3, 4)] {
         cases.add(&format!("the pool, kind {kind}, receiver {receiver}"), kind, receiver, &pool);
+    }
+    let busy = busy_pool();
+    for (kind, receiver) in [(1, 7), (1, 8), (2, 3), (3, 3)] {
+        let what = format!("engagements on several days, kind {kind}, receiver {receiver}");
+        cases.add(&what, kind, receiver, &busy);
     }
     let mut order = pool.clone();
     for (row, fsp) in order.register.iter_mut().zip([9, 300, 8, 70_000, 2, 1]) {

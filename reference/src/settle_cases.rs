@@ -20,6 +20,8 @@ pub fn cases() -> Vec<SettleCase> {
     cases.buffers();
     cases.needed_readings();
     cases.eligible_days();
+    cases.engaged_days();
+    cases.engaged_days_of_method_2();
     cases.ranking();
     cases.method_0();
     cases.method_2();
@@ -218,7 +220,7 @@ impl Cases {
             read(book, 0, 6, 20, &[100000, 100000]);
             book.choices[0] = Choice { x: 1, y: 1 };
         });
-        self.changed("settled days with engagements count: A is day 9", &base(), |book| {
+        self.changed("days with engagements don't count: A is day 9", &base(), |book| {
             read(book, 0, 6, 20, &[5000, 5000]);
             read(book, 0, 8, 20, &[4000, 4000]);
             engage(book, 0, 8, 20, 2, 0, 10);
@@ -244,6 +246,212 @@ impl Cases {
         self.book("X 10, Y 20, N 64, first and last settled day", &long);
         self.changed("mask bit 63 excludes only A", &long, |book| book.register[0].excluded_days = 1 << 63);
         self.changed("mask bits 32 and 62", &long, |book| book.register[0].excluded_days = 1 << 32 | 1 << 62);
+    }
+
+    /// C-11: a day with an engagement of the point isn't eligible and uses up no Y.
+    fn engaged_days(&mut self) {
+        let two = |y: u8, readings: usize| {
+            let mut book = june(3, 1, 1, y);
+            for day in 0..6 {
+                read(&mut book, 0, day, 10, &vec![50 + 10 * day as i32; readings]);
+            }
+            engage(&mut book, 0, 4, 10, 2, 0, 1000);
+            engage(&mut book, 0, 5, 10, 2, 0, 1000);
+            book
+        };
+        for y in [1, 2, 3, 4, 5] {
+            self.book(format!("days 4 and 5 engaged, X 1, Y {y}"), &two(y, 2));
+        }
+        self.book("days 4 and 5 engaged, X 1, Y 2, more readings", &two(2, 20));
+        self.changed("day 5 engaged alone, X 1, Y 5", &two(5, 2), |book| {
+            book.engagements.remove(0);
+        });
+        self.changed("days 4 and 5 engaged, down", &two(2, 2), |book| {
+            for row in &mut book.engagements {
+                row.direction = 1;
+            }
+        });
+        let readings_of = |book: &mut Book, point: usize| {
+            for day in 0..12 {
+                let watts = 100 * (day as i32 * 5 % 12) + 7 * day as i32 + point as i32;
+                read(book, point, day, 50, &[watts, watts + 1]);
+            }
+        };
+        let last = |days: &[u8]| {
+            let mut book = june(5, 2, 2, 3);
+            // Two delivery points of one access point.
+            book.register[1].access_ean = book.register[0].access_ean;
+            readings_of(&mut book, 0);
+            for &day in days {
+                engage(&mut book, 0, day, 50, 2, 0, 300);
+            }
+            book
+        };
+        self.book("day 11 alone", &last(&[11]));
+        for days in [
+            vec![10, 11],
+            vec![9, 11],
+            vec![8, 11],
+            vec![5, 11],
+            vec![5, 6, 7, 8, 9, 10, 11],
+            vec![5, 7, 9, 11],
+            vec![6, 8, 10, 11],
+        ] {
+            self.book(format!("days {days:?} engaged, X 2, Y 3"), &last(&days));
+        }
+        for y in [5, 6] {
+            self.changed(
+                format!("days 5 to 11 engaged: 5 lead days are left, Y {y}"),
+                &last(&[5, 6, 7, 8, 9, 10, 11]),
+                |book| book.choices[0].y = y,
+            );
+        }
+        for (first, count) in [(0, 1), (95, 1), (49, 1), (52, 1), (0, 96)] {
+            self.changed(format!("day 10 engaged from {first}, {count} quarter-hours"), &last(&[10, 11]), |book| {
+                (book.engagements[0].first, book.engagements[0].count) = (first, count);
+            });
+        }
+        self.changed("day 10 engaged down, with notice, for another request", &last(&[10, 11]), |book| {
+            let row = &mut book.engagements[0];
+            (row.direction, row.notice, row.requested) = (1, 96, 1);
+        });
+        self.changed("day 10 engaged twice", &last(&[10, 11]), |book| {
+            book.engagements[0].count = 1;
+            let mut later = book.engagements[0].clone();
+            later.first = 60;
+            book.engagements.insert(1, later);
+        });
+        self.changed("day 10 of the other point of the access point engaged", &last(&[11]), |book| {
+            readings_of(book, 1);
+            engage(book, 1, 10, 50, 2, 0, 300);
+        });
+        self.changed("days 9, 10 of the other point engaged, and its 11", &last(&[11]), |book| {
+            readings_of(book, 1);
+            for day in 9..12 {
+                engage(book, 1, day, 50, 2, 0, 300);
+            }
+        });
+        self.changed("day 10 of one point engaged, day 9 of the other, 11 of both", &last(&[10, 11]), |book| {
+            readings_of(book, 1);
+            engage(book, 1, 9, 50, 2, 0, 300);
+            engage(book, 1, 11, 50, 2, 0, 300);
+        });
+        self.changed("days 12 and 13 engaged too: nothing for day 11", &last(&[11]), |book| {
+            engage(book, 0, 12, 50, 2, 0, 300);
+            engage(book, 0, 13, 50, 2, 0, 300);
+        });
+        self.changed("day 11 engaged twice: nothing for either", &last(&[11]), |book| {
+            book.engagements[0].count = 1;
+            engage(book, 0, 11, 51, 1, 0, 300);
+        });
+        self.changed("day 10 engaged and excluded", &last(&[10, 11]), |book| book.register[0].excluded_days = 1 << 10);
+        self.changed("day 10 engaged, day 9 excluded", &last(&[10, 11]), |book| {
+            book.register[0].excluded_days = 1 << 9
+        });
+        self.changed("day 10 engaged, of another category", &last(&[10, 11]), |book| book.calendar[10] = 2);
+        self.changed("day 10 engaged, day 9 of another category", &last(&[10, 11]), |book| book.calendar[9] = 2);
+        self.changed("day 10 engaged at another time, and misses a reading of day 11's", &last(&[10, 11]), |book| {
+            book.engagements[0].first = 60;
+            book.readings[0][96 * 10 + 50] = MISSING;
+        });
+        self.changed("day 10 engaged, day 9 misses a reading", &last(&[10, 11]), |book| {
+            book.readings[0][96 * 9 + 51] = MISSING;
+        });
+        self.changed("method 0 looks at no day", &last(&[10, 11]), |book| {
+            book.register[0].method = 0;
+            book.choices[0] = Choice { x: 10, y: 20 };
+        });
+        let mut next = june(1, 1, 1, 1);
+        engage(&mut next, 0, 1, 0, 1, 0, 10);
+        engage(&mut next, 0, 2, 0, 1, 0, 10);
+        self.book("L 1, Y 1, the first two settled days engaged", &next);
+        self.changed("L 1, Y 1, the lead day excluded", &next, |book| book.register[0].excluded_days = 1);
+        self.changed("L 1, Y 2, the second settled day engaged alone", &next, |book| {
+            book.choices[0].y = 2;
+            book.engagements.remove(0);
+        });
+        self.changed("L 1, Y 2, days 2 and 3 engaged: both look at 1 and 0", &next, |book| {
+            book.choices[0].y = 2;
+            (book.engagements[0].day, book.engagements[1].day) = (2, 3);
+        });
+        self.changed("L 1, Y 2, days 1 and 2 engaged: 9 with the first", &next, |book| book.choices[0].y = 2);
+        let later = |days: &[(u8, u8)]| {
+            let mut book = june(4, 1, 1, 4);
+            book.readings[0][20] = MISSING;
+            for &(day, first) in days {
+                engage(&mut book, 0, day, first, 1, 0, 10);
+            }
+            book
+        };
+        self.book("Y 4, day 5 misses day 0: days 4 to 1", &later(&[(5, 20)]));
+        self.book("Y 4, day 5 misses days 0 and 4: 9 with the later row", &later(&[(4, 10), (5, 20)]));
+        let mut long = Book::plain(2021, 7, 33, 1);
+        long.choices = vec![Choice { x: 1, y: 1 }; 4];
+        long.register[0].method = 1;
+        long.register[0].largest_up = 1_000_000_000;
+        for day in 0..64 {
+            read(&mut long, 0, day, 95, &[day as i32 + 1]);
+        }
+        for days in [vec![33, 34], vec![33, 63], vec![62, 63], vec![61, 62, 63], vec![33, 34, 61, 62, 63]] {
+            self.changed(format!("N 64, days {days:?} engaged"), &long, |book| {
+                for &day in &days {
+                    engage(book, 0, day, 95, 1, 0, 10);
+                }
+            });
+        }
+        self.changed("N 64, all 31 settled days engaged, X 10, Y 20", &long, |book| {
+            book.choices[0] = Choice { x: 10, y: 20 };
+            for day in 33..64 {
+                engage(book, 0, day, 95, 1, 0, 10);
+            }
+        });
+    }
+
+    /// The day isn't eligible; a window may lie on it.
+    fn engaged_days_of_method_2(&mut self) {
+        let base = |first: u8, days: &[u8]| {
+            let mut book = june(4, 1, 1, 2);
+            book.register[0].method = 2;
+            book.register[0].largest_up = 1_000_000_000;
+            for day in 0..8 {
+                let start = 96 * day + first as usize;
+                let watts = 1000 + 300 * (day as i32 * 3 % 8);
+                book.readings[0][start] = watts;
+                if start >= 24 {
+                    book.readings[0][start - 24] = 2 * watts;
+                    book.readings[0][start - 13] = watts / 3;
+                }
+            }
+            for &day in days {
+                engage(&mut book, 0, day, first, 1, 0, 100);
+            }
+            book
+        };
+        for first in [0, 10, 30, 95] {
+            self.book(format!("method 2, first {first}, day 7 alone"), &base(first, &[7]));
+            self.book(
+                format!("method 2, first {first}, days 6, 7: its own window is on day 6 or 7"),
+                &base(first, &[6, 7]),
+            );
+            self.book(
+                format!("method 2, first {first}, days 5, 7: day 6's window is on day 5 or 6"),
+                &base(first, &[5, 7]),
+            );
+            self.book(format!("method 2, first {first}, days 4, 6, 7"), &base(first, &[4, 6, 7]));
+        }
+        self.changed("method 2, days 4 to 7 engaged, Y 4", &base(30, &[4, 5, 6, 7]), |book| book.choices[0].y = 4);
+        self.changed("method 2, days 4 to 7 engaged, Y 5", &base(30, &[4, 5, 6, 7]), |book| book.choices[0].y = 5);
+        self.changed(
+            "method 2, first 0, day 0 has no window: days 4 to 7 engaged, Y 4",
+            &base(0, &[4, 5, 6, 7]),
+            |book| book.choices[0].y = 4,
+        );
+        self.changed("method 2, days 6, 7, down", &base(30, &[6, 7]), |book| {
+            book.register[0].largest_down = 1_000_000_000;
+            for row in &mut book.engagements {
+                row.direction = 1;
+            }
+        });
     }
 
     fn ranking(&mut self) {
@@ -529,7 +737,8 @@ impl Cases {
     }
 }
 
-/// As many engagements as a book can have, two for each of as many points as it can have.
+/// As many engagements as a book can have, two for each of as many points as it can have: of every second point on two days that follow each other, so
+/// that the first of them, whose reading is the greater, is no reference day of the other.
 pub fn largest_book() -> Book {
     let mut book = Book::plain(2021, 2, 2, 256);
     book.choices = vec![Choice { x: 1, y: 2 }; 4];
@@ -539,10 +748,13 @@ pub fn largest_book() -> Book {
         (row.largest_up, row.largest_down) = (20 * point as u32, 15 * point as u32);
         let (first, watts) = (40 + point % 50, point as i32);
         read(&mut book, point, 1, first - 1, &[5000 - 7 * watts, 4000 + 3 * watts]);
-        read(&mut book, point, 2, first - 1, &[300 * (watts % 7), 9 * watts]);
+        let follows = point % 2 == 1;
+        let own = if follows { 9000 + watts } else { 9 * watts };
+        read(&mut book, point, 2, first - 1, &[300 * (watts % 7), own]);
         let direction = (point / 3 % 2) as u8;
         engage(&mut book, point as u16, 2, first as u8, 1, direction, 100 + point as u32);
-        engage(&mut book, point as u16, 29, 95, 1, 1 - direction, 1 + point as u32);
+        let (day, first) = if follows { (3, first as u8) } else { (29, 95) };
+        engage(&mut book, point as u16, day, first, 1, 1 - direction, 1 + point as u32);
     }
     book
 }

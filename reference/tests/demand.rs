@@ -4,7 +4,7 @@
 use reference::book::{Book, decode};
 use reference::message::read;
 use reference::random::Random;
-use reference::report_cases::heat_pumps;
+use reference::report_cases::{busy_pool, heat_pumps};
 use reference::series::{file_call, series_grains};
 use reference::settle::{GRAINS_PER_WATT, Quarter, settle_book};
 use reference::settle_cases::random_book;
@@ -77,16 +77,29 @@ fn holds(book: &Book, bytes: &[u8], quarters: &[Quarter]) {
 #[test]
 fn sheets_and_files_of_random_books() {
     let mut random = Random::new(6);
-    let mut accepted = 0;
+    let (mut accepted, mut several) = (0, 0);
     for _ in 0..400 {
         let bytes = random_book(&mut random).encode();
         let book = decode(&bytes).unwrap();
         if let Ok(quarters) = settle_book(&book) {
             accepted += 1;
+            several += several_days(&book) as usize;
             holds(&book, &bytes, &quarters);
         }
     }
-    assert!(accepted > 100);
+    assert!(accepted > 100 && several > 50);
+}
+
+/// A point has engagements on more than one day, so that the balance is over baselines that step over the earlier ones.
+fn several_days(book: &Book) -> bool {
+    book.engagements.windows(2).any(|two| two[0].point == two[1].point && two[0].day < two[1].day)
+}
+
+#[test]
+fn sheets_and_files_of_engagements_on_several_days() {
+    let book = busy_pool();
+    assert!(several_days(&book));
+    holds(&book, &book.encode(), &settle_book(&book).unwrap());
 }
 
 #[test]

@@ -1,19 +1,18 @@
--- A day is eligible where its category and the mask allow it, its readings are there and, for method 2, its window is.
-use mathlib.Core.Path.{_≡_, sym, ap, ap₂, _∙_}
-use mathlib.Core.Bool.{Bool, true, false, not, _&&_}
+-- A day is eligible where its category is A's, it isn't closed, its readings are there and, for method 2, its window is.
+use mathlib.Core.Path.{_≡_, refl, sym, ap, ap₂, _∙_}
+use mathlib.Core.Bool.{Bool, true, false, not, _&&_, _||_}
 use mathlib.Core.List.{List}
 use Prim.Native.Nat.{ℕ}
 use native.Mathlib.Omega.{arith}
 use lib.Dec.{eqb}
 use lib.ListN.{getD}
 use Rattle.integers.specs.TestsLaws.{both}
-use Rattle.book.specs.declared.Point.{Point}
 use Rattle.quarters.specs.Quarters.{originOf}
 use Rattle.book.specs.Register.{excludes}
 use Rattle.book.specs.Book.{Book}
 use Rattle.volumes.specs.Quarters.{reference}
-use Rattle.volumes.specs.Baseline.{complete, dayReadings, dayWindow, windowed, allowed, eligible, daySum}
-use Rattle.volumes.specs.UsedLaws.{eligible-is}
+use Rattle.volumes.specs.Baseline.{complete, dayReadings, dayWindow, windowed, allowed, suits, engaged, eligible, daySum}
+use Rattle.volumes.specs.UsedLaws.{eligible-is, suits-is}
 use Rattle.baseline.specs.declared.shown.Shown.{Shown}
 use Rattle.baseline.specs.declared.tally.Tally.{Tally}
 use Rattle.baseline.specs.TallyInner.{Tallied}
@@ -21,18 +20,38 @@ use Rattle.baseline.specs.RunsInner.{standing}
 use Rattle.baseline.specs.ShownInner.{Shows, Refers, windowIn}
 use Rattle.baseline.specs.ShownLaws.{day-standing, day-window}
 
--- the day's category is A's, and the mask doesn't exclude it
+-- the day's category is A's, and the day isn't closed
 abbrev pub alike : List ℕ → Shown → ℕ → Bool
-alike calendar shown d = eqb (getD calendar d 0) (getD calendar (shown .e .day) 0) && not (excludes (shown .point .mask) d)
+alike calendar shown d = eqb (getD calendar d 0) (getD calendar (shown .e .day) 0) && not (excludes (shown .closed) d)
+
+-- one test for the mask and the engagements
+arrange : (engaged excluded same rest : Bool) → (not engaged && ((same && not excluded) && rest)) ≡ ((same && not (excluded || engaged)) && rest)
+arrange true true true rest = refl
+arrange true true false rest = refl
+arrange true false true rest = refl
+arrange true false false rest = refl
+arrange false true true rest = refl
+arrange false true false rest = refl
+arrange false false true rest = refl
+arrange false false false rest = refl
 
 module _ {shown : Shown} {calendar readings : List ℕ} {book : Book} (s : Shows shown calendar readings book) (d : ℕ) where
-  -- which is what the definition allows
-  alike-is : allowed book (shown .e) d ≡ alike calendar shown d
+  -- document 01's part of eligibility
+  suits-by : suits book (shown .e) d ≡ ((eqb (getD calendar d 0) (getD calendar (shown .e .day) 0) && not (excludes (shown .point .mask) d)) && (complete (dayReadings book (shown .e) d) && windowed (shown .point .method) (dayWindow book (shown .e) d)))
   unfolding allowed
-  alike-is = λ i. eqb (s .category d i) (s .category (shown .e .day) i) && not (excludes (s .owner i .mask) d)
+  suits-by =
+      suits-is book (shown .e) d
+      ∙ (λ i. (eqb (s .category d i) (s .category (shown .e .day) i) && not (excludes (s .owner i .mask) d)) && (complete (dayReadings book (shown .e) d) && windowed (s .owner i .method) (dayWindow book (shown .e) d)))
 
   eligible-by : (b : Bool) → alike calendar shown d ≡ b → eligible book (shown .e) d ≡ (b && (complete (dayReadings book (shown .e) d) && windowed (shown .point .method) (dayWindow book (shown .e) d)))
-  eligible-by b h = eligible-is book (shown .e) d ∙ ap₂ (λ (a : Bool) (p : Point). a && (complete (dayReadings book (shown .e) d) && windowed (p .method) (dayWindow book (shown .e) d))) (alike-is ∙ h) (s .owner)
+  eligible-by b h =
+      let rest = complete (dayReadings book (shown .e) d) && windowed (shown .point .method) (dayWindow book (shown .e) d) in
+      let same = eqb (getD calendar d 0) (getD calendar (shown .e .day) 0) in
+      eligible-is book (shown .e) d
+      ∙ ap (λ (t : Bool). not (engaged book (shown .e .point) d) && t) suits-by
+      ∙ arrange (engaged book (shown .e .point) d) (excludes (shown .point .mask) d) same rest
+      ∙ ap (λ (t : Bool). (same && not t) && rest) (sym (s .closed d))
+      ∙ ap (λ (t : Bool). t && rest) h
 
   pub refers-not : alike calendar shown d ≡ false → Refers book (shown .e) d (record { whole = false; sum = 0 })
   refers-not h =

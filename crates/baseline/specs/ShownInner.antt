@@ -1,6 +1,6 @@
 -- A book as its sections show it, and an engagement that fits it.
 use mathlib.Core.Path.{_≡_}
-use mathlib.Core.Bool.{true, cond}
+use mathlib.Core.Bool.{true, cond, _||_}
 use mathlib.Core.List.{List, map}
 use Prim.Native.Nat.{ℕ, _+_, _-_, _*_, _≤_, _<_}
 use lib.Dec.{leb}
@@ -14,19 +14,21 @@ use Rattle.book.specs.declared.Engagement.{Engagement}
 use Rattle.quarters.specs.Quarters.{daysOf, quarters, quartersOf, originOf}
 use Rattle.book.specs.Tables.{categoryAt}
 use Rattle.book.specs.Book.{Book}
-use Rattle.volumes.specs.Baseline.{pointOf, xOf, yOf, eligible, daySum}
+use Rattle.book.specs.Register.{excludes}
+use Rattle.volumes.specs.Baseline.{pointOf, engaged, eligible, xOf, yOf, daySum}
 use Rattle.volumes.specs.SoundInner.{XOfY}
 use Rattle.baseline.specs.declared.shown.Shown.{Shown}
 use Rattle.baseline.specs.declared.tally.Tally.{Tally}
 use Rattle.quarters.specs.QuartersInner.{Ranged}
 use Rattle.wire.specs.ReadingsInner.{raise}
 
--- the sections are those of a book; the point, X and Y are those of the engagement
+-- the sections are those of a book; the point, its closed days, X and Y are those of the engagement
 pub record Shows (shown : Shown) (calendar readings : List ℕ) (book : Book) : Type 0 where
   pub when : book .calendar ≡ shown .c
   pub category : (d : ℕ) → book .category d ≡ categoryAt calendar d
   pub reading : (p k : ℕ) → book .reading p k ≡ readingAt readings (originOf (shown .c) p + k)
   pub owner : pointOf book (shown .e) ≡ shown .point
+  pub closed : (d : ℕ) → excludes (shown .closed) d ≡ (excludes (shown .point .mask) d || engaged book (shown .e .point) d)
   pub takes : shown .x ≡ xOf book (shown .e)
   pub wants : shown .y ≡ yOf book (shown .e)
 

@@ -74,9 +74,9 @@ pub fn reference_day(
     let e = shown.e;
     let point = shown.point;
     let own = e.day as usize;
-    let mask = point.mask;
+    let closed = shown.closed;
     let method = point.method;
-    let alike = (calendar[day] == calendar[own]) & !book::register::excludes(mask, day as u32);
+    let alike = (calendar[day] == calendar[own]) & !book::register::excludes(closed, day as u32);
     if !alike {
         return Tally {
             whole: false,

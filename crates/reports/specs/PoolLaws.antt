@@ -17,6 +17,7 @@ use Rattle.integers.specs.Ranges.{range}
 use Rattle.integers.specs.Running.{upTo, floorAt}
 use Rattle.integers.specs.Sums.{sumBy}
 use Rattle.integers.specs.Keep.{keep}
+use Rattle.integers.specs.First.{anyOf}
 use Rattle.wire.specs.Numbers.{little}
 use Rattle.wire.specs.Readings.{readingOf}
 use Rattle.calendar.specs.Dates.{leap, monthLength, calendarDays}
@@ -33,7 +34,7 @@ use Rattle.book.specs.Judged.{clockChangeIn, refusalOf}
 use Rattle.book.specs.Book.{Book, bookOf}
 use Rattle.volumes.specs.Quarters.{quarterHours, start, referenceQuarter, reference}
 use Rattle.volumes.specs.Ranking.{insert, ranked}
-use Rattle.volumes.specs.Baseline.{pointOf, watts, known, complete, mean, ownReading, dayReading, dayReadings, dayWindow, windowed, allowed, eligible, before, eligibleDays, latest, daySum, taken, high, baselineBy, baseline}
+use Rattle.volumes.specs.Baseline.{pointOf, watts, known, complete, mean, ownReading, dayReading, dayReadings, dayWindow, windowed, allowed, suits, engaged, eligible, before, eligibleDays, latest, daySum, taken, high, baselineBy, baseline}
 use Rattle.refusals.specs.Refusals.{orElse}
 use Rattle.volumes.specs.Settlement.{neededBy, needed, tooFew, refusalNumber, rowRefusal, refusalFrom, settlementRefusal, limited, deliveredBy, delivered, bookRefusal}
 use Rattle.volumes.specs.Sheets.{covers, quarterAt}
@@ -201,7 +202,7 @@ book-is =
 -- ---- refusals 8 and 9, and the watts
 
 pool-settles : settlementRefusal poolBook ≡ none
-unfolding poolBook month calendar table register wattAt engagements settlementRefusal refusalFrom rowRefusal refusalNumber needed neededBy tooFew complete known ownReading dayReading dayReadings dayWindow windowed allowed eligible before keep eligibleDays pointOf start referenceQuarter reference quarterHours dayStart calendarDays monthLength leap range readingOf
+unfolding poolBook month calendar table register wattAt engagements settlementRefusal refusalFrom rowRefusal refusalNumber needed neededBy tooFew complete known ownReading dayReading dayReadings dayWindow windowed allowed suits engaged anyOf eligible before keep eligibleDays pointOf start referenceQuarter reference quarterHours dayStart calendarDays monthLength leap range readingOf
 pool-settles = refl
 
 pool-refusal : bookRefusal pool ≡ none
@@ -213,12 +214,12 @@ unfolding bookOf monthQuarters pool header dayStart calendarDays monthLength lea
 month-long = omega arith
 
 half-watts : (delivered poolBook (engagementAt engagements 0) 0 ≡ 15120) × (delivered poolBook (engagementAt engagements 1) 0 ≡ 15120) × (delivered poolBook (engagementAt engagements 2) 0 ≡ 15120) × (delivered poolBook (engagementAt engagements 2) 1 ≡ 15120)
-unfolding poolBook month calendar table register wattAt engagements insert ranked mean watts complete known ownReading dayReading dayReadings dayWindow windowed allowed eligible before keep eligibleDays latest daySum taken high baselineBy baseline limited deliveredBy delivered pointOf start referenceQuarter reference quarterHours dayStart calendarDays monthLength leap range readingOf sumBy
+unfolding poolBook month calendar table register wattAt engagements insert ranked mean watts complete known ownReading dayReading dayReadings dayWindow windowed allowed suits engaged anyOf eligible before keep eligibleDays latest daySum taken high baselineBy baseline limited deliveredBy delivered pointOf start referenceQuarter reference quarterHours dayStart calendarDays monthLength leap range readingOf sumBy
 half-watts = (refl, refl, refl, refl)
 
 -- a series' watts at the first position, and at the second
 watts-are : (seriesWatts poolBook Toe01 7 (seriesOf 3 OffTake Up) 1 ≡ 1) × (seriesWatts poolBook Toe02 3 (seriesOf 7 OffTake Up) 1 ≡ 1) × (seriesWatts poolBook Toe03 3 (seriesOf 13 OffTake Up) 1 ≡ 0) × (seriesWatts poolBook Toe03 3 (seriesOf 13 OffTake Up) 2 ≡ 1)
-unfolding poolBook month calendar table register wattAt engagements insert ranked mean watts complete known ownReading dayReading dayReadings dayWindow windowed allowed eligible before keep eligibleDays latest daySum taken high baselineBy baseline limited deliveredBy delivered pointOf start referenceQuarter reference quarterHours dayStart calendarDays monthLength leap range readingOf sumBy seriesWatts floorAt upTo grainsAt grainsOf isEngagement isPoint takes receiverOf partnerOf sameSupply sameDirection covers quarterAt position
+unfolding poolBook month calendar table register wattAt engagements insert ranked mean watts complete known ownReading dayReading dayReadings dayWindow windowed allowed suits engaged anyOf eligible before keep eligibleDays latest daySum taken high baselineBy baseline limited deliveredBy delivered pointOf start referenceQuarter reference quarterHours dayStart calendarDays monthLength leap range readingOf sumBy seriesWatts floorAt upTo grainsAt grainsOf isEngagement isPoint takes receiverOf partnerOf sameSupply sameDirection covers quarterAt position
 watts-are = (refl, refl, refl, refl)
 
 delivers : (i k : ℕ) → delivered poolBook (engagementAt engagements i) k ≡ 15120 → volume i k ≡ 15120

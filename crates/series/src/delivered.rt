@@ -15,6 +15,7 @@ ghost use Rattle.book.specs.Engagements.{engagementAt};
 ghost use Rattle.book.specs.Book.{bookOf};
 ghost use Rattle.volumes.specs.Settlement.{refusalNumber, settlementRefusal, rowWidth, rowCount, bookRefusal};
 ghost use Rattle.settlement.specs.SectionsInner.{engagementCountIn, rowCountIn, bookWith, Opened};
+ghost use Rattle.settlement.specs.DaysInner.{Gathered};
 ghost use Rattle.series.specs.VolumesInner.{volumesOf, bookVolumes, volumeIn};
 
 // A delivered volume, which isn't negative.
@@ -42,15 +43,16 @@ fn fill_engagement(
     c: Calendar,
     book: &[u8],
     engagements: &[u8],
+    engaged: &[u64],
     i: usize,
     volumes: &mut [u64],
     at: usize,
 ) -> usize
-    requires { ⌜ Opened (now book) (now engagements) × (c ≡ calendarOf (now book)) × (i < engagementCountIn (now engagements)) × (refusalNumber (bookWith (now book) (now engagements)) (engagementAt (now engagements) i) ≡ none) × (at + engagementAt (now engagements) i .count ≤ length (now volumes)) ⌝ }
+    requires { ⌜ Opened (now book) (now engagements) × (c ≡ calendarOf (now book)) × (i < engagementCountIn (now engagements)) × (refusalNumber (bookWith (now book) (now engagements)) (engagementAt (now engagements) i) ≡ none) × (at + engagementAt (now engagements) i .count ≤ length (now volumes)) × Gathered (now engagements) (now engaged) ⌝ }
     ensures { λ r. ⌜ (r ≡ at + engagementAt (now (engagements .entry)) i .count) × (now (volumes .exit) ≡ sets (now (volumes .entry)) at (volumesOf (bookWith (now (book .entry)) (now (engagements .entry))) (engagementAt (now (engagements .entry)) i))) ⌝ }
 {
     let mut rows = [0i64; settlement::rows::ROW_WIDTH * quarters::LONGEST_DAY];
-    settlement::settle::settle_engagement_at(c, book, engagements, i, &mut rows, 0);
+    settlement::settle::settle_engagement_at(c, book, engagements, engaged, i, &mut rows, 0);
     let e = book::engagements::engagement_at(engagements, i);
     let n = e.count as usize;
     store_volumes(volumes, at, &rows, n);
@@ -58,15 +60,21 @@ fn fill_engagement(
 }
 
 // The volumes of all engagements, of a book that is not refused.
-fn fill_engagements(c: Calendar, book: &[u8], engagements: &[u8], volumes: &mut [u64])
-    requires { ⌜ Opened (now book) (now engagements) × (c ≡ calendarOf (now book)) × (settlementRefusal (bookWith (now book) (now engagements)) ≡ none) × (rowCountIn (now engagements) ≤ length (now volumes)) ⌝ }
+fn fill_engagements(
+    c: Calendar,
+    book: &[u8],
+    engagements: &[u8],
+    engaged: &[u64],
+    volumes: &mut [u64],
+)
+    requires { ⌜ Opened (now book) (now engagements) × (c ≡ calendarOf (now book)) × (settlementRefusal (bookWith (now book) (now engagements)) ≡ none) × (rowCountIn (now engagements) ≤ length (now volumes)) × Gathered (now engagements) (now engaged) ⌝ }
     ensures { λ r. ⌜ now (volumes .exit) ≡ sets (now (volumes .entry)) 0 (bookVolumes (bookWith (now (book .entry)) (now (engagements .entry)))) ⌝ }
 {
     let n = engagements.len() / 16;
     let mut at = 0;
     let mut i = 0;
     while i < n {
-        at = fill_engagement(c, book, engagements, i, volumes, at);
+        at = fill_engagement(c, book, engagements, engaged, i, volumes, at);
         i += 1;
     }
 }
@@ -77,5 +85,13 @@ pub fn fill_volumes(book: &[u8], volumes: &mut [u64])
     ensures { λ r. ⌜ now (volumes .exit) ≡ sets (now (volumes .entry)) 0 (bookVolumes (bookOf (now (book .entry)))) ⌝ }
 {
     let engagements = settlement::sections::section(book, 4);
-    fill_engagements(book::header::calendar_of(book), book, engagements, volumes);
+    let mut engaged = [0u64; settlement::days::MOST_POINTS];
+    settlement::days::gather_days(engagements, &mut engaged);
+    fill_engagements(
+        book::header::calendar_of(book),
+        book,
+        engagements,
+        &engaged,
+        volumes,
+    );
 }

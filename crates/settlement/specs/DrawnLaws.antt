@@ -1,6 +1,6 @@
 -- Each engagement of an opened book can be judged and settled from the sections of its bytes.
-use mathlib.Core.Path.{_≡_, refl, ap, _∙_}
-use mathlib.Core.Bool.{Bool, true, false}
+use mathlib.Core.Path.{_≡_, refl, sym, ap, _∙_}
+use mathlib.Core.Bool.{Bool, true, false, _||_}
 use mathlib.Core.List.{List, List·Memᴰ}
 use mathlib.Core.Option.{none}
 use Prim.Native.Nat.{ℕ, suc, _+_, _*_, _≤_, _<_}
@@ -17,7 +17,7 @@ use Rattle.quarters.specs.QuartersLaws.{days-few, quarters-most}
 use Rattle.book.specs.Header.{calendarOf, pointCount, sectionOf, calendarSection, tableSection, registerSection, readingSection}
 use Rattle.book.specs.HeaderLaws.{headed}
 use Rattle.book.specs.Tables.{categoryAt, xAt, yAt}
-use Rattle.book.specs.Register.{pointAt}
+use Rattle.book.specs.Register.{pointAt, excludes}
 use Rattle.book.specs.Engagements.{engagementAt}
 use Rattle.book.specs.Book.{Book}
 use Rattle.volumes.specs.Baseline.{pointOf, noPoint, xOf, yOf}
@@ -27,13 +27,15 @@ use Rattle.volumes.specs.SoundLaws.{passes}
 use Rattle.volumes.specs.SettlementLaws.{refusalAt, refusal-next, refusal-end}
 use Rattle.baseline.specs.ShownInner.{Shows, Fits}
 use Rattle.settlement.specs.SectionsInner.{engagementCountIn, engagementsIn, bookWith, shownIn, Opened}
-use Rattle.settlement.specs.SectionsLaws.{all-held}
+use Rattle.settlement.specs.SectionsLaws.{all-held, engaged-in}
+use Rattle.settlement.specs.DaysInner.{Gathered}
+use Rattle.integers.specs.BitsLaws.{bit-or}
 use Rattle.integers.specs.RangesLaws.{length-range, getD-made, getD-mem}
 
 -- what is shown of an engagement fits the sections and is the book's: all that judging and settling it ask
-pub record Drawn (bytes engagements : List ℕ) (i : ℕ) : Type 0 where
-  pub fits : Fits (shownIn bytes engagements i) (calendarSection bytes) (readingSection bytes)
-  pub shows : Shows (shownIn bytes engagements i) (calendarSection bytes) (readingSection bytes) (bookWith bytes engagements)
+pub record Drawn (bytes engagements masks : List ℕ) (i : ℕ) : Type 0 where
+  pub fits : Fits (shownIn bytes engagements masks i) (calendarSection bytes) (readingSection bytes)
+  pub shows : Shows (shownIn bytes engagements masks i) (calendarSection bytes) (readingSection bytes) (bookWith bytes engagements)
 
 module _ {bytes engagements : List ℕ} (s : Opened bytes engagements) where
   -- the points are as many as the header says, the engagements as the length says
@@ -86,7 +88,7 @@ module _ {bytes engagements : List ℕ} (s : Opened bytes engagements) where
   pub categorised : (i : ℕ) → i < engagementCountIn engagements → engagementAt engagements i .day < length (calendarSection bytes)
   categorised i h = omega (arith, placed i h .inside, all-held bytes (s .passed) .calendar .size)
 
-  pub point-few : (i : ℕ) → i < engagementCountIn engagements → engagementAt engagements i .point < 256
+  point-few : (i : ℕ) → i < engagementCountIn engagements → engagementAt engagements i .point < 256
   point-few i h = omega (arith, placed i h .point, headed bytes (passes bytes (s .passed) .header) .points)
 
   readings-room : (p : ℕ) → p < pointCount bytes → 4 * (quartersOf (calendarOf bytes) * p + quartersOf (calendarOf bytes)) ≤ length (readingSection bytes)
@@ -94,9 +96,9 @@ module _ {bytes engagements : List ℕ} (s : Opened bytes engagements) where
       let q = quartersOf (calendarOf bytes) in
       omega (arith, all-held bytes (s .passed) .readings .size, mul-le-mul-left {m = suc p} {n = pointCount bytes} (4 * q) (omega arith), mul-assoc 4 q (suc p), mul-suc q p)
 
-  pub drawn : (i : ℕ) → i < engagementCountIn engagements → Drawn bytes engagements i
+  pub drawn : {masks : List ℕ} → Gathered engagements masks → (i : ℕ) → i < engagementCountIn engagements → Drawn bytes engagements masks i
   unfolding bookWith shownIn
-  drawn i h =
+  drawn {masks} m i h =
       let e = engagementAt engagements i in
       let at = placed i h in
       record {
@@ -112,7 +114,18 @@ module _ {bytes engagements : List ℕ} (s : Opened bytes engagements) where
               room = readings-room (e .point) (at .point);
               x-of-y = table-of (e .day);
             };
-        shows = record { when = refl; category = λ d. refl; reading = λ p k. refl; owner = owner-at e (at .point); takes = refl; wants = refl };
+        shows =
+            record {
+              when = refl;
+              category = λ d. refl;
+              reading = λ p k. refl;
+              owner = owner-at e (at .point);
+              closed = λ d.
+                  let mask = pointAt (registerSection bytes) (e .point) .mask in
+                  bit-or mask (getD masks (e .point) 0) d ∙ ap (λ (b : Bool). excludes mask d || b) (m .each (e .point) d (point-few i h) ∙ sym (engaged-in bytes engagements (e .point) d));
+              takes = refl;
+              wants = refl;
+            };
       }
 
   -- the refusals from row i on: that of row i, or of those after it
@@ -126,8 +139,9 @@ module _ {bytes engagements : List ℕ} (s : Opened bytes engagements) where
   pub refusal-last : (i : ℕ) → engagementCountIn engagements ≤ i → refusalAt (bookWith bytes engagements) i ≡ none
   refusal-last i h = refusal-end (bookWith bytes engagements) i (omega (arith, row-count))
 
--- its day is a settled one of the calendar, its rows are those of a day at most
+-- its point is one that a book can have, its day a settled one of the calendar, its rows are those of a day at most
 pub record Placing (c : Calendar) (e : Engagement) : Type 0 where
+  pub point : e .point < 256
   pub day : e .day < 64
   pub settled : c .lead ≤ e .day
   pub few : rowWidth * e .count ≤ rowWidth * longestDay
@@ -138,6 +152,7 @@ module _ {bytes engagements : List ℕ} (s : Opened bytes engagements) (i : ℕ)
   engagement-placed =
       let p = s .sound .engagements (engagementAt engagements i) (member s i h) in
       record {
+        point = point-few s i h;
         day = omega (arith, p .inside, days-few (calendarOf bytes) (s .sound .ranged));
         settled = p .settled;
         few = omega (arith, p .ends, quarters-most (calendarOf bytes) (engagementAt engagements i .day));

@@ -7,6 +7,8 @@ pub mod FillLaws
 pub mod SectionsInner
 pub mod SectionsLaws
 pub mod DrawnLaws
+pub mod DaysInner
+pub mod DaysLaws
 pub mod VerdictsInner
 pub mod VerdictsLaws
 pub mod Calls

@@ -21,11 +21,11 @@ use Rattle.integers.specs.ListsLaws.{flatMap-append}
 unfoldable pub rowCountTo : List ℕ → ℕ → ℕ
 rowCountTo engagements i = sumOf (λ e. e .count) (take i (engagementsIn engagements))
 
-engagement-count : (engagements : List ℕ) → length (engagementsIn engagements) ≡ engagementCountIn engagements
+pub engagement-count : (engagements : List ℕ) → length (engagementsIn engagements) ≡ engagementCountIn engagements
 unfolding engagementsIn
 engagement-count engagements = rw (length-map, length-range)
 
-engagement-named : (engagements : List ℕ) (i : ℕ) (d : Engagement) → i < engagementCountIn engagements → getD (engagementsIn engagements) i d ≡ engagementAt engagements i
+pub engagement-named : (engagements : List ℕ) (i : ℕ) (d : Engagement) → i < engagementCountIn engagements → getD (engagementsIn engagements) i d ≡ engagementAt engagements i
 unfolding engagementsIn
 engagement-named engagements i d h = getD-made (engagementAt engagements) (engagementCountIn engagements) i d h
 

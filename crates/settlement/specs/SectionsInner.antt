@@ -1,12 +1,16 @@
 -- The book of a book's bytes with given engagements: rows of a section, whose length says how many they are.
 use mathlib.Core.Path.{_≡_}
+use mathlib.Core.Bool.{Bool}
 use mathlib.Core.List.{List, map}
 use mathlib.Core.Option.{none}
 use Prim.Native.Nat.{ℕ, _/_}
-use lib.ListN.{length}
+use lib.Bits.{bitOr}
+use lib.ListN.{length, getD}
 use Rattle.integers.specs.Ranges.{range}
 use Rattle.integers.specs.Sums.{sumOf}
+use Rattle.integers.specs.First.{anyOf}
 use Rattle.book.specs.declared.Engagement.{Engagement}
+use Rattle.book.specs.declared.Point.{Point}
 use Rattle.book.specs.Header.{calendarOf, pointCount, pointWidth, engagementWidth, calendarSection, tableSection, registerSection, readingSection}
 use Rattle.book.specs.Tables.{categoryAt, xAt, yAt}
 use Rattle.book.specs.Register.{pointAt}
@@ -14,6 +18,7 @@ use Rattle.book.specs.Metering.{meterAt}
 use Rattle.book.specs.Engagements.{engagementAt}
 use Rattle.book.specs.Book.{Book}
 use Rattle.book.specs.Judged.{refusalOf}
+use Rattle.volumes.specs.Baseline.{isOn}
 use Rattle.volumes.specs.SoundInner.{Sound}
 use Rattle.baseline.specs.declared.shown.Shown.{Shown}
 
@@ -44,15 +49,21 @@ bookWith bytes engagements =
       engagements = engagementsIn engagements;
     }
 
--- what they show of engagement i
-unfoldable pub shownIn : List ℕ → List ℕ → ℕ → Shown
-shownIn bytes engagements i =
+-- these engagements hold one of point p on day d
+unfoldable pub engagedIn : List ℕ → ℕ → ℕ → Bool
+engagedIn engagements p d = anyOf (isOn p d) (engagementsIn engagements)
+
+-- what they show of engagement i, with the days on which each point has one
+unfoldable pub shownIn : List ℕ → List ℕ → List ℕ → ℕ → Shown
+shownIn bytes engagements masks i =
     let e : Engagement = engagementAt engagements i in
+    let point : Point = pointAt (registerSection bytes) (e .point) in
     let category : ℕ = categoryAt (calendarSection bytes) (e .day) in
     record {
       c = calendarOf bytes;
       e = e;
-      point = pointAt (registerSection bytes) (e .point);
+      point = point;
+      closed = bitOr (point .mask) (getD masks (e .point) 0);
       x = xAt (tableSection bytes) category;
       y = yAt (tableSection bytes) category;
     }

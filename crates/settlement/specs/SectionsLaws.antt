@@ -9,10 +9,11 @@ use Rattle.book.specs.Header.{calendarOf, pointCount, engagementCount, offsetOf
 use Rattle.book.specs.HeaderLaws.{LaidOut, laid, headed}
 use Rattle.book.specs.Book.{bookOf}
 use Rattle.book.specs.Judged.{refusalOf}
+use Rattle.volumes.specs.Baseline.{engaged}
 use Rattle.volumes.specs.Settlement.{settlementRefusal, rowCount, bookRefusal}
 use Rattle.volumes.specs.SoundLaws.{passes, sound}
 use Rattle.volumes.specs.SettlementLaws.{passing}
-use Rattle.settlement.specs.SectionsInner.{pointCountIn, engagementCountIn, engagementsIn, rowCountIn, bookWith, Opened}
+use Rattle.settlement.specs.SectionsInner.{pointCountIn, engagementCountIn, engagementsIn, engagedIn, rowCountIn, bookWith, Opened}
 
 -- the sections, as a good layout says
 pub all-held : (bytes : List ℕ) → refusalOf bytes ≡ none → LaidOut bytes (calendarOf bytes) (pointCount bytes) (engagementCount bytes)
@@ -61,6 +62,11 @@ count-book bytes e = count-with bytes (engagementSection bytes) ∙ ap rowCount 
 
 pub rows-few : (bytes : List ℕ) → refusalOf bytes ≡ none → engagementCountIn (engagementSection bytes) ≤ 512
 rows-few bytes e = omega (arith, rows-counted bytes e, headed bytes (passes bytes e .header) .rows)
+
+-- the days with an engagement are those of the section's
+pub engaged-in : (bytes engagements : List ℕ) (p d : ℕ) → engaged (bookWith bytes engagements) p d ≡ engagedIn engagements p d
+unfolding engaged bookWith engagedIn
+engaged-in bytes engagements p d = refl
 
 -- nor are its engagements refused, where the book is not
 pub own-settled : (bytes : List ℕ) → bookRefusal bytes ≡ none → settlementRefusal (bookWith bytes (engagementSection bytes)) ≡ none

@@ -12,6 +12,7 @@ use Rattle.volumes.specs.Settlement.{refusalNumber, settlementRefusal, rowsOf, 
 use Rattle.volumes.specs.SettlementLaws.{all-settle}
 use Rattle.baseline.specs.FilledInner.{Unrefused, Accepts}
 use Rattle.settlement.specs.SectionsInner.{engagementCountIn, bookWith, shownIn, Opened}
+use Rattle.settlement.specs.DaysInner.{Gathered}
 use Rattle.settlement.specs.DrawnLaws.{drawn, member}
 use Rattle.settlement.specs.PartsLaws.{partsTo, parts-all}
 
@@ -28,11 +29,11 @@ pub rows-all : (bytes engagements : List ℕ) (i : ℕ) → engagementCountIn en
 unfolding rows bookWith
 rows-all bytes engagements i h = parts-all (rowsOf (bookWith bytes engagements)) engagements i h
 
-module _ {bytes engagements : List ℕ} (s : Opened bytes engagements) (i : ℕ) (h : i < engagementCountIn engagements) (good : refusalNumber (bookWith bytes engagements) (engagementAt engagements i) ≡ none) where
+module _ {bytes engagements masks : List ℕ} (s : Opened bytes engagements) (m : Gathered engagements masks) (i : ℕ) (h : i < engagementCountIn engagements) (good : refusalNumber (bookWith bytes engagements) (engagementAt engagements i) ≡ none) where
   -- what settling an engagement asks, of one that is not refused
-  pub settled : Unrefused (shownIn bytes engagements i) (calendarSection bytes) (readingSection bytes) (bookWith bytes engagements)
+  pub settled : Unrefused (shownIn bytes engagements masks i) (calendarSection bytes) (readingSection bytes) (bookWith bytes engagements)
   unfolding shownIn
-  settled = record { shows = drawn s i h .shows; good = good }
+  settled = record { shows = drawn s m i h .shows; good = good }
 
-  pub accepts : Accepts (shownIn bytes engagements i) (calendarSection bytes) (readingSection bytes)
-  accepts = record { fits = drawn s i h .fits; book = bookWith bytes engagements; settled = settled }
+  pub accepts : Accepts (shownIn bytes engagements masks i) (calendarSection bytes) (readingSection bytes)
+  accepts = record { fits = drawn s m i h .fits; book = bookWith bytes engagements; settled = settled }

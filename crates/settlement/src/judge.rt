@@ -10,6 +10,7 @@ ghost use Rattle.judging.specs.JudgedInner.{sentBack};
 ghost use Rattle.volumes.specs.Settlement.{refusalNumber, settlementRefusal, bookRefusal};
 ghost use Rattle.baseline.specs.NeedsInner.{numberOf};
 ghost use Rattle.settlement.specs.SectionsInner.{engagementCountIn, bookWith, Opened};
+ghost use Rattle.settlement.specs.DaysInner.{Gathered};
 ghost use Rattle.settlement.specs.VerdictsInner.{refusalIn};
 
 // Passed, or refused with a number and its item.
@@ -35,25 +36,31 @@ fn verdict_of(judged: Judged) -> Verdict
 }
 
 // What engagement i lacks.
-fn judge_engagement_at(c: Calendar, book: &[u8], engagements: &[u8], i: usize) -> Lack
-    requires { ⌜ Opened (now book) (now engagements) × (c ≡ calendarOf (now book)) × (i < engagementCountIn (now engagements)) ⌝ }
+fn judge_engagement_at(
+    c: Calendar,
+    book: &[u8],
+    engagements: &[u8],
+    engaged: &[u64],
+    i: usize,
+) -> Lack
+    requires { ⌜ Opened (now book) (now engagements) × (c ≡ calendarOf (now book)) × (i < engagementCountIn (now engagements)) × Gathered (now engagements) (now engaged) ⌝ }
     ensures { λ r. ⌜ numberOf r ≡ refusalNumber (bookWith (now (book .entry)) (now (engagements .entry))) (engagementAt (now (engagements .entry)) i) ⌝ }
 {
-    let shown = crate::sections::shown_at(c, book, engagements, i);
+    let shown = crate::sections::shown_at(c, book, engagements, engaged, i);
     let calendar = crate::sections::section(book, 0);
     let readings = crate::sections::section(book, 3);
     baseline::judge::judge_engagement(shown, calendar, readings)
 }
 
 // Refusals 8 and 9, by engagement.
-pub fn judge_engagements(c: Calendar, book: &[u8], engagements: &[u8]) -> Verdict
-    requires { ⌜ Opened (now book) (now engagements) × (c ≡ calendarOf (now book)) ⌝ }
+pub fn judge_engagements(c: Calendar, book: &[u8], engagements: &[u8], engaged: &[u64]) -> Verdict
+    requires { ⌜ Opened (now book) (now engagements) × (c ≡ calendarOf (now book)) × Gathered (now engagements) (now engaged) ⌝ }
     ensures { λ r. ⌜ refusalIn r ≡ settlementRefusal (bookWith (now (book .entry)) (now (engagements .entry))) ⌝ }
 {
     let n = engagements.len() / 16;
     let mut i = 0;
     while i < n {
-        let lack = judge_engagement_at(c, book, engagements, i);
+        let lack = judge_engagement_at(c, book, engagements, engaged, i);
         match lack {
             Lack::Nothing => {}
             Lack::Reading => return Verdict::Refused(8, i),
@@ -73,5 +80,7 @@ pub fn judge_settlement(book: &[u8]) -> Verdict
         return Verdict::Refused(number, item);
     }
     let engagements = crate::sections::section(book, 4);
-    judge_engagements(book::header::calendar_of(book), book, engagements)
+    let mut engaged = [0u64; crate::days::MOST_POINTS];
+    crate::days::gather_days(engagements, &mut engaged);
+    judge_engagements(book::header::calendar_of(book), book, engagements, &engaged)
 }

@@ -4,6 +4,7 @@ use quarters::Calendar;
 ghost use mathlib.Core.Path.{_≡_};
 ghost use mathlib.Core.Option.{none};
 ghost use Prim.Native.Nat.{_≤_, _<_};
+ghost use lib.ListN.{length};
 ghost use Rattle.book.specs.Header.{sectionOf, calendarOf};
 ghost use Rattle.book.specs.Judged.{refusalOf};
 ghost use Rattle.settlement.specs.SectionsInner.{engagementCountIn, shownIn, Opened};
@@ -16,18 +17,26 @@ pub fn section(book: &[u8], k: usize) -> &[u8]
     book::sections::section(book, k)
 }
 
-// What a book shows of engagement i.
-pub fn shown_at(c: Calendar, book: &[u8], engagements: &[u8], i: usize) -> Shown
-    requires { ⌜ Opened (now book) (now engagements) × (c ≡ calendarOf (now book)) × (i < engagementCountIn (now engagements)) ⌝ }
-    ensures { λ r. ⌜ r ≡ shownIn (now (book .entry)) (now (engagements .entry)) i ⌝ }
+// What a book shows of engagement i; `engaged` has the days on which each point has one.
+pub fn shown_at(c: Calendar, book: &[u8], engagements: &[u8], engaged: &[u64], i: usize) -> Shown
+    requires { ⌜ Opened (now book) (now engagements) × (c ≡ calendarOf (now book)) × (i < engagementCountIn (now engagements)) × (256 ≤ length (now engaged)) ⌝ }
+    ensures { λ r. ⌜ r ≡ shownIn (now (book .entry)) (now (engagements .entry)) (now (engaged .entry)) i ⌝ }
 {
     let calendar = section(book, 0);
     let table = section(book, 1);
     let register = section(book, 2);
     let e = book::engagements::engagement_at(engagements, i);
     let point = book::register::point_at(register, e.point as usize);
+    let closed = point.mask | engaged[e.point as usize];
     let category = book::tables::category(calendar, e.day as usize) as usize;
     let x = book::tables::x_of(table, category) as usize;
     let y = book::tables::y_of(table, category) as usize;
-    Shown { c, e, point, x, y }
+    Shown {
+        c,
+        e,
+        point,
+        closed,
+        x,
+        y,
+    }
 }

@@ -13,6 +13,7 @@ ghost use Rattle.book.specs.Judged.{refusalOf};
 ghost use Rattle.book.specs.Book.{bookOf};
 ghost use Rattle.volumes.specs.Settlement.{refusalNumber, settlementRefusal, rowWidth, rowsOf, rows, rowCount, bookRefusal};
 ghost use Rattle.settlement.specs.SectionsInner.{engagementCountIn, rowCountIn, bookWith, Opened};
+ghost use Rattle.settlement.specs.DaysInner.{Gathered};
 ghost use Rattle.settlement.specs.Calls.{SettleCalled};
 
 // The number of rows, or a refusal with its item.
@@ -50,14 +51,15 @@ pub fn settle_engagement_at(
     c: Calendar,
     book: &[u8],
     engagements: &[u8],
+    engaged: &[u64],
     i: usize,
     out: &mut [i64],
     at: usize,
 ) -> usize
-    requires { ⌜ Opened (now book) (now engagements) × (c ≡ calendarOf (now book)) × (i < engagementCountIn (now engagements)) × (refusalNumber (bookWith (now book) (now engagements)) (engagementAt (now engagements) i) ≡ none) × (at + rowWidth * engagementAt (now engagements) i .count ≤ length (now out)) ⌝ }
+    requires { ⌜ Opened (now book) (now engagements) × (c ≡ calendarOf (now book)) × (i < engagementCountIn (now engagements)) × (refusalNumber (bookWith (now book) (now engagements)) (engagementAt (now engagements) i) ≡ none) × (at + rowWidth * engagementAt (now engagements) i .count ≤ length (now out)) × Gathered (now engagements) (now engaged) ⌝ }
     ensures { λ r. ⌜ (r ≡ at + rowWidth * engagementAt (now (engagements .entry)) i .count) × (now (out .exit) ≡ sets (now (out .entry)) at (rowsOf (bookWith (now (book .entry)) (now (engagements .entry))) (engagementAt (now (engagements .entry)) i))) ⌝ }
 {
-    let shown = crate::sections::shown_at(c, book, engagements, i);
+    let shown = crate::sections::shown_at(c, book, engagements, engaged, i);
     let calendar = crate::sections::section(book, 0);
     let readings = crate::sections::section(book, 3);
     crate::fill::settle_engagement(shown, calendar, readings, out, at);
@@ -65,15 +67,21 @@ pub fn settle_engagement_at(
 }
 
 // The rows of all engagements, of a book that is not refused.
-pub fn settle_engagements(c: Calendar, book: &[u8], engagements: &[u8], out: &mut [i64])
-    requires { ⌜ Opened (now book) (now engagements) × (c ≡ calendarOf (now book)) × (settlementRefusal (bookWith (now book) (now engagements)) ≡ none) × (rowWidth * rowCountIn (now engagements) ≤ length (now out)) ⌝ }
+pub fn settle_engagements(
+    c: Calendar,
+    book: &[u8],
+    engagements: &[u8],
+    engaged: &[u64],
+    out: &mut [i64],
+)
+    requires { ⌜ Opened (now book) (now engagements) × (c ≡ calendarOf (now book)) × (settlementRefusal (bookWith (now book) (now engagements)) ≡ none) × (rowWidth * rowCountIn (now engagements) ≤ length (now out)) × Gathered (now engagements) (now engaged) ⌝ }
     ensures { λ r. ⌜ now (out .exit) ≡ sets (now (out .entry)) 0 (rows (bookWith (now (book .entry)) (now (engagements .entry)))) ⌝ }
 {
     let n = engagements.len() / 16;
     let mut at = 0;
     let mut i = 0;
     while i < n {
-        at = settle_engagement_at(c, book, engagements, i, out, at);
+        at = settle_engagement_at(c, book, engagements, engaged, i, out, at);
         i += 1;
     }
 }
@@ -84,7 +92,15 @@ pub fn fill_book(book: &[u8], out: &mut [i64])
     ensures { λ r. ⌜ now (out .exit) ≡ sets (now (out .entry)) 0 (rows (bookOf (now (book .entry)))) ⌝ }
 {
     let engagements = crate::sections::section(book, 4);
-    settle_engagements(book::header::calendar_of(book), book, engagements, out);
+    let mut engaged = [0u64; crate::days::MOST_POINTS];
+    crate::days::gather_days(engagements, &mut engaged);
+    settle_engagements(
+        book::header::calendar_of(book),
+        book,
+        engagements,
+        &engaged,
+        out,
+    );
 }
 
 // Settles a book: fills its rows, or changes nothing and says why.

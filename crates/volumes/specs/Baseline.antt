@@ -8,6 +8,7 @@ use lib.ListN.{length, take, getD}
 use Rattle.integers.specs.Ranges.{range}
 use Rattle.integers.specs.Sums.{sumZ}
 use Rattle.integers.specs.Keep.{keep}
+use Rattle.integers.specs.First.{anyOf}
 use Rattle.wire.specs.declared.Reading.{Reading}
 use Rattle.wire.specs.declared.Reading.the-variants.{Watts, Missing}
 use Rattle.grains.specs.Grains.{grainsZ, share}
@@ -99,9 +100,21 @@ windowed Adjusted twelve = complete twelve
 unfoldable pub allowed : Book → Engagement → ℕ → Bool
 allowed book e d = eqb (book .category d) (book .category (e .day)) && not (excludes (pointOf book e .mask) d)
 
--- "day d before A is eligible if it has A's category, isn't excluded and misses no reading in the engagement's quarter-hours"
+-- "day d before A is eligible if it has A's category, isn't excluded and misses no reading in the engagement's quarter-hours": what document 01 asks of it
+unfoldable pub suits : Book → Engagement → ℕ → Bool
+suits book e d = allowed book e d && (complete (dayReadings book e d) && windowed (pointOf book e .method) (dayWindow book e d))
+
+-- an engagement of point p on day d, at whatever quarter-hour
+abbrev pub isOn : ℕ → ℕ → Engagement → Bool
+isOn p d e = eqb (e .point) p && eqb (e .day) d
+
+-- document 02, C-11: "the book holds an engagement of that point on it"
+unfoldable pub engaged : Book → ℕ → ℕ → Bool
+engaged book p d = anyOf (isOn p d) (book .engagements)
+
+-- "a day isn't eligible if the book holds an engagement of that point on it"
 unfoldable pub eligible : Book → Engagement → ℕ → Bool
-eligible book e d = allowed book e d && (complete (dayReadings book e d) && windowed (pointOf book e .method) (dayWindow book e d))
+eligible book e d = not (engaged book (e .point) d) && suits book e d
 
 -- the days before a, the latest first
 unfoldable pub before : ℕ → List ℕ

@@ -5,18 +5,19 @@ use Rattle.integers.specs.Ranges.{range}
 use Rattle.integers.specs.Sums.{sumBy}
 use Rattle.integers.specs.Running.{upTo, floorAt}
 use Rattle.integers.specs.Keep.{keep}
+use Rattle.integers.specs.First.{anyOf}
 use Rattle.quarters.specs.Quarters.{quarters, dayStart, position}
 use Rattle.volumes.specs.Quarters.{quarterHours, start, referenceQuarter, reference}
 use Rattle.volumes.specs.Ranking.{insert, ranked}
-use Rattle.volumes.specs.Baseline.{pointOf, watts, known, complete, mean, readingBefore, window, ownReading, dayReading, dayReadings, ownWindow, dayWindow, windowed, allowed, eligible, before, eligibleDays, latest, daySum, taken, high, addend, lastReading, baselineBy, baseline}
+use Rattle.volumes.specs.Baseline.{pointOf, watts, known, complete, mean, readingBefore, window, ownReading, dayReading, dayReadings, ownWindow, dayWindow, windowed, allowed, suits, engaged, eligible, before, eligibleDays, latest, daySum, taken, high, addend, lastReading, baselineBy, baseline}
 use Rattle.volumes.specs.Settlement.{neededBy, needed, tooFew, refusalNumber, rowRefusal, refusalFrom, settlementRefusal, requestedAt, limited, deliveredBy, delivered, signed, sourceCorrection, fspCorrection, corrections, row, rowsOf, rows}
 use Rattle.volumes.specs.Sheets.{covers, quarterAt, partiesOf, shareOf, correctionAt, sheetAt, requestedBy, requestedVolume}
 use Rattle.volumes.specs.Series.{takes, receiverOf, partnerOf, sameSupply, sameDirection, isPoint, isEngagement, grainsOf, grainsAt, seriesWatts}
 use Rattle.volumes.specs.Examples.{june, pointFor, point, engagement, book, plain, byDay, byQuarter, engagementF, bookF, caseF, series, thirds, halves, risen, equalSums, shifted, windows, Checked}
-use Rattle.volumes.specs.FurtherLaws.{one, next, flat, gap, turns, oneParty, Further}
+use Rattle.volumes.specs.FurtherLaws.{one, next, on, flat, gap, rising, turns, oneParty, Further}
 
 pub checked : Checked
-unfolding june pointFor point engagement book plain byDay byQuarter engagementF bookF caseF series thirds halves risen equalSums shifted windows quarters dayStart quarterHours start referenceQuarter reference position insert ranked pointOf watts known complete mean readingBefore window ownReading dayReading dayReadings ownWindow dayWindow windowed allowed eligible before keep eligibleDays latest daySum taken high addend lastReading baselineBy baseline neededBy needed tooFew refusalNumber rowRefusal refusalFrom settlementRefusal requestedAt limited deliveredBy delivered signed sourceCorrection fspCorrection corrections row rowsOf rows covers quarterAt takes receiverOf partnerOf sameSupply sameDirection isPoint isEngagement grainsOf grainsAt seriesWatts range sumBy upTo floorAt flatMap
+unfolding june pointFor point engagement book plain byDay byQuarter engagementF bookF caseF series thirds halves risen equalSums shifted windows quarters dayStart quarterHours start referenceQuarter reference position insert ranked pointOf watts known complete mean readingBefore window ownReading dayReading dayReadings ownWindow dayWindow windowed allowed suits engaged anyOf eligible before keep eligibleDays latest daySum taken high addend lastReading baselineBy baseline neededBy needed tooFew refusalNumber rowRefusal refusalFrom settlementRefusal requestedAt limited deliveredBy delivered signed sourceCorrection fspCorrection corrections row rowsOf rows covers quarterAt takes receiverOf partnerOf sameSupply sameDirection isPoint isEngagement grainsOf grainsAt seriesWatts range sumBy upTo floorAt flatMap
 checked =
     record {
       p1 = refl;
@@ -40,7 +41,7 @@ checked =
     }
 
 pub further : Further
-unfolding one next flat gap turns oneParty june pointFor point engagement book plain byDay byQuarter engagementF bookF caseF series thirds halves risen equalSums shifted windows quarters dayStart quarterHours start referenceQuarter reference position insert ranked pointOf watts known complete mean readingBefore window ownReading dayReading dayReadings ownWindow dayWindow windowed allowed eligible before keep eligibleDays latest daySum taken high addend lastReading baselineBy baseline neededBy needed tooFew refusalNumber rowRefusal refusalFrom settlementRefusal requestedAt limited deliveredBy delivered signed sourceCorrection fspCorrection corrections row rowsOf rows covers quarterAt partiesOf shareOf correctionAt sheetAt requestedBy requestedVolume takes receiverOf partnerOf sameSupply sameDirection isPoint isEngagement grainsOf grainsAt seriesWatts range sumBy upTo floorAt flatMap zip zipWith
+unfolding one next on flat gap rising turns oneParty june pointFor point engagement book plain byDay byQuarter engagementF bookF caseF series thirds halves risen equalSums shifted windows quarters dayStart quarterHours start referenceQuarter reference position insert ranked pointOf watts known complete mean readingBefore window ownReading dayReading dayReadings ownWindow dayWindow windowed allowed suits engaged anyOf eligible before keep eligibleDays latest daySum taken high addend lastReading baselineBy baseline neededBy needed tooFew refusalNumber rowRefusal refusalFrom settlementRefusal requestedAt limited deliveredBy delivered signed sourceCorrection fspCorrection corrections row rowsOf rows covers quarterAt partiesOf shareOf correctionAt sheetAt requestedBy requestedVolume takes receiverOf partnerOf sameSupply sameDirection isPoint isEngagement grainsOf grainsAt seriesWatts range sumBy upTo floorAt flatMap zip zipWith
 further =
     record {
       enough = refl;
@@ -53,6 +54,15 @@ further =
       day-missing = refl;
       stepped-over = refl;
       other-category = refl;
+      engaged-day = refl;
+      engaged-later = refl;
+      engaged-other = refl;
+      engaged-both = (refl, refl);
+      engaged-now = refl;
+      engaged-own-window = refl;
+      engaged-window = refl;
+      engaged-enough = refl;
+      engaged-few = refl;
       file-of-fsp = refl;
       file-of-supplier = refl;
       file-by-access = refl;

@@ -14,7 +14,7 @@ use Rattle.book.specs.declared.Direction.the-variants.{Up, Down}
 use Rattle.book.specs.declared.Engagement.{Engagement}
 use Rattle.refusals.specs.Refusals.{refused}
 use Rattle.book.specs.Book.{Book}
-use Rattle.volumes.specs.Baseline.{latest}
+use Rattle.volumes.specs.Baseline.{latest, baseline}
 use Rattle.volumes.specs.Settlement.{settlementRefusal}
 use Rattle.volumes.specs.Sheets.{sheetAt, requestedVolume}
 use Rattle.volumes.specs.Series.{Toe01, Toe02, Toe03, seriesWatts}
@@ -27,13 +27,21 @@ one = engagement 0 1 Up 100
 unfoldable pub next : Engagement
 next = record { point = 0; day = 3; first = 1; count = 1; direction = Up; notice = 0; requested = 100 }
 
+-- of a point, on a day, in a quarter-hour
+unfoldable pub on : ℕ → ℕ → ℕ → Engagement
+on p day first = record { point = p; day = day; first = first; count = 1; direction = Up; notice = 0; requested = 100 }
+
 -- four days, by any method and Y
 unfoldable pub flat : Method → ℕ → List Engagement → Book
 flat method y engagements = plain 1 y (point 1 method 5000 ∷ []) (byDay (5 ∷ 6 ∷ 7 ∷ 8 ∷ [])) engagements
 
 -- quarter-hour 1 of a day is missing
-unfoldable pub gap : ℕ → ℕ → Book
-gap day y = plain 1 y (point 1 HighXOfY 5000 ∷ []) (λ d q. cond (eqb d day && eqb q 1) Missing (Watts (pos d))) (one ∷ next ∷ [])
+unfoldable pub gap : ℕ → ℕ → List Engagement → Book
+gap day y engagements = plain 1 y (point 1 HighXOfY 5000 ∷ []) (λ d q. cond (eqb d day && eqb q 1) Missing (Watts (pos d))) engagements
+
+-- two delivery points of one access point, whose watts rise from day to day
+unfoldable pub rising : Method → List Engagement → Book
+rising method engagements = plain 1 2 (point 1 method 5000 ∷ point 2 method 5000 ∷ []) (byDay (50 ∷ 60 ∷ 70 ∷ 80 ∷ 90 ∷ 100 ∷ [])) engagements
 
 -- every second day has A's category
 unfoldable pub turns : Book
@@ -51,12 +59,25 @@ pub record Further : Type 0 where
   pub enough-windows : settlementRefusal (flat Adjusted 2 (one ∷ [])) ≡ none
   pub few-windows : settlementRefusal (flat Adjusted 3 (one ∷ [])) ≡ refused 9 0
   -- "by engagement, 8 before 9": row 0's 9 before row 1's 8
-  pub own-missing : settlementRefusal (gap 3 3) ≡ refused 8 1
-  pub first-row : settlementRefusal (gap 3 4) ≡ refused 9 0
-  pub day-missing : settlementRefusal (gap 2 3) ≡ refused 9 1
+  pub own-missing : settlementRefusal (gap 3 3 (one ∷ next ∷ [])) ≡ refused 8 1
+  pub first-row : settlementRefusal (gap 3 4 (one ∷ next ∷ [])) ≡ refused 9 0
+  pub day-missing : settlementRefusal (gap 2 3 (one ∷ next ∷ [])) ≡ refused 9 1
   -- a day that misses a reading, or has another category, uses up no Y
-  pub stepped-over : latest (gap 2 2) next ≡ 1 ∷ 0 ∷ []
+  pub stepped-over : latest (gap 2 2 (one ∷ next ∷ [])) next ≡ 1 ∷ 0 ∷ []
   pub other-category : latest turns one ≡ 1 ∷ []
+  -- C-11: a day with an engagement of the point uses up no Y, at whatever quarter-hour; one with another point's is eligible, though the access point is the same
+  pub engaged-day : latest (rising HighXOfY (on 0 4 0 ∷ on 0 5 0 ∷ [])) (on 0 5 0) ≡ 3 ∷ 2 ∷ []
+  pub engaged-later : latest (rising HighXOfY (on 0 4 95 ∷ on 0 5 0 ∷ [])) (on 0 5 0) ≡ 3 ∷ 2 ∷ []
+  pub engaged-other : latest (rising HighXOfY (on 0 5 0 ∷ on 1 4 0 ∷ [])) (on 0 5 0) ≡ 4 ∷ 3 ∷ []
+  pub engaged-both : (baseline (rising HighXOfY (on 0 4 0 ∷ on 0 5 0 ∷ [])) (on 0 4 0) 0 ≡ plus 80) × (baseline (rising HighXOfY (on 0 4 0 ∷ on 0 5 0 ∷ [])) (on 0 5 0) 0 ≡ plus 80)
+  -- engagements on the day itself, or on a later one, change nothing
+  pub engaged-now : latest (rising HighXOfY (on 0 5 0 ∷ on 0 5 1 ∷ on 0 6 0 ∷ [])) (on 0 5 0) ≡ 4 ∷ 3 ∷ []
+  -- by method 2 the 12 of A, here on day 4, and those of an eligible day, here on day 3, may lie on a day with an engagement
+  pub engaged-own-window : latest (rising Adjusted (on 0 4 0 ∷ on 0 5 0 ∷ [])) (on 0 5 0) ≡ 3 ∷ 2 ∷ []
+  pub engaged-window : latest (rising Adjusted (on 0 3 0 ∷ on 0 5 0 ∷ [])) (on 0 5 0) ≡ 4 ∷ 2 ∷ []
+  -- Y days without an engagement pass, Y - 1 give 9 with the later row
+  pub engaged-enough : settlementRefusal (gap 0 4 (on 0 5 1 ∷ [])) ≡ none
+  pub engaged-few : settlementRefusal (gap 0 4 (on 0 4 0 ∷ on 0 5 1 ∷ [])) ≡ refused 9 1
   -- the quantities of case F's file, 2.500 twice, from either side; TOE03 has none
   pub file-of-fsp : map (seriesWatts caseF Toe01 7 series) (1 ∷ 2 ∷ 3 ∷ []) ≡ 2500 ∷ 2500 ∷ 0 ∷ []
   pub file-of-supplier : map (seriesWatts caseF Toe02 3 (record { partner = 7; supply = OffTake; delivery = Up })) (1 ∷ 2 ∷ 3 ∷ []) ≡ 2500 ∷ 2500 ∷ 0 ∷ []

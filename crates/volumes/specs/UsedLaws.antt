@@ -1,12 +1,13 @@
 -- No reading that goes into an accepted book's volumes is missing: taken days are eligible, an eligible day has its readings, and an engagement that settles has its own.
 use mathlib.Core.Path.{_≡_, refl, sym, ap, _∙_}
 use mathlib.Core.Logic.{⊎-elim}
-use mathlib.Core.Bool.{true, _&&_, and-eq-true-iff}
+use mathlib.Core.Bool.{Bool, true, false, not, _&&_, and-eq-true-iff}
 use mathlib.Core.List.{List, [], _∷_, map, flatMap, List·Memᴰ, List·Memᴰ·head, List·Memᴰ·tail, List·Memᴰ·not-nil, List·Memᴰ·cases-cons, Memᴰ·map, Memᴰ·of-map}
 use Prim.Native.Nat.{ℕ, zero, suc, _+_, _<_, _≤_}
 use native.Mathlib.Nat.{eq-or-lt-of-le}
 use native.Mathlib.Omega.{arith}
 use lib.ListN.{take}
+use borrow.Author.Tests.{not-true}
 use Rattle.integers.specs.Ranges.{range}
 use Rattle.integers.specs.KeepLaws.{mem-keep}
 use Rattle.wire.specs.declared.Reading.{Reading}
@@ -16,7 +17,7 @@ use Rattle.book.specs.Book.{Book}
 use Rattle.volumes.specs.Quarters.{quarterHours}
 use Rattle.volumes.specs.Ranking.{ranked}
 use Rattle.volumes.specs.RankingLaws.{from-ranked}
-use Rattle.volumes.specs.Baseline.{pointOf, known, complete, ownReading, dayReading, dayReadings, ownWindow, dayWindow, windowed, allowed, eligible, before, eligibleDays, xOf, yOf, latest, daySum, taken, lastReading}
+use Rattle.volumes.specs.Baseline.{pointOf, known, complete, ownReading, dayReading, dayReadings, ownWindow, dayWindow, windowed, allowed, suits, engaged, eligible, before, eligibleDays, xOf, yOf, latest, daySum, taken, lastReading}
 use Rattle.volumes.specs.BaselineLaws.{complete-append}
 use Rattle.volumes.specs.Settlement.{neededBy, needed}
 use Rattle.volumes.specs.SettlementLaws.{Settles}
@@ -49,13 +50,18 @@ unfolding before
 days-before zero d m = absurd (List·Memᴰ·not-nil m)
 days-before (suc a) d m = ⊎-elim (λ e. omega arith) (λ k. let h : d < a = days-before a d k in omega arith) (List·Memᴰ·cases-cons m)
 
--- "day d before A is eligible if it has A's category, isn't excluded and misses no reading ..": the parts that other laws go by
-pub eligible-is : (book : Book) (e : Engagement) (d : ℕ) → eligible book e d ≡ (allowed book e d && (complete (dayReadings book e d) && windowed (pointOf book e .method) (dayWindow book e d)))
+-- "a day isn't eligible if the book holds an engagement ..", and "if it has A's category, isn't excluded and misses no reading ..": the parts that other laws go by
+pub eligible-is : (book : Book) (e : Engagement) (d : ℕ) → eligible book e d ≡ (not (engaged book (e .point) d) && suits book e d)
 unfolding eligible
 eligible-is book e d = refl
 
--- an eligible day: what allows it, its readings and, by method 2, its 12
+pub suits-is : (book : Book) (e : Engagement) (d : ℕ) → suits book e d ≡ (allowed book e d && (complete (dayReadings book e d) && windowed (pointOf book e .method) (dayWindow book e d)))
+unfolding suits
+suits-is book e d = refl
+
+-- an eligible day: it has no engagement, what allows it, its readings and, by method 2, its 12
 pub record Eligible (book : Book) (e : Engagement) (d : ℕ) : Type 0 where
+  pub free : engaged book (e .point) d ≡ false
   pub allowed : allowed book e d ≡ true
   pub whole : complete (dayReadings book e d) ≡ true
   pub windowed : windowed (pointOf book e .method) (dayWindow book e d) ≡ true
@@ -63,9 +69,14 @@ pub record Eligible (book : Book) (e : Engagement) (d : ℕ) : Type 0 where
 pub eligible-day : (book : Book) (e : Engagement) (d : ℕ) → eligible book e d ≡ true → Eligible book e d
 eligible-day book e d h =
     let r = complete (dayReadings book e d) && windowed (pointOf book e .method) (dayWindow book e d) in
-    let f = and-eq-true-iff (allowed book e d) r .0 (sym (eligible-is book e d) ∙ h) in
+    let n = and-eq-true-iff (not (engaged book (e .point) d)) (suits book e d) .0 (sym (eligible-is book e d) ∙ h) in
+    let f = and-eq-true-iff (allowed book e d) r .0 (sym (suits-is book e d) ∙ n .1) in
     let g = and-eq-true-iff (complete (dayReadings book e d)) (windowed (pointOf book e .method) (dayWindow book e d)) .0 (f .1) in
-    record { allowed = f .0; whole = g .0; windowed = g .1 }
+    record { free = not-true (engaged book (e .point) d) (n .0); allowed = f .0; whole = g .0; windowed = g .1 }
+
+-- no day is eligible and has an engagement of the point
+pub engaged-not : (book : Book) (e : Engagement) (d : ℕ) → engaged book (e .point) d ≡ true → eligible book e d ≡ false
+engaged-not book e d h = eligible-is book e d ∙ ap (λ (b : Bool). not b && suits book e d) h
 
 module _ (book : Book) (e : Engagement) where
   -- "day d before A is eligible": each day that is taken
@@ -77,6 +88,10 @@ module _ (book : Book) (e : Engagement) where
 
   taken-day : (d : ℕ) → List·Memᴰ d (taken book e) → Eligible book e d
   taken-day d m = eligible-day book e d (taken-eligible d m .0)
+
+  -- no day that is taken has an engagement of the point
+  pub taken-free : (d : ℕ) → List·Memᴰ d (taken book e) → engaged book (e .point) d ≡ false
+  taken-free d m = taken-day d m .free
 
   pub taken-known : (k d : ℕ) → k < e .count → List·Memᴰ d (taken book e) → known (dayReading book e k d) ≡ true
   unfolding dayReadings quarterHours

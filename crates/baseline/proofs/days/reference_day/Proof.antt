@@ -31,7 +31,7 @@ cast-excludes c = search needs
 excludes-requires : tie.Need-excludes-requires
 excludes-requires c κs =
     let s = c .before .before .before .before .before .before .before .before in
-    stands-on (s .args .shown) (s .args .calendar .now) (s .args .readings .now) (s .args .day) (s .pre .0) (s .pre .2) .early
+    omega (arith, stands (s .args .shown) (s .args .calendar .now) (s .args .readings .now) (s .pre .0) .early, s .pre .2)
 
 returns : tie.Need-returns
 returns c = (

@@ -16,21 +16,21 @@ use Rattle.series.proofs.delivered.fill_engagements.Statement.{statemen
 use Rattle.series.proofs.delivered.fill_engagements.Tie as tie
 
 abbrev Inv-loop : tie.InvT-loop
-Inv-loop c book engagements volumes₀ n at₀ i₀ volumes at i =
+Inv-loop c book engagements engaged volumes₀ n at₀ i₀ volumes at i =
     (i ≤ n) × (at ≡ rowCountTo engagements i) × (volumes ≡ sets volumes₀ 0 (partsTo (volumesOf (bookWith book engagements)) engagements i))
 
 abbrev μ-loop : tie.MeasureT-loop
-μ-loop c book engagements volumes₀ n at₀ i₀ volumes at i = n - i
+μ-loop c book engagements engaged volumes₀ n at₀ i₀ volumes at i = n - i
 
 loop-holds : tie.Need-loop-holds Inv-loop μ-loop
-loop-holds c = (search needs, omega (arith, count-none (c .before .before .before .args .engagements .now)), sym (parts-none _ _ _))
+loop-holds c = (search needs, omega (arith, count-none (c .before .before .before .before .args .engagements .now)), sym (parts-none _ _ _))
 
 -- the volumes lent have room for one engagement's more
-room : (c : tie.In-loop Inv-loop μ-loop) → let s = c .before .before .before .before .before in
+room : (c : tie.In-loop Inv-loop μ-loop) → let s = c .before .before .before .before .before .before in
     let l = c .before .loop in
     l .at + engagementAt (s .args .engagements .now) (l .i) .count ≤ length (l .volumes)
 room c =
-    let s = c .before .before .before .before .before in
+    let s = c .before .before .before .before .before .before in
     let l = c .before .loop in
     let a = s .args in
     let engagements = a .engagements .now in
@@ -39,8 +39,8 @@ room c =
 
 fill-engagement-requires : tie.Need-fill-engagement-requires Inv-loop μ-loop
 fill-engagement-requires c κs =
-    let s = c .before .before .before .before .before .before in
-    (s .pre .0, s .pre .1, search needs, not-refused (s .pre .0) (s .pre .2) (c .before .before .loop .i) (search needs), room (c .before))
+    let s = c .before .before .before .before .before .before .before in
+    (s .pre .0, s .pre .1, search needs, not-refused (s .pre .0) (s .pre .2) (c .before .before .loop .i) (search needs), room (c .before), s .pre .4)
 
 add-i : tie.Need-add-i Inv-loop μ-loop
 add-i c = search needs
@@ -50,7 +50,7 @@ loop-less c = search needs
 
 loop-again : tie.Need-loop-again Inv-loop μ-loop
 loop-again c =
-    let s = c .before .before .before .before .before .before .before .before .before in
+    let s = c .before .before .before .before .before .before .before .before .before .before in
     let l = c .before .before .before .before .before .loop in
     let a = s .args in
     let book = bookWith (a .book .now) (a .engagements .now) in
@@ -68,7 +68,7 @@ same-length c = ap length (c .before .loop .inv .2) ∙ simp length-sets
 
 returns : tie.Need-returns Inv-loop μ-loop
 returns c =
-    let s = c .before .before .before .before .before in
+    let s = c .before .before .before .before .before .before in
     let l = c .before .loop in
     l .inv .2 ∙ ap (sets (s .args .volumes .now) 0) (volumes-all _ _ (l .i) (search needs))
 

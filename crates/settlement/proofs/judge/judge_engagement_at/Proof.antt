@@ -9,27 +9,29 @@ use Rattle.settlement.proofs.judge.judge_engagement_at.Statement.{state
 use Rattle.settlement.proofs.judge.judge_engagement_at.Tie as tie
 
 shown-at-requires : tie.Need-shown-at-requires
-shown-at-requires c κs = search needs
+shown-at-requires c κs =
+    let s = c .before .before .before in
+    (s .pre .0, s .pre .1, s .pre .2, s .pre .3 .long)
 
 section-requires : tie.Need-section-requires
-section-requires c κs = (c .before .before .before .pre .0 .passed, search needs)
+section-requires c κs = (c .before .before .before .before .pre .0 .passed, search needs)
 
 section-requires-2 : tie.Need-section-requires-2
-section-requires-2 c κs = (c .before .before .before .before .pre .0 .passed, search needs)
+section-requires-2 c κs = (c .before .before .before .before .before .pre .0 .passed, search needs)
 
-here : (s : tie.Start) → Drawn (s .args .book .now) (s .args .engagements .now) (s .args .i)
-here s = drawn (s .pre .0) (s .args .i) (s .pre .2)
+here : (s : tie.Start) → Drawn (s .args .book .now) (s .args .engagements .now) (s .args .engaged .now) (s .args .i)
+here s = drawn (s .pre .0) (s .pre .3) (s .args .i) (s .pre .2)
 
 judge-engagement-requires : tie.Need-judge-engagement-requires
 judge-engagement-requires c κs =
     let a = c .before .before in
-    rw (a .shown-at .ensures, c .before .section .ensures, c .section2 .ensures) (here (a .before .before .before) .fits)
+    rw (a .shown-at .ensures, c .before .section .ensures, c .section2 .ensures) (here (a .before .before .before .before) .fits)
 
 returns : tie.Need-returns
 unfolding shownIn
 returns c =
     let a = c .before .before .before in
-    let s = a .before .before .before in
+    let s = a .before .before .before .before in
     let book = bookWith (s .args .book .now) (s .args .engagements .now) in
     c .judge-engagement .ensures book (rw (a .shown-at .ensures, c .before .before .section .ensures, c .before .section2 .ensures) (here s .shows))
     ∙ ap (λ (shown : Shown). refusalNumber book (shown .e)) (a .shown-at .ensures)

@@ -12,10 +12,10 @@ use Rattle.settlement.proofs.judge.judge_engagements.Statement.{stateme
 use Rattle.settlement.proofs.judge.judge_engagements.Tie as tie
 
 abbrev Inv-loop : tie.InvT-loop
-Inv-loop c book engagements n i₀ i = (i ≤ n) × (settlementRefusal (bookWith book engagements) ≡ refusalAt (bookWith book engagements) i)
+Inv-loop c book engagements engaged n i₀ i = (i ≤ n) × (settlementRefusal (bookWith book engagements) ≡ refusalAt (bookWith book engagements) i)
 
 abbrev μ-loop : tie.MeasureT-loop
-μ-loop c book engagements n i₀ i = n - i
+μ-loop c book engagements engaged n i₀ i = n - i
 
 loop-holds : tie.Need-loop-holds Inv-loop μ-loop
 loop-holds c = (search needs, refusal-all _)
@@ -24,10 +24,10 @@ judge-engagement-at-requires : tie.Need-judge-engagement-at-requires Inv-loop μ
 judge-engagement-at-requires c κs = search needs
 
 -- what is known of the present engagement, by what it lacks
-judged : (c : tie.After-judge-engagement-at Inv-loop μ-loop) → let s = c .before .before .before .before .before in
+judged : (c : tie.After-judge-engagement-at Inv-loop μ-loop) → let s = c .before .before .before .before .before .before in
     let i = c .before .before .loop .i in
     let book = bookWith (s .args .book .now) (s .args .engagements .now) in settlementRefusal book ≡ rowRefusal i (numberOf (c .judge-engagement-at .result)) (refusalAt book (i + 1))
-judged c = let s = c .before .before .before .before .before in
+judged c = let s = c .before .before .before .before .before .before in
     let l = c .before .before .loop in
     let book = bookWith (s .args .book .now) (s .args .engagements .now) in
     l .inv .1
@@ -63,7 +63,7 @@ loop-again c = (search needs, judged (c .before .before) ∙ rw (c .enum-told .g
 
 returns-3 : tie.Need-returns-3 Inv-loop μ-loop
 returns-3 c = let l = c .before in
-    sym (l .loop .inv .1 ∙ refusal-last (c .before .before .before .before .pre .0) (l .loop .i) (search needs))
+    sym (l .loop .inv .1 ∙ refusal-last (c .before .before .before .before .before .pre .0) (l .loop .i) (search needs))
 
 pub judge-engagements-spec : {M : Type 1} → statement M
 judge-engagements-spec =

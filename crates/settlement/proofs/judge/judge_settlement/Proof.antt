@@ -5,8 +5,9 @@ use mathlib.Core.Option.{none}
 use Prim.Native.Nat.{ℕ}
 use Rattle.book.specs.Judged.{refusalOf}
 use Rattle.volumes.specs.Settlement.{settlementRefusal}
-use Rattle.settlement.specs.SectionsInner.{bookWith}
+use Rattle.settlement.specs.SectionsInner.{bookWith, Opened}
 use Rattle.settlement.specs.SectionsLaws.{bytes-long, same-book, opened}
+use Rattle.settlement.specs.DaysLaws.{gatherable, gathered}
 use Rattle.settlement.specs.VerdictsInner.{refusalIn}
 use Rattle.settlement.specs.VerdictsLaws.{book-refused, book-passed}
 use borrow.Author.Needs.{needs}
@@ -37,19 +38,34 @@ passed c = let k = c .before .before in
 section-requires : tie.Need-section-requires
 section-requires c κs = (passed c, search needs)
 
+slice-aggregate-gather-days : tie.Need-slice-aggregate-gather-days
+slice-aggregate-gather-days c = search needs
+
+-- it can be settled with its own engagements
+own : (c : tie.After-section) → Opened (c .before .before .before .before .before .before .args .book .now) (c .section .result .now)
+own c = rw (c .section .ensures) (opened (c .before .before .before .before .before .before .args .book .now) (passed (c .before)))
+
+gather-days-requires : tie.Need-gather-days-requires
+gather-days-requires c κs = gatherable (own (c .before))
+
 calendar-of-requires : tie.Need-calendar-of-requires
-calendar-of-requires c κs = bytes-long (c .before .before .before .before .before .before .args .book .now) (passed (c .before))
+calendar-of-requires c κs = let e = c .before .before .before .before in bytes-long (e .before .before .before .before .before .args .book .now) (passed e)
+
+slice-aggregate-judge-engagements : tie.Need-slice-aggregate-judge-engagements
+slice-aggregate-judge-engagements c = search needs
 
 judge-engagements-requires : tie.Need-judge-engagements-requires
 judge-engagements-requires c κs =
-    (rw (c .before .section .ensures) (opened (c .before .before .before .before .before .before .before .args .book .now) (passed (c .before .before))), c .calendar-of .ensures)
+    let g = c .before .before .before .gather-days in
+    (own (c .before .before .before .before .before), c .before .calendar-of .ensures, gathered _ _ (g .kept .1 .0) (g .ensures))
 
 returns-2 : tie.Need-returns-2
 returns-2 c =
-    let bytes = c .before .before .before .before .before .before .before .before .args .book .now in
-    let h = passed (c .before .before .before) in
+    let k = c .before .before .before .before .before .before in
+    let bytes = k .before .before .before .before .before .before .args .book .now in
+    let h = passed (k .before) in
     c .judge-engagements .ensures
-    ∙ ap (λ (l : List ℕ). settlementRefusal (bookWith bytes l)) (c .before .before .section .ensures)
+    ∙ ap (λ (l : List ℕ). settlementRefusal (bookWith bytes l)) (k .section .ensures)
     ∙ ap settlementRefusal (same-book bytes h)
     ∙ book-passed bytes h
 
@@ -63,6 +79,9 @@ judge-settlement-spec =
     returns
     enum-told
     section-requires
+    slice-aggregate-gather-days
+    gather-days-requires
     calendar-of-requires
+    slice-aggregate-judge-engagements
     judge-engagements-requires
     returns-2)

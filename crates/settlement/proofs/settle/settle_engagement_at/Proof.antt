@@ -14,24 +14,26 @@ use Rattle.settlement.proofs.settle.settle_engagement_at.Statement.{sta
 use Rattle.settlement.proofs.settle.settle_engagement_at.Tie as tie
 
 shown-at-requires : tie.Need-shown-at-requires
-shown-at-requires c κs = search needs
+shown-at-requires c κs =
+    let s = c .before .before .before in
+    (s .pre .0, s .pre .1, s .pre .2, s .pre .5 .long)
 
 section-requires : tie.Need-section-requires
-section-requires c κs = (c .before .before .before .pre .0 .passed, search needs)
+section-requires c κs = (c .before .before .before .before .pre .0 .passed, search needs)
 
 section-requires-2 : tie.Need-section-requires-2
-section-requires-2 c κs = (c .before .before .before .before .pre .0 .passed, search needs)
+section-requires-2 c κs = (c .before .before .before .before .before .pre .0 .passed, search needs)
 
 -- there is room for its rows
-room : (c : tie.After-shown-at) → c .before .before .before .args .at + rowWidth * c .shown-at .result .e .count ≤ length (c .before .before .before .args .out .now)
+room : (c : tie.After-shown-at) → c .before .before .before .before .args .at + rowWidth * c .shown-at .result .e .count ≤ length (c .before .before .before .before .args .out .now)
 unfolding shownIn
-room c = rw (c .shown-at .ensures) (c .before .before .before .pre .4)
+room c = rw (c .shown-at .ensures) (c .before .before .before .before .pre .4)
 
 settle-engagement-requires : tie.Need-settle-engagement-requires
 settle-engagement-requires c κs =
     let a = c .before .before .before in
-    let s = a .before .before .before in
-    (rw (a .shown-at .ensures, c .before .before .section .ensures, c .before .section2 .ensures) (accepts (s .pre .0) (s .args .i) (s .pre .2) (s .pre .3)), room a)
+    let s = a .before .before .before .before in
+    (rw (a .shown-at .ensures, c .before .before .section .ensures, c .before .section2 .ensures) (accepts (s .pre .0) (s .pre .5) (s .args .i) (s .pre .2) (s .pre .3)), room a)
 
 cast-result : tie.Need-cast-result
 cast-result c = search needs
@@ -42,7 +44,7 @@ mul-result c = search needs
 add-result : tie.Need-add-result
 add-result c =
     let a = c .before .before .before .before .before .before in
-    omega (arith, room a, a .before .before .before .good)
+    omega (arith, room a, a .before .before .before .before .good)
 
 same-length : tie.Need-same-length
 same-length c = search needs
@@ -52,10 +54,10 @@ unfolding shownIn
 returns c =
     let f = c .before .before in
     let a = f .before .before .before .before in
-    let s = a .before .before .before in
+    let s = a .before .before .before .before in
     let book = bookWith (s .args .book .now) (s .args .engagements .now) in (
       ap (λ (shown : Shown). s .args .at + 4 * shown .e .count) (a .shown-at .ensures),
-      f .settle-engagement .ensures book (rw (a .shown-at .ensures, f .before .before .before .section .ensures, f .before .before .section2 .ensures) (settled (s .pre .0) (s .args .i) (s .pre .2) (s .pre .3)))
+      f .settle-engagement .ensures book (rw (a .shown-at .ensures, f .before .before .before .section .ensures, f .before .before .section2 .ensures) (settled (s .pre .0) (s .pre .5) (s .args .i) (s .pre .2) (s .pre .3)))
           ∙ ap (λ (shown : Shown). sets (s .args .out .now) (s .args .at) (rowsOf book (shown .e))) (a .shown-at .ensures),
     )
 

@@ -17,20 +17,20 @@ use Rattle.settlement.proofs.settle.settle_engagements.Statement.{state
 use Rattle.settlement.proofs.settle.settle_engagements.Tie as tie
 
 abbrev Inv-loop : tie.InvT-loop
-Inv-loop c book engagements out₀ n at₀ i₀ out at i = (i ≤ n) × (at ≡ rowWidth * rowCountTo engagements i) × (out ≡ sets out₀ 0 (partsTo (rowsOf (bookWith book engagements)) engagements i))
+Inv-loop c book engagements engaged out₀ n at₀ i₀ out at i = (i ≤ n) × (at ≡ rowWidth * rowCountTo engagements i) × (out ≡ sets out₀ 0 (partsTo (rowsOf (bookWith book engagements)) engagements i))
 
 abbrev μ-loop : tie.MeasureT-loop
-μ-loop c book engagements out₀ n at₀ i₀ out at i = n - i
+μ-loop c book engagements engaged out₀ n at₀ i₀ out at i = n - i
 
 loop-holds : tie.Need-loop-holds Inv-loop μ-loop
-loop-holds c = (search needs, omega (arith, count-none (c .before .before .args .engagements .now)), sym (parts-none _ _ _))
+loop-holds c = (search needs, omega (arith, count-none (c .before .before .before .args .engagements .now)), sym (parts-none _ _ _))
 
 -- the rows lent have room for one engagement's more
-room : (c : tie.In-loop Inv-loop μ-loop) → let s = c .before .before .before .before in
+room : (c : tie.In-loop Inv-loop μ-loop) → let s = c .before .before .before .before .before in
     let l = c .before .loop in
     l .at + rowWidth * engagementAt (s .args .engagements .now) (l .i) .count ≤ length (l .out)
 room c =
-    let s = c .before .before .before .before in
+    let s = c .before .before .before .before .before in
     let l = c .before .loop in
     let engagements = s .args .engagements .now in
     let same = ap length (l .inv .2) ∙ length-sets (s .args .out .now) 0 (partsTo (rowsOf (bookWith (s .args .book .now) (s .args .engagements .now))) engagements (l .i)) in
@@ -38,8 +38,8 @@ room c =
 
 settle-engagement-at-requires : tie.Need-settle-engagement-at-requires Inv-loop μ-loop
 settle-engagement-at-requires c κs =
-    let s = c .before .before .before .before .before in
-    (s .pre .0, s .pre .1, search needs, not-refused (s .pre .0) (s .pre .2) (c .before .before .loop .i) (search needs), room (c .before))
+    let s = c .before .before .before .before .before .before in
+    (s .pre .0, s .pre .1, search needs, not-refused (s .pre .0) (s .pre .2) (c .before .before .loop .i) (search needs), room (c .before), s .pre .4)
 
 add-i : tie.Need-add-i Inv-loop μ-loop
 add-i c = search needs
@@ -49,7 +49,7 @@ loop-less c = search needs
 
 loop-again : tie.Need-loop-again Inv-loop μ-loop
 loop-again c =
-    let s = c .before .before .before .before .before .before .before in
+    let s = c .before .before .before .before .before .before .before .before in
     let l = c .before .before .before .before .loop in
     let book = bookWith (s .args .book .now) (s .args .engagements .now) in
     let r = c .before .settle-engagement-at .ensures in
@@ -66,7 +66,7 @@ same-length c = ap length (c .before .loop .inv .2) ∙ simp length-sets
 
 returns : tie.Need-returns Inv-loop μ-loop
 returns c =
-    let s = c .before .before .before .before in
+    let s = c .before .before .before .before .before in
     let l = c .before .loop in
     l .inv .2 ∙ ap (sets (s .args .out .now) 0) (rows-all _ _ (l .i) (search needs))
 

@@ -9,8 +9,9 @@ use Rattle.book.specs.Judged.{refusalOf}
 use Rattle.quarters.specs.Quarters.{monthQuarters}
 use Rattle.volumes.specs.Sheets.{sheet}
 use Rattle.volumes.specs.SettlementLaws.{passing}
-use Rattle.settlement.specs.SectionsInner.{bookWith}
+use Rattle.settlement.specs.SectionsInner.{bookWith, Opened}
 use Rattle.settlement.specs.SectionsLaws.{bytes-long, same-book, opened, own-settled}
+use Rattle.settlement.specs.DaysLaws.{gatherable, gathered}
 use borrow.Author.Needs.{needs}
 use Rattle.sheets.proofs.fill.fill_sheet.Statement.{statement}
 use Rattle.sheets.proofs.fill.fill_sheet.Tie as tie
@@ -22,17 +23,30 @@ passed c = passing (c .args .book .now) (c .pre .0) .passed
 section-requires : tie.Need-section-requires
 section-requires c κs = (passed (c .before), search needs)
 
+slice-aggregate-gather-days : tie.Need-slice-aggregate-gather-days
+slice-aggregate-gather-days c = search needs
+
+-- it can be settled with its own engagements
+own : (c : tie.After-section) → Opened (c .before .before .args .book .now) (c .section .result .now)
+own c = rw (c .section .ensures) (opened (c .before .before .args .book .now) (passed (c .before .before)))
+
+gather-days-requires : tie.Need-gather-days-requires
+gather-days-requires c κs = gatherable (own (c .before))
+
 calendar-of-requires : tie.Need-calendar-of-requires
-calendar-of-requires c κs = bytes-long (c .before .before .args .book .now) (passed (c .before .before))
+calendar-of-requires c κs = let s = c .before .before .before .before .before in bytes-long (s .args .book .now) (passed s)
+
+slice-aggregate-fill-cells : tie.Need-slice-aggregate-fill-cells
+slice-aggregate-fill-cells c = search needs
 
 fill-cells-requires : tie.Need-fill-cells-requires
 unfolding bookOf
 fill-cells-requires c κs =
-    let s = c .before .before .before .before in
-    let bytes = s .args .book .now in
-    let e = c .before .before .section .ensures in
-    let k = c .before .calendar-of .ensures in
-    (rw e (opened bytes (passed s)), k, rw e (own-settled bytes (s .pre .0)), rw k (s .pre .1))
+    let f = c .before .before .before .before .before .before in
+    let s = f .before .before in
+    let k = c .before .before .calendar-of .ensures in
+    let g = c .before .before .before .before .gather-days in
+    (own f, k, rw (f .section .ensures) (own-settled (s .args .book .now) (s .pre .0)), rw k (s .pre .1), gathered _ _ (g .kept .1 .0) (g .ensures))
 
 same-length : tie.Need-same-length
 same-length c = search needs
@@ -40,10 +54,11 @@ same-length c = search needs
 returns : tie.Need-returns
 unfolding bookOf
 returns c =
-    let s = c .before .before .before .before .before .before in
+    let f = c .before .before .before .before .before .before .before .before in
+    let s = f .before .before in
     let bytes = s .args .book .now in
-    let k = c .before .before .before .calendar-of .ensures in
-    let e = c .before .before .before .before .section .ensures in
+    let k = c .before .before .before .before .calendar-of .ensures in
+    let e = f .section .ensures in
     c .before .fill-cells .ensures
     ∙ (λ i. sheet (bookWith bytes (e i)) (s .args .party) ++ drop (monthQuarters (k i)) (s .args .sums .now))
     ∙ ap (λ (b : Book). sheet b (s .args .party) ++ drop (monthQuarters (calendarOf bytes)) (s .args .sums .now)) (same-book bytes (passed s))
@@ -53,7 +68,10 @@ fill-sheet-spec =
     tie.close
     (tie.spec
     section-requires
+    slice-aggregate-gather-days
+    gather-days-requires
     calendar-of-requires
+    slice-aggregate-fill-cells
     fill-cells-requires
     same-length
     returns)
