@@ -1,4 +1,4 @@
-//! Document 01's checked examples, and the six "wrong though natural" ways told apart.
+//! Document 01's checked examples, the six "wrong though natural" ways told apart, and C-11's days.
 
 use reference::book::{Book, MISSING};
 use reference::examples::*;
@@ -108,6 +108,30 @@ fn other_categories_do_not_use_up_y() {
     let mut book = other_categories();
     book.register[0].excluded_days = 1;
     assert_eq!(refusal(&book), (9, 0));
+}
+
+/// C-11, told apart: if a day with an engagement counted, day 5 would have 90; by its access point, the other point's day 5 would have 80.
+#[test]
+fn days_with_an_engagement_are_stepped_over() {
+    let rising = |y: u8| {
+        let mut book = june(3, 2, 1, y);
+        book.register[1].access_ean = book.register[0].access_ean;
+        for (point, day) in (0..2).flat_map(|point| (0..6).map(move |day| (point, day))) {
+            read(&mut book, point, day, 0, &[50 + 10 * day as i32; 96]);
+        }
+        engage(&mut book, 0, 4, 60, 1, 0, 100);
+        engage(&mut book, 0, 5, 10, 1, 0, 100);
+        engage(&mut book, 1, 5, 10, 1, 0, 100);
+        book
+    };
+    let rows = rows(&rising(2));
+    assert_eq!((rows[0], rows[4], rows[8]), (80 * WATT, 80 * WATT, 90 * WATT));
+    assert!(settle(&rising(4).encode(), 12).is_ok());
+    assert_eq!(refusal(&rising(5)), (9, 0));
+    let mut alone = rising(5);
+    alone.engagements.remove(0);
+    alone.lay_out();
+    assert!(settle(&alone.encode(), 8).is_ok());
 }
 
 #[test]
