@@ -21,6 +21,8 @@ pub fn cases() -> Vec<SettleCase> {
     cases.needed_readings();
     cases.eligible_days();
     cases.engaged_days();
+    cases.engaged_days_and_others();
+    cases.engaged_days_at_the_edges();
     cases.engaged_days_of_method_2();
     cases.ranking();
     cases.method_0();
@@ -271,23 +273,7 @@ impl Cases {
                 row.direction = 1;
             }
         });
-        let readings_of = |book: &mut Book, point: usize| {
-            for day in 0..12 {
-                let watts = 100 * (day as i32 * 5 % 12) + 7 * day as i32 + point as i32;
-                read(book, point, day, 50, &[watts, watts + 1]);
-            }
-        };
-        let last = |days: &[u8]| {
-            let mut book = june(5, 2, 2, 3);
-            // Two delivery points of one access point.
-            book.register[1].access_ean = book.register[0].access_ean;
-            readings_of(&mut book, 0);
-            for &day in days {
-                engage(&mut book, 0, day, 50, 2, 0, 300);
-            }
-            book
-        };
-        self.book("day 11 alone", &last(&[11]));
+        self.book("day 11 alone", &day_11(&[11]));
         for days in [
             vec![10, 11],
             vec![9, 11],
@@ -297,70 +283,80 @@ impl Cases {
             vec![5, 7, 9, 11],
             vec![6, 8, 10, 11],
         ] {
-            self.book(format!("days {days:?} engaged, X 2, Y 3"), &last(&days));
+            self.book(format!("days {days:?} engaged, X 2, Y 3"), &day_11(&days));
         }
         for y in [5, 6] {
             self.changed(
                 format!("days 5 to 11 engaged: 5 lead days are left, Y {y}"),
-                &last(&[5, 6, 7, 8, 9, 10, 11]),
+                &day_11(&[5, 6, 7, 8, 9, 10, 11]),
                 |book| book.choices[0].y = y,
             );
         }
         for (first, count) in [(0, 1), (95, 1), (49, 1), (52, 1), (0, 96)] {
-            self.changed(format!("day 10 engaged from {first}, {count} quarter-hours"), &last(&[10, 11]), |book| {
+            self.changed(format!("day 10 engaged from {first}, {count} quarter-hours"), &day_11(&[10, 11]), |book| {
                 (book.engagements[0].first, book.engagements[0].count) = (first, count);
             });
         }
-        self.changed("day 10 engaged down, with notice, for another request", &last(&[10, 11]), |book| {
+        self.changed("day 10 engaged down, with notice, for another request", &day_11(&[10, 11]), |book| {
             let row = &mut book.engagements[0];
             (row.direction, row.notice, row.requested) = (1, 96, 1);
         });
-        self.changed("day 10 engaged twice", &last(&[10, 11]), |book| {
+        self.changed("day 10 engaged twice", &day_11(&[10, 11]), |book| {
             book.engagements[0].count = 1;
             let mut later = book.engagements[0].clone();
             later.first = 60;
             book.engagements.insert(1, later);
         });
-        self.changed("day 10 of the other point of the access point engaged", &last(&[11]), |book| {
-            readings_of(book, 1);
+    }
+
+    /// Beside engagements of another point or day, and what else keeps a day from being eligible.
+    fn engaged_days_and_others(&mut self) {
+        self.changed("day 10 of the other point of the access point engaged", &day_11(&[11]), |book| {
+            read_twelve_days(book, 1);
             engage(book, 1, 10, 50, 2, 0, 300);
         });
-        self.changed("days 9, 10 of the other point engaged, and its 11", &last(&[11]), |book| {
-            readings_of(book, 1);
+        self.changed("days 9, 10 of the other point engaged, and its 11", &day_11(&[11]), |book| {
+            read_twelve_days(book, 1);
             for day in 9..12 {
                 engage(book, 1, day, 50, 2, 0, 300);
             }
         });
-        self.changed("day 10 of one point engaged, day 9 of the other, 11 of both", &last(&[10, 11]), |book| {
-            readings_of(book, 1);
+        self.changed("day 10 of one point engaged, day 9 of the other, 11 of both", &day_11(&[10, 11]), |book| {
+            read_twelve_days(book, 1);
             engage(book, 1, 9, 50, 2, 0, 300);
             engage(book, 1, 11, 50, 2, 0, 300);
         });
-        self.changed("days 12 and 13 engaged too: nothing for day 11", &last(&[11]), |book| {
+        self.changed("days 12 and 13 engaged too: nothing for day 11", &day_11(&[11]), |book| {
             engage(book, 0, 12, 50, 2, 0, 300);
             engage(book, 0, 13, 50, 2, 0, 300);
         });
-        self.changed("day 11 engaged twice: nothing for either", &last(&[11]), |book| {
+        self.changed("day 11 engaged twice: nothing for either", &day_11(&[11]), |book| {
             book.engagements[0].count = 1;
             engage(book, 0, 11, 51, 1, 0, 300);
         });
-        self.changed("day 10 engaged and excluded", &last(&[10, 11]), |book| book.register[0].excluded_days = 1 << 10);
-        self.changed("day 10 engaged, day 9 excluded", &last(&[10, 11]), |book| {
+        self.changed("day 10 engaged and excluded", &day_11(&[10, 11]), |book| {
+            book.register[0].excluded_days = 1 << 10
+        });
+        self.changed("day 10 engaged, day 9 excluded", &day_11(&[10, 11]), |book| {
             book.register[0].excluded_days = 1 << 9
         });
-        self.changed("day 10 engaged, of another category", &last(&[10, 11]), |book| book.calendar[10] = 2);
-        self.changed("day 10 engaged, day 9 of another category", &last(&[10, 11]), |book| book.calendar[9] = 2);
-        self.changed("day 10 engaged at another time, and misses a reading of day 11's", &last(&[10, 11]), |book| {
+        self.changed("day 10 engaged, of another category", &day_11(&[10, 11]), |book| book.calendar[10] = 2);
+        self.changed("day 10 engaged, day 9 of another category", &day_11(&[10, 11]), |book| book.calendar[9] = 2);
+        self.changed("day 10 engaged at another time, and misses a reading of day 11's", &day_11(&[10, 11]), |book| {
             book.engagements[0].first = 60;
             book.readings[0][96 * 10 + 50] = MISSING;
         });
-        self.changed("day 10 engaged, day 9 misses a reading", &last(&[10, 11]), |book| {
+        self.changed("day 10 engaged, day 9 misses a reading", &day_11(&[10, 11]), |book| {
             book.readings[0][96 * 9 + 51] = MISSING;
         });
-        self.changed("method 0 looks at no day", &last(&[10, 11]), |book| {
+        self.changed("method 0 looks at no day", &day_11(&[10, 11]), |book| {
             book.register[0].method = 0;
             book.choices[0] = Choice { x: 10, y: 20 };
         });
+    }
+
+    /// At the calendar's ends, and 9 for want of a day.
+    fn engaged_days_at_the_edges(&mut self) {
         let mut next = june(1, 1, 1, 1);
         engage(&mut next, 0, 1, 0, 1, 0, 10);
         engage(&mut next, 0, 2, 0, 1, 0, 10);
@@ -735,6 +731,25 @@ impl Cases {
             book.readings[1][30] = MISSING;
         });
     }
+}
+
+/// Readings of two quarter-hours of a point, of days 0 to 11.
+fn read_twelve_days(book: &mut Book, point: usize) {
+    for day in 0..12 {
+        let watts = 100 * (day as i32 * 5 % 12) + 7 * day as i32 + point as i32;
+        read(book, point, day, 50, &[watts, watts + 1]);
+    }
+}
+
+/// Two delivery points of one access point, X 2, Y 3, the first engaged on these days, of which the last is 11.
+fn day_11(days: &[u8]) -> Book {
+    let mut book = june(5, 2, 2, 3);
+    book.register[1].access_ean = book.register[0].access_ean;
+    read_twelve_days(&mut book, 0);
+    for &day in days {
+        engage(&mut book, 0, day, 50, 2, 0, 300);
+    }
+    book
 }
 
 /// As many engagements as a book can have, two for each of as many points as it can have: of every second point on two days that follow each other, so
