@@ -73,7 +73,7 @@ fn addend_of(
     }
 }
 
-// Methods 1 and 2: the days are ranked, and the first x of them taken.
+// Methods 1 and 2: the days are ranked, and the first X of them taken.
 fn fill_days(shown: Shown, calendar: &[u8], readings: &[u8], levels: &mut [u64])
     requires { ⌜ Accepts shown (now calendar) (now readings) × (looksBack (shown .point .method) ≡ true) × (shown .e .count ≤ length (now levels)) ⌝ }
     ensures { λ r. ⌜ LevelsFilled shown (now (calendar .entry)) (now (readings .entry)) (now (levels .entry)) (now (levels .exit)) ⌝ }

@@ -1,7 +1,7 @@
 -- The bits of a number, counted from the lowest: bit d + 1 is bit d of the half, so `bitOr`, a power of two and 0 are told digit by digit.
 use mathlib.Core.Path.{_≡_, refl, sym, ap, ap₂, _∙_}
-use mathlib.Core.Bool.{Bool, true, false, _||_}
-use Prim.Native.Nat.{ℕ, zero, suc, _+_, _*_, _/_, _%_, _^_, _<_, max}
+use mathlib.Core.Bool.{Bool, false, _||_}
+use Prim.Native.Nat.{ℕ, zero, suc, _/_, _%_, _^_, _<_, max}
 use native.Mathlib.Nat.{pow-suc, div-one, zero-div, mod-lt, mul-mod-left, mul-div-cancel, mul-comm, div-div-eq-div-mul}
 use native.Mathlib.Omega.{arith}
 use lib.Arith.{digits-div, digits-mod}

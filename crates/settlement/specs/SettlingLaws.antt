@@ -1,11 +1,8 @@
 -- An engagement of a book that is settled can be settled, and the rows of all engagements are the book's.
-use mathlib.Core.Path.{_≡_, sym, _∙_}
+use mathlib.Core.Path.{_≡_}
 use mathlib.Core.List.{List}
 use mathlib.Core.Option.{none}
 use Prim.Native.Nat.{ℕ, _≤_, _<_}
-use native.Mathlib.Omega.{arith}
-use Rattle.quarters.specs.declared.Calendar.{Calendar}
-use Rattle.book.specs.declared.Engagement.{Engagement}
 use Rattle.book.specs.Header.{calendarSection, readingSection}
 use Rattle.book.specs.Engagements.{engagementAt}
 use Rattle.volumes.specs.Settlement.{refusalNumber, settlementRefusal, rowsOf, rows}

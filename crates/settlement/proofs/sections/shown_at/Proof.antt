@@ -1,5 +1,5 @@
 -- The engagement, its point and its category's X and Y are read from the sections, where each of them is.
-use mathlib.Core.Path.{_≡_, ap, ap₂, _∙_}
+use mathlib.Core.Path.{ap, ap₂, _∙_}
 use mathlib.Core.List.{List}
 use Prim.Native.Nat.{ℕ}
 use lib.Bits.{bitOr}

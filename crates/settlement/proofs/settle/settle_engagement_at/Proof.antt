@@ -1,6 +1,5 @@
 -- What is shown of the engagement is the book's, so its rows are those that the definitions say.
-use mathlib.Core.Path.{_≡_, ap, _∙_}
-use mathlib.Core.Option.{none}
+use mathlib.Core.Path.{ap, _∙_}
 use Prim.Native.Nat.{_+_, _*_, _≤_}
 use lib.ListN.{length}
 use lib.Seq.{sets}
