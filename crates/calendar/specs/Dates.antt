@@ -1,7 +1,8 @@
 -- Dates: lengths of months, day numbers, weekdays, last Sundays, clock-change days, offsets (document 01, "The book" and "The file").
+use mathlib.Core.Path.{_≡_}
 use mathlib.Core.Bool.{Bool, cond, not, _&&_, _||_}
 use mathlib.Core.List.{List, [], _∷_}
-use Prim.Native.Nat.{ℕ, zero, suc, pred, _+_, _%_}
+use Prim.Native.Nat.{ℕ, zero, suc, pred, _+_, _/_, _%_, _≤_}
 use lib.Dec.{eqb, leb, ltb}
 use lib.ListN.{getD}
 use Rattle.integers.specs.First.{anyBelow}
@@ -11,13 +12,24 @@ use Rattle.integers.specs.Running.{upTo}
 unfoldable pub leap : ℕ → Bool
 leap year = eqb (year % 4) 0 && (not (eqb (year % 100) 0) || eqb (year % 400) 0)
 
--- the months' lengths, at 1 to 12, in a leap year or in another
+-- "days of the month (Gregorian)", 0 where there is no such month;
+-- "outside February a month m is to get 30 + ((m + m / 8) mod 2) days, the division rounded down"
+unfoldable pub monthLength : ℕ → ℕ → ℕ
+monthLength year month =
+    cond
+    (leb 1 month && leb month 12)
+    (cond (eqb month 2) (cond (leap year) 29 28) (30 + (month + month / 8) % 2))
+    0
+
+-- "a written-out table": the months' lengths, at 1 to 12, in a leap year or in another
 abbrev pub lengths : Bool → List ℕ
 lengths inLeap = 0 ∷ 31 ∷ cond inLeap 29 28 ∷ 31 ∷ 30 ∷ 31 ∷ 30 ∷ 31 ∷ 31 ∷ 30 ∷ 31 ∷ 30 ∷ 31 ∷ []
 
--- "days of the month (Gregorian)", 0 where there is no such month
-unfoldable pub monthLength : ℕ → ℕ → ℕ
-monthLength year month = getD (lengths (leap year)) month 0
+-- "For all twelve months, leap year or not, the lengths are to be shown equal to a written-out table, and no answer changes":
+-- the latter is of every number, a month's or not
+pub record MonthLengths : Type 0 where
+  pub lengths-as-listed : (year month : ℕ) → 1 ≤ month → month ≤ 12 → monthLength year month ≡ getD (lengths (leap year)) month 0
+  pub no-answer-changes : (year month : ℕ) → monthLength year month ≡ getD (lengths (leap year)) month 0
 
 unfoldable pub yearLength : ℕ → ℕ
 yearLength year = upTo (monthLength year) 12

@@ -1,18 +1,19 @@
 -- Laws of dates: the closed forms that the code computes are the definitions, and the definitions mean what they say.
-use mathlib.Core.Path.{_≡_, refl, sym, _∙_, ap₂}
-use mathlib.Core.Bool.{Bool, true, false, cond, not, _&&_, _||_, or-true, and-true}
-use mathlib.Core.List.{List, [], _∷_}
+use mathlib.Core.Path.{_≡_, refl, sym, ap, _∙_, ap₂}
+use mathlib.Core.Bool.{Bool, true, false, cond, not, _&&_, _||_, or-true, and-true, and-false}
 use Prim.Native.Nat.{ℕ, zero, suc, pred, _+_, _-_, _*_, _/_, _%_, _≤_, _<_}
 use native.Mathlib.Omega.{arith}
 use native.Mathlib.Nat.{add-zero, add-suc, le-refl, div-add-mod', mod-lt, suc-mul}
 use native.Mathlib.Numerals.{add-one, sub-one}
 use lib.Arith.{digits-div}
-use lib.Dec.{T, eqb, leb, ltb, lit<, lit≤, leb→le, eqb·suc-zero}
+use lib.Dec.{T, eqb, leb, ltb, lit<, lit≤, eqb→eq, eqb·suc-zero}
 use borrow.Author.Tests.{ltb-true, ltb-false, leb-true, leb-false, eqb-true, eqb-false, eq-eqb, ne-eqb, lt-ltb, le-ltb, le-leb, lt-leb}
-use lib.ListN.{List·getD-eq-default, getD, length, drop}
+use lib.ListN.{List·getD-eq-default, getD}
 use Rattle.integers.specs.First.{anyBelow}
 use Rattle.integers.specs.Running.{upTo}
-use Rattle.calendar.specs.Dates.{leap, monthLength, yearLength, dayNumber, weekday, sundayUpTo, lastSunday, marchSunday, octoberSunday, offsetHours, lengths, daysBeforeYear, daysBeforeMonth, calendarDays, clockChange, marchChange, octoberChange, hasClockChange, nextYear, nextMonth}
+use Rattle.integers.specs.RunningLaws.{upTo-cong}
+use Rattle.integers.specs.TestsLaws.{allBelow, all-below}
+use Rattle.calendar.specs.Dates.{leap, monthLength, MonthLengths, yearLength, dayNumber, weekday, sundayUpTo, lastSunday, marchSunday, octoberSunday, offsetHours, lengths, daysBeforeYear, daysBeforeMonth, calendarDays, clockChange, marchChange, octoberChange, hasClockChange, nextYear, nextMonth}
 use Rattle.calendar.specs.DatesInner.{IsMonth}
 
 -- the test by 400 decides for a century's year, that by 4 for any other
@@ -24,29 +25,57 @@ pub leap-other : (y : ℕ) → (y % 100 ≡ 0 → ⊥) → leap y ≡ eqb (y % 4
 unfolding leap
 leap-other y e = rw (ne-eqb (y % 100) 0 e) (and-true _)
 
--- only February depends on the year
-pub not-february : (y m : ℕ) → (m ≡ 2 → ⊥) → monthLength y m ≡ getD (lengths false) m 0
+-- whether a month's length is the listed one
+abbrev asListed : ℕ → ℕ → Bool
+asListed y m = eqb (monthLength y m) (getD (lengths (leap y)) m 0)
+
+-- it is at each place of the list, in a leap year and in another: both are computed
+leap-listed : T (allBelow (asListed 2020) 13)
+unfolding monthLength leap
+leap-listed = tt
+
+other-listed : T (allBelow (asListed 2021) 13)
+unfolding monthLength leap
+other-listed = tt
+
+-- so it is in every year that is a leap year just if z is
+alike : (y z m : ℕ) → leap y ≡ leap z → T (allBelow (asListed z) 13) → m < 13 → monthLength y m ≡ getD (lengths (leap y)) m 0
 unfolding monthLength
-not-february y m e = go (leap y) m e
+alike y z m e t h = rw e (eqb→eq _ _ (all-below (asListed z) 13 t m h) ∙ ap (λ (b : Bool). getD (lengths b) m 0) (sym e))
+
+-- beyond the list there is no month, so both are 0
+pub as-listed : (y m : ℕ) → monthLength y m ≡ getD (lengths (leap y)) m 0
+unfolding monthLength leap
+as-listed y m = go (ltb m 13) (leap y) refl refl
   where
-    go : (b : Bool) (m : ℕ) → (m ≡ 2 → ⊥) → getD (lengths b) m 0 ≡ getD (lengths false) m 0
-    go b zero e = refl
-    go b (suc zero) e = refl
-    go b (suc (suc zero)) e = absurd (e refl)
-    go b (suc (suc (suc m))) e = refl
+    go : (a b : Bool) → ltb m 13 ≡ a → leap y ≡ b → monthLength y m ≡ getD (lengths (leap y)) m 0
+    go true true p q = alike y 2020 m q leap-listed (ltb-true m 13 p)
+    go true false p q = alike y 2021 m q other-listed (ltb-true m 13 p)
+    go false b p q =
+        let h = ltb-false m 13 p in
+        rw (lt-leb m 12 h, and-false (leb 1 m)) (sym (List·getD-eq-default (lengths (leap y)) 0 h))
+
+pub month-lengths : MonthLengths
+month-lengths = record { lengths-as-listed = λ y m h l. as-listed y m; no-answer-changes = as-listed }
+
+-- of the twelve months February alone depends on the year
+pub not-february : (y m : ℕ) → 1 ≤ m → m ≤ 12 → (m ≡ 2 → ⊥) → monthLength y m ≡ 30 + (m + m / 8) % 2
+unfolding monthLength
+not-february y m h l e = rw (le-leb 1 m h, le-leb m 12 l, ne-eqb m 2 e)
 
 pub february : (y : ℕ) → monthLength y 2 ≡ cond (leap y) 29 28
+february y = as-listed y 2
+
+pub month-zero : (y m : ℕ) → m < 1 → monthLength y m ≡ 0
 unfolding monthLength
-february y = refl
+month-zero y m h = rw (lt-leb 1 m h)
 
 pub no-month : (y m : ℕ) → 12 < m → monthLength y m ≡ 0
-unfolding monthLength
-no-month y m h = List·getD-eq-default (lengths (leap y)) 0 h
+no-month y m h = as-listed y m ∙ List·getD-eq-default (lengths (leap y)) 0 h
 
 -- what has days is a month
 pub is-month : (y m : ℕ) → 1 ≤ monthLength y m → (1 ≤ m) × (m ≤ 12)
-unfolding monthLength
-is-month y zero h = absurd (omega arith)
+is-month y zero h = absurd (omega (arith, month-zero y zero (lit< tt)))
 is-month y (suc m) h = (omega arith, go (leb (suc m) 12) refl)
   where
     go : (b : Bool) → leb (suc m) 12 ≡ b → suc m ≤ 12
@@ -55,8 +84,8 @@ is-month y (suc m) h = (omega arith, go (leb (suc m) 12) refl)
 
 -- a year has 365 days, a leap year one more
 pub year-length : (y : ℕ) → yearLength y ≡ 365 + cond (leap y) 1 0
-unfolding yearLength upTo monthLength
-year-length y = go (leap y)
+unfolding yearLength upTo
+year-length y = upTo-cong (monthLength y) (λ m. getD (lengths (leap y)) m 0) 12 (λ m h l. as-listed y m) ∙ go (leap y)
   where
     go : (b : Bool) → upTo (λ m. getD (lengths b) m 0) 12 ≡ 365 + cond b 1 0
     go true = refl
@@ -116,41 +145,20 @@ pub known-monday : weekday 2001 1 1 ≡ 1
 unfolding weekday dayNumber
 known-monday = omega (arith, years 2000, sum-none (monthLength 2001))
 
--- a test that holds of each element of a list
-abbrev every : (ℕ → Bool) → List ℕ → Bool
-every test [] = true
-every test (a ∷ l) = test a && every test l
-
-and-T : (a b : Bool) → T (a && b) → T a × T b
-and-T true b h = (tt, h)
-and-T false b h = absurd h
-
-every-at : (test : ℕ → Bool) (l : List ℕ) (k : ℕ) → T (every test l) → k < length l → T (test (getD l k 0))
-every-at test [] k h lt = absurd (omega arith)
-every-at test (a ∷ l) zero h lt = and-T (test a) (every test l) h .0
-every-at test (a ∷ l) (suc k) h lt = every-at test l k (and-T (test a) (every test l) h .1) (omega arith)
-
 -- each month has 28 to 31 days
 pub record Length (days : ℕ) : Type 0 where
   pub least : 28 ≤ days
   pub most : days ≤ 31
 
-abbrev lengthTest : ℕ → Bool
-lengthTest days = leb 28 days && leb days 31
-
 pub month-length : (y m : ℕ) → 1 ≤ m → m ≤ 12 → Length (monthLength y m)
-unfolding monthLength
-month-length y zero h l = absurd (omega arith)
-month-length y (suc m) h l = go (leap y)
+month-length y m h l = go (eqb m 2) (leap y) refl refl
   where
-    test : (t : List ℕ) → T (every lengthTest t) → length t ≡ 12 → Length (getD t m 0)
-    test t all e =
-        let both = and-T (leb 28 (getD t m 0)) (leb (getD t m 0) 31) (every-at lengthTest t m all (omega arith)) in
-        record { least = leb→le 28 (getD t m 0) (both .0); most = leb→le (getD t m 0) 31 (both .1) }
-
-    go : (b : Bool) → Length (getD (lengths b) (suc m) 0)
-    go true = test (drop 1 (lengths true)) tt refl
-    go false = test (drop 1 (lengths false)) tt refl
+    go : (a b : Bool) → eqb m 2 ≡ a → leap y ≡ b → Length (monthLength y m)
+    go true true p q = let e : m ≡ 2 = eqb-true m 2 p in rw (e, february y, q) (record { least = lit≤ tt; most = lit≤ tt })
+    go true false p q = let e : m ≡ 2 = eqb-true m 2 p in rw (e, february y, q) (record { least = lit≤ tt; most = lit≤ tt })
+    go false b p q =
+        let e = not-february y m h l (eqb-false m 2 p) in
+        record { least = omega (arith, e); most = omega (arith, e) }
 
 -- the last Sunday up to day d is d less d's weekday, where there is one
 pub sunday-up-to : (y m d : ℕ) → weekday y m d ≤ d → sundayUpTo y m d + weekday y m d ≡ d

@@ -3,7 +3,7 @@ ghost use mathlib.Core.Path.{_≡_};
 ghost use mathlib.Core.Bool.{_&&_};
 ghost use Prim.Native.Nat.{_≤_};
 ghost use lib.Dec.{leb, ltb};
-ghost use Rattle.calendar.specs.Dates.{leap, monthLength, daysBeforeYear, daysBeforeMonth, dayNumber, weekday, lastSunday, marchSunday, octoberSunday, offsetHours, calendarDays, hasClockChange, nextYear, nextMonth};
+ghost use Rattle.calendar.specs.Dates.{leap, monthLength, MonthLengths, daysBeforeYear, daysBeforeMonth, dayNumber, weekday, lastSunday, marchSunday, octoberSunday, offsetHours, calendarDays, hasClockChange, nextYear, nextMonth};
 ghost use Rattle.calendar.specs.DatesInner.{IsMonth};
 
 // Whether a year has a 29 February.
@@ -17,21 +17,26 @@ pub fn is_leap(year: u64) -> bool
     }
 }
 
-// The months' lengths, in a year that isn't a leap year.
-const LENGTHS: [u64; 13] = [0, 31, 28, 31, 30, 31, 30, 31, 31, 30, 31, 30, 31];
-
 // The days of a month, 0 where there is no such month.
 pub fn month_length(year: u64, month: u64) -> u64
     ensures { λ r. ⌜ r ≡ monthLength year month ⌝ }
 {
+    if month < 1 {
+        return 0;
+    }
     if 12 < month {
         return 0;
     }
     if month != 2 {
-        return LENGTHS[month as usize];
+        return 30 + (month + month / 8) % 2;
     }
     if is_leap(year) { 29 } else { 28 }
 }
+
+// The months' lengths are the listed ones, in every year.
+pub fn month_lengths_as_listed()
+    ensures { λ r. ⌜ MonthLengths ⌝ }
+{}
 
 // The days from 1 January of year 1 to the year's own.
 pub fn days_before_year(year: u64) -> u64
