@@ -21,6 +21,7 @@ ROOTS = [
     ("writer/src/writing.rt", "write"),
     ("outputs/src/lib.rt", "answer"),
     ("outputs/src/lib.rt", "long_input_may_be_cut"),
+    ("calendar/src/dates.rt", "month_lengths_as_listed"),
     ("volumes/src/lib.rt", "examples_hold"),
     ("message/src/lib.rt", "reader_is_exact"),
     ("writer/src/round_trip.rt", "written_and_read"),
