@@ -48,12 +48,15 @@ pub as-listed : (y m : ℕ) → monthLength y m ≡ getD (lengths (leap y)) m 0
 unfolding monthLength leap
 as-listed y m = go (ltb m 13) (leap y) refl refl
   where
+    none : (a : Bool) (days : ℕ) → a ≡ false → cond a days 0 ≡ 0
+    none a days e = rw e
+
     go : (a b : Bool) → ltb m 13 ≡ a → leap y ≡ b → monthLength y m ≡ getD (lengths (leap y)) m 0
     go true true p q = alike y 2020 m q leap-listed (ltb-true m 13 p)
     go true false p q = alike y 2021 m q other-listed (ltb-true m 13 p)
     go false b p q =
         let h = ltb-false m 13 p in
-        rw (lt-leb m 12 h, and-false (leb 1 m)) (sym (List·getD-eq-default (lengths (leap y)) 0 h))
+        none (leb 1 m && leb m 12) _ (rw (lt-leb m 12 h) (and-false (leb 1 m))) ∙ sym (List·getD-eq-default (lengths (leap y)) 0 h)
 
 pub month-lengths : MonthLengths
 month-lengths = record { lengths-as-listed = λ y m h l. as-listed y m; no-answer-changes = as-listed }
