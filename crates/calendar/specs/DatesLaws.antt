@@ -350,16 +350,16 @@ october-of-any-year y m lead k z hy hz h l few below day =
 
 -- ---- the offset of the first of a month: +02:00 from April to October
 
-first-mono : (y m k : ℕ) → m ≤ k → dayNumber y m 1 ≤ dayNumber y k 1
+pub first-mono : (y m k : ℕ) → m ≤ k → dayNumber y m 1 ≤ dayNumber y k 1
 unfolding dayNumber
 first-mono y m k h = omega (arith, sum-le (monthLength y) (pred m) (pred k) (omega arith))
 
 -- the last Sunday comes after the first of its month and before that of the next one
-sunday-after : (y m : ℕ) → 1 ≤ m → m ≤ 12 → dayNumber y m 1 < dayNumber y m (lastSunday y m)
+pub sunday-after : (y m : ℕ) → 1 ≤ m → m ≤ 12 → dayNumber y m 1 < dayNumber y m (lastSunday y m)
 unfolding dayNumber weekday
 sunday-after y m h l = omega (arith, last-sunday y m h l, month-length y m h l)
 
-sunday-before : (y m : ℕ) → 1 ≤ m → m ≤ 12 → dayNumber y m (lastSunday y m) < dayNumber y (m + 1) 1
+pub sunday-before : (y m : ℕ) → 1 ≤ m → m ≤ 12 → dayNumber y m (lastSunday y m) < dayNumber y (m + 1) 1
 unfolding dayNumber
 sunday-before y m h l = omega (arith, next-before y m h, last-sunday-is y m h l .last)
 

@@ -1,3 +1,5 @@
+pub mod Clocks
+pub mod ClocksLaws
 pub mod Dates
 pub mod DatesInner
 pub mod DatesLaws

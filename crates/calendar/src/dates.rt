@@ -1,10 +1,12 @@
 // Lengths of months, day numbers, weekdays, last Sundays, clock-change days, offsets.
+use crate::Clock;
 ghost use mathlib.Core.Path.{_≡_};
 ghost use mathlib.Core.Bool.{_&&_};
 ghost use Prim.Native.Nat.{_≤_};
 ghost use lib.Dec.{leb, ltb};
 ghost use Rattle.calendar.specs.Dates.{leap, monthLength, MonthLengths, daysBeforeYear, daysBeforeMonth, dayNumber, weekday, lastSunday, marchSunday, octoberSunday, offsetHours, calendarDays, hasClockChange, nextYear, nextMonth};
 ghost use Rattle.calendar.specs.DatesInner.{IsMonth};
+ghost use Rattle.calendar.specs.Clocks.{clockOf};
 
 // Whether a year has a 29 February.
 pub fn is_leap(year: u64) -> bool
@@ -145,6 +147,24 @@ pub fn has_clock_change(year: u64, month: u64, lead: u64) -> bool
     }
     let october = october_sunday(year) + lead;
     between(from, october, to)
+}
+
+// On which day of the calendar the clocks change.
+pub fn clock_of(year: u64, month: u64, lead: u64) -> Clock
+    requires { ⌜ IsMonth year month × (lead ≤ 255) ⌝ }
+    ensures { λ r. ⌜ r ≡ clockOf year month lead ⌝ }
+{
+    let from = day_number(year, month, 1);
+    let to = from + calendar_days(year, month, lead);
+    let march = march_sunday(year) + lead;
+    if between(from, march, to) {
+        return Clock::Shorter(march - from);
+    }
+    let october = october_sunday(year) + lead;
+    if between(from, october, to) {
+        return Clock::Longer(october - from);
+    }
+    Clock::Same
 }
 
 pub struct Month {
