@@ -1,7 +1,7 @@
-//! The month's book: its fields, its bytes, and refusals 1 to 7.
-//! The comments in quotation marks are sentences of document 01.
+//! The month's book: its fields, its bytes, and refusals 1 to 7, of which C-12 leaves no 3.
+//! The comments in quotation marks are sentences of document 01, or of document 02's request that they name.
 
-use crate::calendar::{book_days, is_clock_change, month_length};
+use crate::calendar::{book_days, day_length, month_length};
 use crate::refusal::{Refusal, refused};
 
 pub const MISSING: i32 = i32::MIN;
@@ -22,9 +22,15 @@ pub struct Book {
     pub calendar: Vec<u8>,
     pub choices: Vec<Choice>,
     pub register: Vec<RegisterRow>,
-    /// By point; quarter-hour q of day d at place 96 d + q.
+    /// By point; each day's quarter-hours behind those of the day before.
     pub readings: Vec<Vec<i32>>,
     pub engagements: Vec<Engagement>,
+    /// How many quarter-hours each day of the calendar has, which year, month and lead days tell.
+    pub day_lengths: Vec<usize>,
+}
+
+fn day_lengths(year: u16, month: u8, lead_days: u8) -> Vec<usize> {
+    book_days(year as i64, month as i64, lead_days as i64).into_iter().map(day_length).collect()
 }
 
 /// X and Y of a category.
@@ -67,7 +73,7 @@ pub struct Engagement {
 impl Book {
     /// A good book of zeros: X and Y 1, delivery EANs 0, 1, 2 and so on, no engagement.
     pub fn plain(year: u16, month: u8, lead_days: u8, points: u16) -> Book {
-        let days = lead_days as usize + month_length(year as i64, month as i64) as usize;
+        let day_lengths = day_lengths(year, month, lead_days);
         let row =
             |index: u16| RegisterRow { delivery_ean: index as u64, access_ean: index as u64, ..RegisterRow::default() };
         let mut book = Book {
@@ -79,11 +85,12 @@ impl Book {
             engagement_count: 0,
             zeros: [0; 6],
             pairs: [(0, 0); 5],
-            calendar: vec![0; days],
+            calendar: vec![0; day_lengths.len()],
             choices: vec![Choice { x: 1, y: 1 }; 4],
             register: (0..points).map(row).collect(),
-            readings: vec![vec![0; 96 * days]; points as usize],
+            readings: vec![vec![0; day_lengths.iter().sum()]; points as usize],
             engagements: Vec::new(),
+            day_lengths,
         };
         book.lay_out();
         book
@@ -96,6 +103,30 @@ impl Book {
 
     pub fn month_days(&self) -> usize {
         month_length(self.year as i64, self.month as i64) as usize
+    }
+
+    /// The quarter-hours of the whole calendar: the readings of a point.
+    pub fn quarters(&self) -> usize {
+        self.day_lengths.iter().sum()
+    }
+
+    /// The quarter-hours of the month.
+    pub fn month_quarters(&self) -> usize {
+        self.day_lengths[self.lead_days as usize..].iter().sum()
+    }
+
+    /// Quarter-hour `quarter` of a day, counted through the whole calendar: how many have passed before it.
+    pub fn place(&self, day: usize, quarter: usize) -> usize {
+        self.day_lengths[..day].iter().sum::<usize>() + quarter
+    }
+
+    /// The day on which such a quarter-hour lies.
+    pub fn day_of(&self, place: usize) -> usize {
+        (0..self.days()).rfind(|&day| self.place(day, 0) <= place).unwrap()
+    }
+
+    pub fn is_clock_change(&self, day: usize) -> bool {
+        self.day_lengths[day] != 96
     }
 
     /// The reading of quarter-hour `place`, counted through the whole calendar; none if it is
@@ -127,6 +158,14 @@ impl Book {
             *pair = (offset as u32, length as u32);
             offset += length;
         }
+    }
+
+    /// Gives each point so many readings, whatever its days have, and makes the layout anew.
+    pub fn resize_readings(&mut self, each: usize) {
+        for readings in &mut self.readings {
+            readings.resize(each, 0);
+        }
+        self.lay_out();
     }
 
     /// The bytes of the fields as they are, good or bad. "Integers are little-endian."
@@ -250,7 +289,6 @@ pub fn decode(bytes: &[u8]) -> Result<Book, Refusal> {
     let mut book = judge_header(bytes)?;
     judge_layout(bytes, &book)?;
     read_sections(bytes, &mut book);
-    judge_clock(&book)?;
     judge_calendar(&book)?;
     judge_register(&book)?;
     judge_readings(&book)?;
@@ -263,12 +301,12 @@ pub fn judge(bytes: &[u8]) -> Option<(u8, u32)> {
     decode(bytes).err().map(|refusal| (refusal.number, refusal.item))
 }
 
-/// 1: "under 56 bytes, header out of range". Gives the header's fields, the sections still empty.
+/// 1: "under 56 bytes, header out of range". Gives the header's fields and the days' lengths, the sections still empty.
 fn judge_header(bytes: &[u8]) -> Result<Book, Refusal> {
     if bytes.len() < HEADER_LENGTH {
         return refused(1, 0);
     }
-    let book = Book {
+    let mut book = Book {
         version: u16_at(bytes, 0),
         year: u16_at(bytes, 2),
         month: bytes[4],
@@ -282,6 +320,7 @@ fn judge_header(bytes: &[u8]) -> Result<Book, Refusal> {
         register: Vec::new(),
         readings: Vec::new(),
         engagements: Vec::new(),
+        day_lengths: Vec::new(),
     };
     let good = book.version == 1
         && (2018..=2099).contains(&book.year)
@@ -290,14 +329,17 @@ fn judge_header(bytes: &[u8]) -> Result<Book, Refusal> {
         && (1..=256).contains(&book.points)
         && book.engagement_count <= 512
         && book.zeros == [0; 6];
-    if good { Ok(book) } else { refused(1, 0) }
+    if !good {
+        return refused(1, 0);
+    }
+    book.day_lengths = day_lengths(book.year, book.month, book.lead_days);
+    Ok(book)
 }
 
-/// The lengths of the five sections.
+/// The lengths of the five sections. C-12: 92 or 100 readings "in the book's fourth section too".
 fn section_lengths(book: &Book) -> [usize; 5] {
-    let days = book.days();
     let points = book.points as usize;
-    [days, 8, 64 * points, 4 * 96 * days * points, 16 * book.engagement_count as usize]
+    [book.days(), 8, 64 * points, 4 * book.quarters() * points, 16 * book.engagement_count as usize]
 }
 
 /// 2: "a pair or the book's length is wrong". "The first section starts at 56, each next where the
@@ -318,7 +360,7 @@ fn read_sections(bytes: &[u8], book: &mut Book) {
         let (offset, length) = book.pairs[i];
         &bytes[offset as usize..offset as usize + length as usize]
     };
-    let point_bytes = 4 * 96 * book.days();
+    let point_bytes = 4 * book.quarters();
     let calendar = section(0).to_vec();
     let choices = section(1).chunks(2).map(|pair| Choice { x: pair[0], y: pair[1] }).collect();
     let register = section(2).chunks(64).map(RegisterRow::decode).collect();
@@ -330,16 +372,6 @@ fn read_sections(bytes: &[u8], book: &mut Book) {
     book.register = register;
     book.readings = readings;
     book.engagements = engagements;
-}
-
-/// 3: "a clock-change day in the calendar", lead days too.
-fn judge_clock(book: &Book) -> Result<(), Refusal> {
-    let days = book_days(book.year as i64, book.month as i64, book.lead_days as i64);
-    assert_eq!(days.len(), book.days());
-    if days.into_iter().any(is_clock_change) {
-        return refused(3, 0);
-    }
-    Ok(())
 }
 
 /// 4: "each day's category, 0 to 3"; "X 1 to 10, Y from X to 20".
@@ -406,12 +438,13 @@ fn judge_engagements(book: &Book) -> Result<(), Refusal> {
     Ok(())
 }
 
+/// C-12: on a clock-change day "first is below that number, and first + count at most it", as elsewhere of 96.
 fn good_engagement(row: &Engagement, book: &Book) -> bool {
     (row.point as usize) < book.register.len()
         && (book.lead_days as usize..book.days()).contains(&(row.day as usize))
-        && row.first <= 95
+        && (row.first as usize) < book.day_lengths[row.day as usize]
         && row.count >= 1
-        && row.first as usize + row.count as usize <= 96
+        && row.first as usize + row.count as usize <= book.day_lengths[row.day as usize]
         && row.direction <= 1
         && row.notice <= 96
         && row.zero == 0

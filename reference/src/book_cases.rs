@@ -1,7 +1,7 @@
 //! Books at both sides of each edge of refusals 1 to 7, in the order of document 01, and random ones.
 
 use crate::book::{Book, Choice, Engagement, MISSING, RegisterRow, judge};
-use crate::calendar::last_sunday;
+use crate::calendar::{MONTHS, last_sunday};
 use crate::case_text::{Case, read_sparse, write_sparse};
 use crate::random::Random;
 
@@ -24,7 +24,11 @@ pub fn cases() -> Vec<Case> {
     cases.engagement_order();
     cases.large_books();
     cases.order_of_refusals();
-    cases.0.extend(random_cases(1, 110));
+    cases.0.extend(random_cases(1, 110, &[1, 2, 6, 7, 8, 9]));
+    cases.days_of_96_instead();
+    cases.clock_change_readings();
+    cases.clock_change_engagements();
+    cases.0.extend(random_cases(10, 40, &MONTHS));
     cases.0
 }
 
@@ -222,6 +226,7 @@ impl Cases {
         self.changed("L 2, L 3 laid out", &Book::plain(2021, 6, 3, 1), |book| book.lead_days = 2);
     }
 
+    /// C-12: with days of 92 and 100, lead days too, these pass.
     fn clock_changes(&mut self) {
         for year in 2018..=2099 {
             for month in [3, 10] {
@@ -458,7 +463,7 @@ impl Cases {
 
     /// The book with readings changed, which are named by their places in section 4.
     fn placed(&mut self, what: impl Into<String>, book: &Book, placed: &[(usize, i32)]) {
-        let each = 96 * book.days();
+        let each = book.quarters();
         self.changed(what, book, |book| {
             for &(place, watts) in placed {
                 book.readings[place / each][place % each] = watts;
@@ -472,7 +477,7 @@ impl Cases {
         let bad = WATT_LIMIT as i32 + 1;
         for (month, points) in [(2, 1), (8, 1), (2, 2), (8, 2)] {
             let book = Book::plain(2021, month, 1, points);
-            let each = 96 * book.days();
+            let each = book.quarters();
             let count = each * points as usize;
             let rest = count / 1024 * 1024;
             let edges = [1, 1024, 1025, 2048, each, each + 1, rest, rest + 1, count - 1, count];
@@ -647,37 +652,29 @@ impl Cases {
     /// Everything is bad from a refusal on: the books tell in which order the refusals come.
     fn order_of_refusals(&mut self) {
         type Spoil = fn(&mut Book);
-        let spoil: [(u8, Spoil); 7] = [
+        let spoil: [(u8, Spoil); 6] = [
             (1, |book| book.zeros[5] = 1),
             (2, |book| book.pairs[4].1 += 1),
-            (3, |book| *book = rebuilt_as_march(book)),
             (4, |book| book.choices[3].y = 21),
             (5, |book| book.register[2].method = 3),
-            (6, |book| book.readings[1][96 * 31 - 1] = i32::MAX),
+            (6, |book| *book.readings[1].last_mut().unwrap() = i32::MAX),
             (7, |book| book.engagements[1].count = 0),
         ];
-        for from in 0..7 {
-            let mut book = engaged();
-            // The month first, because it makes a book of another length.
-            if from <= 2 {
-                spoil[2].1(&mut book);
+        for (what, base) in [("", engaged()), ("March, ", rebuilt_as_march(&engaged()))] {
+            for from in 0..6 {
+                self.changed(format!("{what}bad in every way from {} on", spoil[from].0), &base, |book| {
+                    for (_, change) in &spoil[from..] {
+                        change(book);
+                    }
+                });
             }
-            for (number, change) in &spoil[from..] {
-                if *number != 3 {
-                    change(&mut book);
-                }
-            }
-            self.book(format!("bad in every way from {} on", from + 1), &book);
         }
-        for first in 0..7 {
-            for second in first + 1..7 {
-                let mut book = engaged();
-                let mut both = [first, second];
-                both.sort_by_key(|&index| index != 2);
-                for index in both {
-                    spoil[index].1(&mut book);
-                }
-                self.book(format!("bad by {} and {}", first + 1, second + 1), &book);
+        for first in 0..6 {
+            for second in first + 1..6 {
+                self.changed(format!("bad by {} and {}", spoil[first].0, spoil[second].0), &engaged(), |book| {
+                    spoil[first].1(book);
+                    spoil[second].1(book);
+                });
             }
         }
         let mut book = small(2);
@@ -685,14 +682,119 @@ impl Cases {
         book.choices[0].x = 0;
         self.book("a category and a choice out of range", &book);
     }
+
+    /// The book with so many readings of each point, and the layout made anew.
+    fn of_readings(&mut self, what: impl Into<String>, book: &Book, each: usize) {
+        self.changed(what, book, |book| book.resize_readings(each));
+    }
+
+    /// C-12: section 4's length follows the days; any other is 2.
+    fn days_of_96_instead(&mut self) {
+        for year in [2018, 2019, 2021, 2024, 2025, 2099] {
+            let (march, october) = (last_sunday(year as i64, 3) as u8, last_sunday(year as i64, 10) as u8);
+            let months = [(3, 1), (10, 1), (4, 32 - march), (11, 32 - october), (4, 33), (11, 33)];
+            for (month, lead_days) in months {
+                let book = Book::plain(year, month, lead_days, 1);
+                self.of_readings(format!("{year}-{month:02}, L {lead_days}, 96 a day"), &book, 96 * book.days());
+            }
+        }
+        for (year, month, lead_days) in [(2026, 5, 33), (2025, 5, 32), (2024, 5, 31), (2023, 12, 33), (2021, 12, 31)] {
+            let book = Book::plain(year, month, lead_days, 1);
+            self.of_readings(format!("{year}-{month:02}, L {lead_days}, 96 a day"), &book, 96 * book.days());
+        }
+        for (year, month, lead_days, points) in [(2021, 3, 3, 2), (2023, 10, 3, 2), (2021, 4, 4, 1), (2023, 11, 3, 1)] {
+            let book = Book::plain(year, month, lead_days, points);
+            let name = format!("{year}-{month:02}, L {lead_days}, {points} points");
+            self.book(format!("{name}, as the days are"), &book);
+            for each in [book.quarters() - 1, book.quarters() + 1, 96 * book.days() - 4, 96 * book.days() + 4] {
+                self.of_readings(format!("{name}, {each} readings each"), &book, each);
+            }
+        }
+        for (year, month, lead_days) in [(2021, 4, 3), (2023, 11, 2), (2026, 5, 32), (2023, 12, 32)] {
+            let book = Book::plain(year, month, lead_days, 1);
+            for each in [book.quarters() - 4, book.quarters() + 4] {
+                let what = format!("{year}-{month:02}, L {lead_days}, a day too few for the change: {each} readings");
+                self.of_readings(what, &book, each);
+            }
+        }
+    }
+
+    /// 6 names the point also where days have 92 or 100 readings.
+    fn clock_change_readings(&mut self) {
+        for month in [3, 10] {
+            let book = Book::plain(2021, month, 1, 2);
+            let each = book.quarters();
+            for place in [0, each - 1, each, 2 * each - 1] {
+                let what = format!("2021-{month:02}, two points, reading {place} out of range");
+                self.placed(what, &book, &[(place, WATT_LIMIT as i32 + 1)]);
+            }
+        }
+    }
+
+    /// 7 on the clock-change day and on the days beside it: 28 March 2021 is day 30, 29 October 2023 is day 31.
+    fn clock_change_engagements(&mut self) {
+        for (year, month, change, length) in [(2021, 3, 30, 92), (2023, 10, 31, 100)] {
+            let book = Book::plain(year, month, 3, 1);
+            let name = format!("{year}-{month:02}");
+            let mut on = |day: u8, first: u8, count: u8| {
+                self.laid_out(format!("{name}, day {day}, first {first}, count {count}"), &book, |book| {
+                    book.engagements = vec![engagement(0, day, first, count)];
+                });
+            };
+            for first in [length - 1, length, length + 1] {
+                for count in [0, 1, 2] {
+                    on(change, first, count);
+                }
+            }
+            for (first, count) in [
+                (0, length - 1),
+                (0, length),
+                (0, length + 1),
+                (1, length - 1),
+                (1, length),
+                (length - 4, 4),
+                (length - 4, 5),
+                (91, 1),
+                (92, 1),
+                (0, 96),
+                (95, 1),
+                (96, 1),
+                (255, 1),
+                (200, 156),
+            ] {
+                on(change, first, count);
+            }
+            for day in [change - 1, change + 1] {
+                for (first, count) in [(91, 1), (91, 5), (92, 4), (92, 5), (95, 1), (96, 1), (99, 1), (0, 96), (0, 97)]
+                {
+                    on(day, first, count);
+                }
+            }
+            for notice in [92, 96, 97, 100] {
+                self.laid_out(format!("{name}, day {change}, notice {notice}"), &book, |book| {
+                    book.engagements = vec![Engagement { notice, ..engagement(0, change, 8, 1) }];
+                });
+            }
+            for (what, first) in [("touching at the last", length - 1), ("overlapping at the last but one", length - 2)]
+            {
+                self.laid_out(format!("{name}, day {change}, {what}"), &book, |book| {
+                    book.engagements = vec![engagement(0, change, 0, length - 1), engagement(0, change, first, 1)];
+                });
+            }
+            self.laid_out(format!("{name}, a whole day {change} between whole days"), &book, |book| {
+                let day = |day: u8, count: u8| engagement(0, day, 0, count);
+                book.engagements = vec![day(change - 1, 96), day(change, length), day(change + 1, 96)];
+            });
+        }
+    }
 }
 
-/// Random good books, each with one byte damaged after it.
-pub fn random_cases(seed: u64, count: usize) -> Vec<Case> {
+/// Random good books of some months, each with one byte damaged after it.
+pub fn random_cases(seed: u64, count: usize, months: &[u8]) -> Vec<Case> {
     let mut cases = Vec::new();
     let mut random = Random::new(seed);
     for number in 1..=count {
-        let book = random_book(&mut random);
+        let book = random_book(&mut random, months);
         let bytes = book.encode();
         let (place, value) = random_damage(&mut random, &book, &bytes);
         let mut damaged = bytes.clone();
@@ -703,7 +805,7 @@ pub fn random_cases(seed: u64, count: usize) -> Vec<Case> {
     cases
 }
 
-/// The same points and engagements in a month with a clock-change day.
+/// The same points and engagements in a month with a clock-change day, which has no engagement.
 fn rebuilt_as_march(book: &Book) -> Book {
     let mut march = Book::plain(2021, 3, book.lead_days, book.points);
     march.engagements = book.engagements.clone();
@@ -712,9 +814,9 @@ fn rebuilt_as_march(book: &Book) -> Book {
 }
 
 /// A good book, nearly all of whose readings are zero.
-fn random_book(random: &mut Random) -> Book {
+fn random_book(random: &mut Random, months: &[u8]) -> Book {
     let year = random.range(2018, 2099) as u16;
-    let month = random.pick(&[1, 2, 6, 7, 8, 9]);
+    let month = random.pick(months);
     let lead_days = if random.once_in(4) { random.range(1, 33) } else { random.range(1, 4) } as u8;
     let points = random.range(1, 3) as u16;
     let mut book = Book::plain(year, month, lead_days, points);
@@ -750,8 +852,9 @@ fn random_book(random: &mut Random) -> Book {
     for point in 0..points {
         let mut day = lead_days as i64;
         while day < days as i64 && random.once_in(2) {
-            let first = random.range(0, 95);
-            let count = random.range(1, 96 - first);
+            let length = book.day_lengths[day as usize] as i64;
+            let first = random.range(0, length - 1);
+            let count = random.range(1, length - first);
             book.engagements.push(Engagement {
                 point,
                 day: day as u8,

@@ -1,6 +1,8 @@
 //! The Gregorian calendar, the days on which the clock changes, and the forms of moment and
 //! transaction ID.
 
+pub const MONTHS: [u8; 12] = [1, 2, 3, 4, 5, 6, 7, 8, 9, 10, 11, 12];
+
 /// Days of a month of 1 to 12.
 pub fn month_length(year: i64, month: i64) -> i64 {
     match month {
@@ -69,6 +71,25 @@ pub fn last_sunday(year: i64, month: i64) -> i64 {
 /// "a clock-change day": the last Sunday of March or of October.
 pub fn is_clock_change(date: Date) -> bool {
     (date.month == 3 || date.month == 10) && date.day == last_sunday(date.year, date.month)
+}
+
+/// C-12: "A clock-change day has 92 or 100 readings": 92 where the clock goes forward, in March, and 100 in October.
+pub fn day_length(date: Date) -> usize {
+    match date.month {
+        3 if is_clock_change(date) => 92,
+        10 if is_clock_change(date) => 100,
+        _ => 96,
+    }
+}
+
+/// C-12: "Positions count the quarter-hours that the month has, in the reader too: up to 2,972 in March and 2,980 in
+/// October"; else "up to 96 times the days of the month".
+pub fn last_position(year: i64, month: i64) -> u64 {
+    match month {
+        3 => 2_972,
+        10 => 2_980,
+        _ => 96 * month_length(year, month) as u64,
+    }
 }
 
 /// The hours of the offset at the start of a day: "+02:00 from the last Sunday of March to that of

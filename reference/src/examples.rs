@@ -2,10 +2,14 @@
 
 use crate::book::{Book, Choice, Engagement};
 
-/// A June of 2021 with these lead days and points, the same X and Y for all categories, 5,000 W each way,
-/// method 1.
+/// A June of 2021; see `month`.
 pub fn june(lead_days: u8, points: u16, x: u8, y: u8) -> Book {
-    let mut book = Book::plain(2021, 6, lead_days, points);
+    month(2021, 6, lead_days, points, x, y)
+}
+
+/// A month with these lead days and points, the same X and Y for all categories, 5,000 W each way, method 1.
+pub fn month(year: u16, month: u8, lead_days: u8, points: u16, x: u8, y: u8) -> Book {
+    let mut book = Book::plain(year, month, lead_days, points);
     book.choices = vec![Choice { x, y }; 4];
     for row in &mut book.register {
         (row.supplier, row.fsp, row.method) = (3, 7, 1);
@@ -17,7 +21,7 @@ pub fn june(lead_days: u8, points: u16, x: u8, y: u8) -> Book {
 
 /// Readings of a point from a quarter-hour of a day on.
 pub fn read(book: &mut Book, point: usize, day: usize, first: usize, watts: &[i32]) {
-    let start = 96 * day + first;
+    let start = book.place(day, first);
     book.readings[point][start..start + watts.len()].copy_from_slice(watts);
 }
 
@@ -103,6 +107,15 @@ pub fn window() -> Book {
     read(&mut book, 0, 0, 50, &[4000]);
     read(&mut book, 0, 1, 50, &[100]);
     engage(&mut book, 0, 1, 50, 1, 0, 1000);
+    book
+}
+
+/// C-12: 31 October 2021, day 35, has 100 quarter-hours; its 8 and its 12 look at the same reading of another day.
+pub fn looked_at_twice() -> Book {
+    let mut book = month(2021, 10, 5, 1, 1, 2);
+    read(&mut book, 0, 33, 8, &[10]);
+    read(&mut book, 0, 34, 9, &[15]);
+    engage(&mut book, 0, 35, 8, 5, 0, 100);
     book
 }
 

@@ -4,6 +4,7 @@ pub mod book;
 pub mod book_cases;
 pub mod calendar;
 pub mod case_text;
+pub mod clock_cases;
 pub mod examples;
 pub mod message;
 pub mod message_cases;

@@ -30,10 +30,12 @@ fn output(words: &[&str]) -> Option<String> {
         ["months"] => calendar::months_text(),
         ["index"] => index(),
         ["book-random", seed, count] => {
-            book_cases::cases_text(&book_cases::random_cases(seed.parse().ok()?, count.parse().ok()?))
+            let (seed, count) = (seed.parse().ok()?, count.parse().ok()?);
+            book_cases::cases_text(&book_cases::random_cases(seed, count, &calendar::MONTHS))
         }
         ["settle-random", seed, count] => {
-            settle_cases::cases_text(&settle_cases::random_cases(seed.parse().ok()?, count.parse().ok()?))
+            let (seed, count) = (seed.parse().ok()?, count.parse().ok()?);
+            settle_cases::cases_text(&settle_cases::random_cases(seed, count, settle_cases::random_book))
         }
         ["book-cases"] => book_cases::cases_text(&book_cases::cases()),
         ["book-answers"] => book_cases::answers(&input()),

@@ -1,6 +1,6 @@
 //! The file: its text, writing from rows, and reading.
 
-use crate::calendar::{Date, digits, is_moment, is_transaction_id, month_length, offset_hours};
+use crate::calendar::{Date, digits, is_moment, is_transaction_id, last_position, offset_hours};
 use crate::refusal::{Refusal, refused};
 
 /// "six u64 a row: partner, supply, delivery direction, position, watts, 0".
@@ -180,7 +180,7 @@ pub fn good_rows(kind: u8, receiver: u64, year: u64, month: u64, numbers: &[u64]
         return false;
     }
     let partner_limit = 10u64.pow(names(kind).partner_digits as u32);
-    let positions = 96 * month_length(year as i64, month as i64) as u64;
+    let positions = last_position(year as i64, month as i64);
     let rows: Vec<FileRow> = numbers.chunks(6).map(FileRow::from_numbers).collect();
     let good_row = |row: &FileRow| {
         row.partner < partner_limit
@@ -377,7 +377,7 @@ fn read_time_series(reader: &mut Reader, month: &mut Option<(u64, u64)>) -> Opti
     if reader.word("PeriodResolution")? != "PT15M" {
         return None;
     }
-    let positions = 96 * month_length(year as i64, number as i64) as u64;
+    let positions = last_position(year as i64, number as i64);
     let mut observations: Vec<(u64, u64)> = Vec::new();
     while !reader.comes("</") {
         reader.open("Observation")?;

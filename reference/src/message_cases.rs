@@ -1,5 +1,6 @@
 //! Cases for writing a file from rows and for reading a file.
 
+use crate::calendar::last_position;
 use crate::case_text::{hex_word, read_hex_word};
 use crate::message::{FileRow, file_text, read, write};
 use crate::random::Random;
@@ -7,6 +8,9 @@ use crate::random::Random;
 const ID: &[u8] = b"T-1";
 const MOMENT: &[u8] = b"2021-08-02T09:00:00.000+02:00";
 const LONG_ENOUGH: usize = 16_000;
+
+/// Positions about the last of March, of a month of 31 days and of October.
+pub const CLOCK_CHANGE_POSITIONS: [u64; 6] = [2972, 2973, 2976, 2977, 2980, 2981];
 
 /// IDs and moments at both sides of each edge of their forms.
 pub fn ids() -> Vec<Vec<u8>> {
@@ -174,6 +178,7 @@ pub fn write_cases() -> Vec<WriteCase> {
     cases.order_of_refusals();
     cases.many();
     cases.random();
+    cases.clock_change_positions();
     cases.0
 }
 
@@ -326,10 +331,31 @@ impl WriteCases {
             [(2021, 2, 2688), (2024, 2, 2784), (2021, 3, 2976), (2021, 4, 2880), (2021, 10, 2976), (2099, 12, 2976)]
         {
             for position in [positions, positions + 1] {
-                self.changed(format!("{year}-{month:02}, position {position}"), |case| {
-                    (case.year, case.month) = (year, month);
-                    case.numbers = vec![3, 0, 0, position, 1, 0];
-                });
+                self.position(1, (year, month), position);
+            }
+        }
+    }
+
+    fn position(&mut self, kind: u8, (year, month): (u64, u64), position: u64) {
+        self.changed(format!("kind {kind}, {year}-{month:02}, position {position}"), |case| {
+            (case.kind, case.year, case.month) = (kind, year, month);
+            case.numbers = vec![3, 0, 0, position, 1, 0];
+        });
+    }
+
+    /// C-12: "up to 2,972 in March and 2,980 in October".
+    fn clock_change_positions(&mut self) {
+        for (kind, year) in [(1, 2021), (2, 2018), (3, 2099)] {
+            for month in [3, 10] {
+                for position in CLOCK_CHANGE_POSITIONS {
+                    self.position(kind, (year, month), position);
+                }
+            }
+        }
+        for month in [2, 4, 9, 11] {
+            let last = last_position(2021, month as i64);
+            for position in [last - 4, last, last + 4] {
+                self.position(1, (2021, month), position);
             }
         }
     }
@@ -338,7 +364,7 @@ impl WriteCases {
     fn all_months(&mut self) {
         for year in 2018..=2099 {
             for month in 1..=12 {
-                let last = 96 * crate::calendar::month_length(year as i64, month as i64) as u64;
+                let last = last_position(year as i64, month as i64);
                 self.changed(format!("the period of a month of {year}"), |case| {
                     case.kind = 1 + (month % 3) as u8;
                     (case.year, case.month) = (year, month);
@@ -645,6 +671,9 @@ pub fn read_groups() -> Vec<ReadGroup> {
     }
     groups.extend(month_groups());
     groups.extend((0..20).map(|_| random_group(&mut random)));
+    for (kind, month) in [(1, 3), (3, 10)] {
+        groups.push(clock_change_group(kind, month));
+    }
     groups
 }
 
@@ -1170,12 +1199,22 @@ fn many_group(kind: u8) -> ReadGroup {
     group
 }
 
+/// Files of March and October, which have a quarter-hour behind the clock change.
+fn clock_change_group(kind: u8, month: i64) -> ReadGroup {
+    let mut group = ReadGroup::of_rows(kind, 2021, month, &[[3, 0, 0, 1, 7, 0], [3, 0, 0, 2700, 8, 0]]);
+    group.lent();
+    for position in CLOCK_CHANGE_POSITIONS {
+        group.content("Position", 1, position.to_string().as_bytes());
+    }
+    group
+}
+
 /// The last position of each month of a year, and of some others.
 fn month_groups() -> Vec<ReadGroup> {
     let mut groups = Vec::new();
     let months = (1..=12).map(|month| (2023, month)).chain([(2018, 1), (2024, 2), (2098, 2), (2099, 12)]);
     for (year, month) in months {
-        let last = 96 * crate::calendar::month_length(year, month) as u64;
+        let last = last_position(year, month);
         let mut group = ReadGroup::of_rows(2, year, month, &[[3, 0, 0, last, 1, 0]]);
         group.case(format!("{year}-{month:02}, position {last}"), Vec::new());
         group.content("Position", 0, (last + 1).to_string().as_bytes());

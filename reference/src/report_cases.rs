@@ -2,12 +2,13 @@
 
 use crate::book::{Book, MISSING};
 use crate::case_text::{hex_word, read_hex_word, read_sparse, write_sparse};
+use crate::clock_cases::{CHANGES, Change};
 use crate::examples::*;
 use crate::message_cases::{ids, moments};
 use crate::program;
 use crate::random::Random;
 use crate::series::file_call;
-use crate::settle_cases::random_book;
+use crate::settle_cases::{random_book, random_plain_book};
 use crate::sheet::sheet;
 
 const FILE_LONG_ENOUGH: usize = 65_536;
@@ -87,6 +88,25 @@ fn slow() -> Book {
         read(&mut book, 0, day - 1, 10, &[1]);
         read(&mut book, 0, day - 2, 10, &[0]);
         engage(&mut book, 0, day as u8, 10, 1, 0, 1);
+    }
+    book
+}
+
+/// C-12: delivery just before the clock-change day, in its first and last quarter-hours, just after it and in the month's last quarter-hour. Two
+/// points of one access point, one of transfer and one of pass-through.
+fn through_the_change(change: Change) -> Book {
+    let mut book = month(change.year, change.month, change.lead_days, 2, 1, 1);
+    book.register[1].access_ean = book.register[0].access_ean;
+    book.register[1].situation = 1;
+    let (day, length, last) = (change.day, change.length, book.days() - 1);
+    for point in 0..2 {
+        book.register[point].method = 0;
+        read(&mut book, point, day - 1, 94, &[5000, 4000, 1000 + point as i32]);
+        read(&mut book, point, day, length - 2, &[3500, 3000, 1000]);
+        read(&mut book, point, last, 94, &[700]);
+        for (day, first) in [(day - 1, 95), (day, 0), (day, length - 1), (day + 1, 0), (last, 95)] {
+            engage(&mut book, point as u16, day as u8, first as u8, 1, 0, 100);
+        }
     }
     book
 }
@@ -199,7 +219,7 @@ pub fn sheet_cases() -> Vec<SheetCase> {
     add("2 before 11", 99, 0, &bad);
     let bad = changed(&case_f(), &|book| book.version = 2);
     add("1 before 11", 99, 0, &bad);
-    add("3", 0, 3000, &Book::plain(2021, 10, 1, 1));
+    add("October passes", 0, 3000, &Book::plain(2021, 10, 1, 1));
     for party in [1, 2] {
         add("P7", party, 2880, &limited_down());
         add("P8", party, 2880, &above_baseline());
@@ -214,9 +234,30 @@ pub fn sheet_cases() -> Vec<SheetCase> {
     }
     let mut random = Random::new(7);
     for _ in 0..60 {
-        let book = random_book(&mut random);
+        let book = random_plain_book(&mut random);
         let party = random.range(1, 3) as u16;
         add("random book", party, 96 * book.month_days(), &book);
+    }
+    for change in CHANGES {
+        let book = through_the_change(change);
+        let quarters = book.month_quarters();
+        for (party, length) in [(1, quarters), (2, quarters), (1, quarters - 1), (1, 2976), (1, quarters + 1), (9, 0)] {
+            add(&format!("{}, party {party}, {length} numbers lent", change.name()), party, length, &book);
+        }
+    }
+    for change in [Change::new(2019, 4, 1, 0, 92), Change::new(2021, 11, 1, 0, 100)] {
+        let mut book = change.book(0, 1, 1);
+        read(&mut book, 0, 0, change.length - 1, &[900]);
+        engage(&mut book, 0, 1, 0, 1, 0, 100);
+        for length in [2879, 2880] {
+            add(&format!("{}, {length} numbers lent", change.name()), 1, length, &book);
+        }
+    }
+    let mut random = Random::new(14);
+    for _ in 0..12 {
+        let book = random_book(&mut random);
+        let party = random.range(1, 3) as u16;
+        add("random book of any month", party, book.month_quarters(), &book);
     }
     cases
 }
@@ -381,12 +422,37 @@ pub fn file_cases() -> Vec<FileCase> {
     }
     let mut random = Random::new(8);
     for number in 1..=50 {
-        let book = random_book(&mut random);
+        let book = random_plain_book(&mut random);
         let kind = random.range(1, 3) as u8;
         let receiver = random.range(1, 2) as u64;
         cases.add(&format!("random book {number}"), kind, receiver, &book);
     }
+    clock_change_files(&mut cases);
     cases.0
+}
+
+/// C-12: positions behind the clock change, and the last of March and of October.
+fn clock_change_files(cases: &mut FileCases) {
+    for change in CHANGES {
+        let book = through_the_change(change);
+        for (kind, receiver) in [(1, 7), (2, 3), (3, 3)] {
+            cases.add(&format!("{}, kind {kind}", change.name()), kind, receiver, &book);
+        }
+        let mut whole = change.book(0, 1, 1);
+        engage(&mut whole, 0, change.day as u8, 0, change.length as u8, 0, 1);
+        let rows = 4 * change.length;
+        for rows_length in [rows - 1, rows] {
+            let what = format!("{}, a whole day, {rows_length} of {rows} numbers lent", change.name());
+            cases.changed(&what, 1, 7, &whole, |case| case.rows_length = rows_length);
+        }
+    }
+    let mut random = Random::new(15);
+    for number in 1..=12 {
+        let book = random_book(&mut random);
+        let kind = random.range(1, 3) as u8;
+        let receiver = random.range(1, 2) as u64;
+        cases.add(&format!("random book {number} of any month"), kind, receiver, &book);
+    }
 }
 
 /// 9, 12 for the kind, 11, 12 for ID or moment, 10 with item 0, 10 with item 1: all bad from each on.
@@ -513,11 +579,21 @@ pub fn program_cases() -> Vec<ProgramCase> {
     large_answers(&mut add);
     let mut random = Random::new(9);
     for number in 1..=20 {
-        let book = random_book(&mut random).encode();
+        let book = random_plain_book(&mut random).encode();
         let kind = random.range(1, 3);
         let receiver = random.range(1, 3);
         let line = format!("{kind:02} {receiver:010} r-{number} 2024-02-29T23:59:59.999+01:00\n");
         add(format!("random book {number}"), line.as_bytes(), &book);
+    }
+    for change in CHANGES {
+        let mut book = through_the_change(change);
+        for line in [LINE, "03 0000000003 T-1 2021-08-02T09:00:00.000+02:00\n"] {
+            add(format!("{}, {line:?}", change.name()), line.as_bytes(), &book.encode());
+        }
+        book.engagements[2].first += 1;
+        add(format!("{}, a quarter-hour that its day hasn't", change.name()), LINE.as_bytes(), &book.encode());
+        book.resize_readings(96 * book.days());
+        add(format!("{}, 96 readings a day", change.name()), LINE.as_bytes(), &book.encode());
     }
     cases
 }

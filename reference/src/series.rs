@@ -43,7 +43,7 @@ pub fn series_grains(book: &Book, quarters: &[Quarter], kind: u8, receiver: u64)
         let row = &book.register[quarter.point];
         if takes(kind, row) && receiver_of(kind, row) == receiver {
             let key = (partner_of(kind, row), row.supply as u64, quarter.downward as u64);
-            let grains = series.entry(key).or_insert_with(|| vec![0; 96 * book.month_days()]);
+            let grains = series.entry(key).or_insert_with(|| vec![0; book.month_quarters()]);
             grains[position(book, quarter) - 1] += quarter.delivered;
         }
     }

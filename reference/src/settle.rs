@@ -65,37 +65,78 @@ fn engagement_quarters(engagement: &Engagement) -> std::ops::Range<usize> {
     first..first + engagement.count as usize
 }
 
-/// Where the engagement starts on day `day`, counted through the whole calendar.
-fn start(engagement: &Engagement, day: usize) -> i64 {
-    96 * day as i64 + engagement.first as i64
+/// The quarter-hour of a reference day that one of the engagement's looks at. C-12: "For an engagement on a day of 92,
+/// quarter-hours from 8 up look at the reference day's quarter-hour 4 later; on a day of 100, those from 12 up look 4
+/// earlier, and those below look at their own number."
+fn looked_at(book: &Book, engagement: &Engagement, quarter: usize) -> usize {
+    match book.day_lengths[engagement.day as usize] {
+        92 if quarter >= 8 => quarter + 4,
+        100 if quarter >= 12 => quarter - 4,
+        _ => quarter,
+    }
 }
 
-/// The readings of the engagement's quarter-hours on a day; none if one is missing.
-fn day_readings(book: &Book, engagement: &Engagement, day: usize) -> Option<Vec<i64>> {
-    let point = engagement.point as usize;
-    engagement_quarters(engagement).map(|quarter| book.reading(point, (96 * day + quarter) as i64)).collect()
+/// Where the engagement starts, counted through the whole calendar. C-12: "An own window, and method 0, count the
+/// quarter-hours that passed."
+fn start(book: &Book, engagement: &Engagement) -> i64 {
+    book.place(engagement.day as usize, engagement.first as usize) as i64
 }
 
-/// The 12 readings from 24 quarter-hours before the start; none if one is missing or before the calendar.
-fn window_readings(book: &Book, engagement: &Engagement, day: usize) -> Option<Vec<i64>> {
-    let from = start(engagement, day) - 24;
-    (from..from + 12).map(|place| book.reading(engagement.point as usize, place)).collect()
+/// The place that the engagement's first quarter-hour looks at on a reference day, counted through the whole calendar.
+fn reference_start(book: &Book, engagement: &Engagement, day: usize) -> i64 {
+    book.place(day, looked_at(book, engagement, engagement.first as usize)) as i64
 }
 
-/// Method 0: "the reading just before quarter-hour 96 A + s - notice".
+/// The readings of the point at some places; none if one is missing or before the calendar.
+fn readings(book: &Book, engagement: &Engagement, places: impl Iterator<Item = i64>) -> Option<Vec<i64>> {
+    places.map(|place| book.reading(engagement.point as usize, place)).collect()
+}
+
+/// The readings of the engagement's quarter-hours on its own day.
+fn own_readings(book: &Book, engagement: &Engagement) -> Option<Vec<i64>> {
+    let from = start(book, engagement);
+    readings(book, engagement, from..from + engagement.count as i64)
+}
+
+/// The readings that the engagement's quarter-hours look at on a reference day, one for each.
+fn reference_readings(book: &Book, engagement: &Engagement, day: usize) -> Option<Vec<i64>> {
+    let place = |quarter| book.place(day, looked_at(book, engagement, quarter)) as i64;
+    readings(book, engagement, engagement_quarters(engagement).map(place))
+}
+
+/// The 12 places from 24 quarter-hours before a start.
+fn window(start: i64) -> std::ops::Range<i64> {
+    start - 24..start - 12
+}
+
+fn own_window(book: &Book, engagement: &Engagement) -> Option<Vec<i64>> {
+    readings(book, engagement, window(start(book, engagement)))
+}
+
+/// C-12: "The reference window is 24 before the place so found for the first quarter-hour."
+fn reference_window(book: &Book, engagement: &Engagement, day: usize) -> Option<Vec<i64>> {
+    readings(book, engagement, window(reference_start(book, engagement, day)))
+}
+
+/// C-12: "for method 2 neither is a day whose window of 12 touches one": one of the 12 lies on a clock-change day.
+fn window_touches_clock_change(book: &Book, engagement: &Engagement, day: usize) -> bool {
+    let on_clock_change = |place: i64| place >= 0 && book.is_clock_change(book.day_of(place as usize));
+    window(reference_start(book, engagement, day)).any(on_clock_change)
+}
+
+/// Method 0: "the reading just before quarter-hour 96 A + s - notice", which counts the quarter-hours that passed.
 fn last_quarter_hour(book: &Book, engagement: &Engagement) -> Option<i64> {
-    let place = start(engagement, engagement.day as usize) - engagement.notice as i64 - 1;
+    let place = start(book, engagement) - engagement.notice as i64 - 1;
     book.reading(engagement.point as usize, place)
 }
 
 /// 8: "a reading of A in the engagement's quarter-hours, of method 2's own 12, or of method 0 missing or
 /// before the calendar".
 fn needed_readings_present(book: &Book, engagement: &Engagement) -> bool {
-    let day = engagement.day as usize;
     let method = book.register[engagement.point as usize].method;
-    day_readings(book, engagement, day).is_some()
+    own_readings(book, engagement).is_some()
         && (method != 0 || last_quarter_hour(book, engagement).is_some())
-        && (method != 2 || window_readings(book, engagement, day).is_some())
+        && (method != 2 || own_window(book, engagement).is_some())
 }
 
 fn baselines_last_quarter_hour(book: &Book, engagement: &Engagement) -> Vec<i128> {
@@ -109,20 +150,24 @@ fn is_engaged(book: &Book, point: u16, day: usize) -> bool {
 }
 
 /// "day d before A is eligible if it has A's category, isn't excluded and misses no reading in the
-/// engagement's quarter-hours"; C-11: "a day isn't eligible if the book holds an engagement of that point on
-/// it"; with method 2 "an eligible day's 12 must lie in the calendar and not be missing".
+/// engagement's quarter-hours", the readings being those that these look at; C-11: "a day isn't eligible if the book
+/// holds an engagement of that point on it"; C-12: "A clock-change day is never a reference day"; with method 2 "an
+/// eligible day's 12 must lie in the calendar and not be missing", and touch no clock-change day.
 fn is_eligible(book: &Book, engagement: &Engagement, day: usize, adjusted: bool) -> bool {
     let settled = engagement.day as usize;
     day < settled
         && book.calendar[day] == book.calendar[settled]
         && !book.register[engagement.point as usize].excludes(day)
         && !is_engaged(book, engagement.point, day)
-        && day_readings(book, engagement, day).is_some()
-        && (!adjusted || window_readings(book, engagement, day).is_some())
+        && !book.is_clock_change(day)
+        && reference_readings(book, engagement, day).is_some()
+        && (!adjusted
+            || reference_window(book, engagement, day).is_some() && !window_touches_clock_change(book, engagement, day))
 }
 
 /// "The Y latest eligible days are taken; of them the X with the greatest sum over the engagement's
-/// quarter-hours, the later day first among equal sums." None if fewer than Y are eligible: 9.
+/// quarter-hours, the later day first among equal sums": a reading that two of them look at counts twice. None if
+/// fewer than Y are eligible: 9.
 fn chosen_days(book: &Book, engagement: &Engagement, adjusted: bool) -> Option<Vec<usize>> {
     let settled = engagement.day as usize;
     let choice = book.choices[book.calendar[settled] as usize];
@@ -131,7 +176,7 @@ fn chosen_days(book: &Book, engagement: &Engagement, adjusted: bool) -> Option<V
     if latest.len() < choice.y as usize {
         return None;
     }
-    let sum = |day: usize| -> i64 { day_readings(book, engagement, day).unwrap().iter().sum() };
+    let sum = |day: usize| -> i64 { reference_readings(book, engagement, day).unwrap().iter().sum() };
     let mut ranked: Vec<(i64, usize)> = latest.into_iter().map(|day| (sum(day), day)).collect();
     ranked.sort();
     ranked.reverse();
@@ -150,20 +195,18 @@ fn mean(watts: &[i64]) -> i128 {
 /// readings from 96 A + s - 24 less the mean over the X days of their corresponding 12".
 fn baselines_high_x_of_y(book: &Book, engagement: &Engagement, days: &[usize], adjusted: bool) -> Vec<i128> {
     let addend = if adjusted {
-        let own = window_readings(book, engagement, engagement.day as usize).unwrap();
-        let theirs: Vec<i64> = days.iter().flat_map(|&day| window_readings(book, engagement, day).unwrap()).collect();
+        let own = own_window(book, engagement).unwrap();
+        let theirs: Vec<i64> = days.iter().flat_map(|&day| reference_window(book, engagement, day).unwrap()).collect();
         mean(&own) - mean(&theirs)
     } else {
         0
     };
-    let of_quarter = |quarter: usize| -> i128 {
-        let readings: Vec<i64> = days
-            .iter()
-            .map(|&day| book.reading(engagement.point as usize, (96 * day + quarter) as i64).unwrap())
-            .collect();
+    let by_day: Vec<Vec<i64>> = days.iter().map(|&day| reference_readings(book, engagement, day).unwrap()).collect();
+    let of_quarter = |index: usize| -> i128 {
+        let readings: Vec<i64> = by_day.iter().map(|readings| readings[index]).collect();
         mean(&readings) + addend
     };
-    engagement_quarters(engagement).map(of_quarter).collect()
+    (0..engagement.count as usize).map(of_quarter).collect()
 }
 
 /// "Upward: baseline less reading; downward: reading less baseline; limited to 0 below and the register's
@@ -174,7 +217,7 @@ fn settle_quarter(book: &Book, engagement: &Engagement, quarter: usize, baseline
     let day = engagement.day as usize;
     let row = &book.register[point];
     let downward = engagement.direction == 1;
-    let reading = book.reading(point, (96 * day + quarter) as i64).unwrap() as i128 * GRAINS_PER_WATT;
+    let reading = book.reading(point, book.place(day, quarter) as i64).unwrap() as i128 * GRAINS_PER_WATT;
     let (volume, largest) =
         if downward { (reading - baseline, row.largest_down) } else { (baseline - reading, row.largest_up) };
     let delivered = volume.max(0).min(largest as i128 * GRAINS_PER_WATT);

@@ -1,6 +1,7 @@
 //! Books for the settling call: refusals 8, 9 and 10, baselines, volumes and corrections, and random ones.
 
 use crate::book::{Book, Choice, Engagement, MISSING};
+use crate::calendar::MONTHS;
 use crate::case_text::{read_sparse, write_sparse};
 use crate::examples::*;
 use crate::random::Random;
@@ -30,8 +31,10 @@ pub fn cases() -> Vec<SettleCase> {
     cases.volumes();
     cases.order_of_8_and_9();
     cases.book("256 points, 512 engagements", &largest_book());
-    cases.0.extend(random_cases(2, 200));
+    cases.0.extend(random_cases(2, 200, random_plain_book));
     cases.0.extend(random_large_cases(3));
+    cases.clock_changes();
+    cases.0.extend(random_cases(11, 14, random_book));
     cases.0
 }
 
@@ -63,19 +66,19 @@ fn quarter_hours(book: &Book) -> usize {
     book.engagements.iter().map(|row| row.count as usize).sum()
 }
 
-struct Cases(Vec<SettleCase>);
+pub struct Cases(Vec<SettleCase>);
 
 impl Cases {
-    fn lent(&mut self, what: impl Into<String>, rows_length: usize, book: &Book) {
+    pub fn lent(&mut self, what: impl Into<String>, rows_length: usize, book: &Book) {
         self.0.push(SettleCase { what: what.into(), rows_length, bytes: book.encode() });
     }
 
     /// With rows of exactly the length of the answer.
-    fn book(&mut self, what: impl Into<String>, book: &Book) {
+    pub fn book(&mut self, what: impl Into<String>, book: &Book) {
         self.lent(what, 4 * quarter_hours(book), book);
     }
 
-    fn changed(&mut self, what: impl Into<String>, book: &Book, change: impl FnOnce(&mut Book)) {
+    pub fn changed(&mut self, what: impl Into<String>, book: &Book, change: impl FnOnce(&mut Book)) {
         let mut book = book.clone();
         change(&mut book);
         book.lay_out();
@@ -97,7 +100,7 @@ impl Cases {
         self.changed("Y - 1 eligible days: one misses a reading", &case_f(), |book| book.readings[0][0] = MISSING);
         self.changed("first + count 96", &case_f(), |book| book.engagements[0].first = 94);
         self.changed("first + count 97", &case_f(), |book| book.engagements[0].first = 95);
-        self.book("March", &Book::plain(2021, 3, 3, 1));
+        self.book("March passes", &Book::plain(2021, 3, 3, 1));
     }
 
     /// Settling refuses what 1 to 7 refuse, whatever is lent.
@@ -775,11 +778,11 @@ pub fn largest_book() -> Book {
 }
 
 /// Random books, now and then with rows that are too short or longer than needed.
-pub fn random_cases(seed: u64, count: usize) -> Vec<SettleCase> {
+pub fn random_cases(seed: u64, count: usize, book: fn(&mut Random) -> Book) -> Vec<SettleCase> {
     let mut cases = Cases(Vec::new());
     let mut random = Random::new(seed);
     for number in 1..=count {
-        let book = random_book(&mut random);
+        let book = book(&mut random);
         let exact = 4 * quarter_hours(&book);
         let length = match random.range(0, 9) {
             0 => exact.saturating_sub(1),
@@ -791,15 +794,33 @@ pub fn random_cases(seed: u64, count: usize) -> Vec<SettleCase> {
     cases.0
 }
 
-/// A good book with few days that matter. Most of its engagements have days enough.
+/// A good book of any month, March and October more often, with few days that matter, the clock change among or near them if the calendar has one.
 pub fn random_book(random: &mut Random) -> Book {
+    let month = if random.once_in(2) { random.pick(&[3, 10]) } else { random.pick(&MONTHS) };
+    let lead_days = random.pick(&[3, 4, 5, 6, 7, 33]);
+    let points = random.range(1, 2) as u16;
+    let mut book = Book::plain(random.range(2018, 2099) as u16, month, lead_days, points);
+    let change = (0..book.days()).find(|&day| book.is_clock_change(day));
+    let near = change.map_or(0, |day| day as i64 - random.range(-1, 3));
+    let from = near.clamp(lead_days as i64, book.days() as i64 - 4) as u8;
+    fill(random, &mut book, from);
+    book
+}
+
+/// The same of a month that has no clock change in its calendar, in its first days.
+pub fn random_plain_book(random: &mut Random) -> Book {
     let lead_days = random.range(3, 7) as u8;
     let points = random.range(1, 2) as u16;
     let month = random.pick(&[1, 2, 6, 9]);
     let mut book = Book::plain(random.range(2018, 2099) as u16, month, lead_days, points);
-    let all: Vec<u16> = (0..points).collect();
-    fill(random, &mut book, &all, lead_days);
+    fill(random, &mut book, lead_days);
     book
+}
+
+/// Gives all points of a book fields, readings and engagements; see `fill_points`.
+fn fill(random: &mut Random, book: &mut Book, from: u8) {
+    let all: Vec<u16> = (0..book.points).collect();
+    fill_points(random, book, &all, from);
 }
 
 /// Books of many points, few of which are engaged.
@@ -813,22 +834,25 @@ pub fn random_large_cases(seed: u64) -> Vec<SettleCase> {
         }
         let engaged: Vec<u16> =
             (1..=4).map(|part| part * points / 4 - random.range(1, points as i64 / 4) as u16).collect();
-        fill(&mut random, &mut book, &engaged, 7);
+        fill_points(&mut random, &mut book, &engaged, 7);
         cases.book(format!("random book of {points} points"), &book);
     }
     cases.0
 }
 
-/// Gives these points fields, readings and engagements, all in a few days up to the fourth from day `from` on.
-fn fill(random: &mut Random, book: &mut Book, engaged: &[u16], from: u8) {
-    let last = from as usize + 3;
-    for day in 0..=last {
+/// Gives these points fields, readings and engagements, all in a few days up to the fourth from day `from` on. Near a clock change
+/// engagements are longer, and there are more readings about them: those that another day's quarter-hours look at.
+fn fill_points(random: &mut Random, book: &mut Book, engaged: &[u16], from: u8) {
+    let days = from.saturating_sub(7) as usize..from as usize + 4;
+    let clock_change = days.clone().any(|day| book.is_clock_change(day));
+    let longest = (from as usize..days.end).map(|day| book.day_lengths[day]).max().unwrap() as i64;
+    for day in days.clone() {
         book.calendar[day] = if random.once_in(4) { 1 } else { 0 };
     }
     book.choices[0].x = random.range(1, 3) as u8;
     book.choices[0].y = random.range(book.choices[0].x as i64, 3) as u8;
-    let first = random.range(0, 92);
-    let count = random.range(1, 3);
+    let first = random.range(0, longest - 4);
+    let count = random.range(1, if clock_change { 8 } else { 3 });
     for point in engaged.iter().map(|&point| point as usize) {
         let row = &mut book.register[point];
         row.method = random.range(0, 2) as u8;
@@ -841,13 +865,19 @@ fn fill(random: &mut Random, book: &mut Book, engaged: &[u16], from: u8) {
         row.fsp_party = random.range(1, 3) as u16;
         row.largest_up = random.range(0, 90) as u32;
         row.largest_down = random.range(0, 90) as u32;
-        row.excluded_days = if random.once_in(3) { 1 << random.range(0, last as i64) } else { 0 };
+        let excluded = random.once_in(3).then(|| random.range(days.start as i64, days.end as i64 - 1));
+        row.excluded_days = excluded.map_or(0, |day| 1 << day);
         let level = random.range(-60, 120) as i32;
-        for day in 0..=last as i64 {
-            let start = 96 * day + first;
-            let window = [start - 24, start - 24 + random.range(1, 10), start - 13];
-            for place in window.into_iter().chain(start - 1..start + count) {
-                if place >= 0 {
+        for day in days.clone() {
+            let start = book.place(day, 0) as i64 + first;
+            let mut places = vec![start - 24, start - 24 + random.range(1, 10), start - 13];
+            places.extend(start - 1..start + count);
+            if clock_change {
+                places.extend([start - 28, start - 20, start - 17, start - 9]);
+                places.extend((start - 5..start - 1).chain(start + count..start + count + 4));
+            }
+            for place in places {
+                if (0..book.quarters() as i64).contains(&place) {
                     book.readings[point][place as usize] =
                         if random.once_in(60) { MISSING } else { level + random.range(0, 40) as i32 };
                 }
@@ -856,7 +886,8 @@ fn fill(random: &mut Random, book: &mut Book, engaged: &[u16], from: u8) {
     }
     for &point in engaged {
         for day in from..=from + 3 {
-            if random.once_in(2) {
+            let fits = first + count <= book.day_lengths[day as usize] as i64;
+            if random.once_in(2) && fits {
                 let shift = random.range(0, count - 1) as u8;
                 book.engagements.push(Engagement {
                     point,

@@ -4,14 +4,14 @@ use crate::book::{Book, decode};
 use crate::refusal::{Refusal, refused};
 use crate::settle::{Quarter, settle_book};
 
-/// The sheet call: 96 numbers for each day of the month, or 1 to 9, 11, 10 with item 0.
+/// The sheet call: a number for each quarter-hour of the month, or 1 to 9, 11, 10 with item 0.
 pub fn sheet(bytes: &[u8], party: u16, sheet_length: usize) -> Result<Vec<i64>, Refusal> {
     let book = decode(bytes)?;
     let quarters = settle_book(&book)?;
     if !parties(&book).contains(&party) {
         return refused(11, 0);
     }
-    if sheet_length < 96 * book.month_days() {
+    if sheet_length < book.month_quarters() {
         return refused(10, 0);
     }
     let numbers = sheet_numbers(&book, &quarters, party);
@@ -29,7 +29,7 @@ pub fn parties(book: &Book) -> Vec<u16> {
 /// "A party's sheet has the sum of its corrections for each quarter-hour of the month"; "one party in both
 /// columns gets both".
 pub fn sheet_numbers(book: &Book, quarters: &[Quarter], party: u16) -> Vec<i128> {
-    let mut sheet = vec![0; 96 * book.month_days()];
+    let mut sheet = vec![0; book.month_quarters()];
     for quarter in quarters {
         let row = &book.register[quarter.point];
         let place = position(book, quarter) - 1;
@@ -43,15 +43,15 @@ pub fn sheet_numbers(book: &Book, quarters: &[Quarter], party: u16) -> Vec<i128>
     sheet
 }
 
-/// "Position is 96 (day - L) + q + 1."
+/// "Position is 96 (day - L) + q + 1"; C-12: "Positions count the quarter-hours that the month has."
 pub fn position(book: &Book, quarter: &Quarter) -> usize {
-    96 * (quarter.day - book.lead_days as usize) + quarter.quarter + 1
+    book.place(quarter.day, quarter.quarter) - book.place(book.lead_days as usize, 0) + 1
 }
 
 /// "The requested volume of a quarter-hour sums the requested watts, in grains, of the engagements that
 /// cover it, up less down."
 pub fn requested_volume(book: &Book, quarters: &[Quarter]) -> Vec<i128> {
-    let mut volume = vec![0; 96 * book.month_days()];
+    let mut volume = vec![0; book.month_quarters()];
     for quarter in quarters {
         let sign = if quarter.downward { -1 } else { 1 };
         volume[position(book, quarter) - 1] += sign * quarter.requested;

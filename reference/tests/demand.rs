@@ -37,7 +37,7 @@ fn all_files(book: &Book, bytes: &[u8]) -> Watts {
 
 /// Demand 3 of one accepted book.
 fn holds(book: &Book, bytes: &[u8], quarters: &[Quarter]) {
-    let positions = 96 * book.month_days();
+    let positions = book.month_quarters();
 
     let mut sum = vec![0i128; positions];
     for party in parties(book) {
@@ -77,17 +77,18 @@ fn holds(book: &Book, bytes: &[u8], quarters: &[Quarter]) {
 #[test]
 fn sheets_and_files_of_random_books() {
     let mut random = Random::new(6);
-    let (mut accepted, mut several) = (0, 0);
+    let (mut accepted, mut several, mut clock_changes) = (0, 0, 0);
     for _ in 0..400 {
         let bytes = random_book(&mut random).encode();
         let book = decode(&bytes).unwrap();
         if let Ok(quarters) = settle_book(&book) {
             accepted += 1;
             several += several_days(&book) as usize;
+            clock_changes += book.engagements.iter().any(|row| book.is_clock_change(row.day as usize)) as usize;
             holds(&book, &bytes, &quarters);
         }
     }
-    assert!(accepted > 100 && several > 50);
+    assert!(accepted > 100 && several > 50 && clock_changes > 10);
 }
 
 /// A point has engagements on more than one day, so that the balance is over baselines that step over the earlier ones.

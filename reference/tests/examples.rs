@@ -1,6 +1,7 @@
-//! Document 01's checked examples, the six "wrong though natural" ways told apart, and C-11's days.
+//! Document 01's checked examples, the six "wrong though natural" ways told apart, C-11's days and C-12's clock change.
 
 use reference::book::{Book, MISSING};
+use reference::calendar::{MONTHS, last_position};
 use reference::examples::*;
 use reference::program;
 use reference::refusal::Refusal;
@@ -151,12 +152,78 @@ fn first_and_count_96_pass_and_97_gives_7() {
     assert_eq!(refusal(&book), (7, 0));
 }
 
+/// C-12: "an otherwise good March book now passes", and one of any other month.
 #[test]
-fn march_always_gives_3() {
+fn every_month_passes() {
     for year in 2018..=2099 {
-        for lead_days in 1..=33 {
-            assert_eq!(refusal(&Book::plain(year, 3, lead_days, 1)), (3, 0));
+        for (month, lead_days) in MONTHS.into_iter().flat_map(|month| [1, 5, 33].map(|lead_days| (month, lead_days))) {
+            let book = Book::plain(year, month, lead_days, 1);
+            assert_eq!(settle(&book.encode(), 0), Ok(Vec::new()));
+            assert_eq!(book.month_quarters() as u64, last_position(year as i64, month as i64));
         }
+    }
+}
+
+/// C-12, told apart: with the reading that quarter-hours 8 and 12 look at counted once, day 34 would be taken.
+#[test]
+fn a_reading_looked_at_twice_counts_twice() {
+    let rows = rows(&looked_at_twice());
+    let baselines: Vec<i64> = rows.chunks(4).map(|four| four[0] / WATT).collect();
+    assert_eq!(baselines, [10, 0, 0, 0, 10]);
+}
+
+/// C-12: on a day of 92 "quarter-hours from 8 up look at the reference day's quarter-hour 4 later", so it may miss its 8 to 11.
+#[test]
+fn quarter_hour_8_of_a_day_of_92_looks_at_12() {
+    let mut book = month(2021, 3, 1, 1, 1, 1);
+    read(&mut book, 0, 27, 7, &[70, MISSING, MISSING, MISSING, MISSING, 500]);
+    engage(&mut book, 0, 28, 7, 2, 0, 100);
+    let baselines = rows(&book);
+    assert_eq!((baselines[0], baselines[4]), (70 * WATT, 500 * WATT));
+    read(&mut book, 0, 27, 12, &[MISSING]);
+    read(&mut book, 0, 26, 12, &[600]);
+    assert_eq!(rows(&book)[4], 600 * WATT);
+}
+
+/// C-12: the own window of 29 March 2021 counts the quarter-hours that passed, 68 to 79 of the 28th; that of the 27th has 72 to 83 of the 26th.
+#[test]
+fn own_window_over_the_day_of_92() {
+    let mut book = month(2021, 3, 1, 1, 1, 1);
+    book.register[0].method = 2;
+    read(&mut book, 0, 28, 0, &[1000; 92]);
+    read(&mut book, 0, 28, 68, &[120; 12]);
+    read(&mut book, 0, 26, 0, &[1000; 96]);
+    read(&mut book, 0, 26, 72, &[20; 12]);
+    engage(&mut book, 0, 29, 0, 1, 0, 100);
+    assert_eq!(rows(&book)[0], 100 * WATT);
+}
+
+/// C-12: day 0's window lies in the calendar from place 24 on: first 20 of a day of 92, first 28 of a day of 100.
+#[test]
+fn window_of_day_0_before_a_clock_change() {
+    for (year, number, day, first) in [(2021, 3, 28, 20), (2021, 10, 31, 28)] {
+        let mut book = month(year, number, 1, 1, 1, 1);
+        book.register[0].method = 2;
+        book.register[0].excluded_days = (1 << book.days()) - 2;
+        engage(&mut book, 0, day, first, 1, 0, 100);
+        assert!(settle(&book.encode(), 4).is_ok());
+        book.engagements[0].first -= 1;
+        assert_eq!(refusal(&book), (9, 0));
+    }
+}
+
+/// C-12: 31 March 2019 is day 0 and has 92 quarter-hours.
+#[test]
+fn notice_before_a_day_of_92() {
+    let mut book = month(2019, 4, 1, 1, 1, 1);
+    book.register[0].method = 0;
+    read(&mut book, 0, 0, 0, &[900]);
+    engage(&mut book, 0, 1, 0, 1, 0, 100);
+    book.engagements[0].notice = 91;
+    assert_eq!(rows(&book)[0], 900 * WATT);
+    for notice in 92..=96 {
+        book.engagements[0].notice = notice;
+        assert_eq!(refusal(&book), (8, 0));
     }
 }
 

@@ -12,14 +12,15 @@ use reference::settle_cases::random_book;
 use reference::sheet::sheet;
 use std::collections::BTreeSet;
 
-const LARGEST_ROWS: usize = 196_608;
-const LARGEST_SHEET: usize = 2_976;
-const LARGEST_FILES: [usize; 3] = [4_357_393, 4_352_273, 4_341_021];
+const LARGEST_BOOK: usize = 6_320_256;
+const LARGEST_ROWS: usize = 200_704;
+const LARGEST_SHEET: usize = 2_980;
+const LARGEST_FILES: [usize; 3] = [4_443_665, 4_438_545, 4_427_293];
 
-/// 256 points, each of its own partner and of one receiver, each with a whole day up and a whole day down of 10^9 W, at positions of four
-/// digits: every partner, series and observation that a book can have, each as long as it can be.
+/// October 2021, 33 lead days, 256 points, each of its own partner and of one receiver, each with the whole day of 100 quarter-hours up and a
+/// whole day down of 10^9 W, at positions of four digits: every partner, series and observation that a book can have, each as long as it can be.
 fn largest(kind: u8) -> Book {
-    let mut book = Book::plain(2021, 8, 1, 256);
+    let mut book = Book::plain(2021, 10, 33, 256);
     for (index, row) in book.register.iter_mut().enumerate() {
         let own = index as u64;
         (row.supplier, row.fsp) = match kind {
@@ -31,20 +32,14 @@ fn largest(kind: u8) -> Book {
         (row.supply, row.method) = (1, 0);
         (row.largest_up, row.largest_down) = (1_000_000_000, 1_000_000_000);
     }
-    let day = |day: usize| 96 * day..96 * (day + 1);
+    let days = [47, 62].map(|day| book.place(day, 0)..book.place(day + 1, 0));
     for point in 0..256 {
         let readings = &mut book.readings[point as usize];
-        readings[day(14)].fill(1_000_000_000);
-        readings[day(17)].fill(1_000_000_000);
-        for (day, direction) in [(15, 0), (17, 1)] {
-            book.engagements.push(Engagement {
-                point,
-                day,
-                count: 96,
-                direction,
-                requested: 1,
-                ..Engagement::default()
-            });
+        for day in days.clone() {
+            readings[day].fill(1_000_000_000);
+        }
+        for (day, count, direction) in [(47, 96, 1), (63, 100, 0)] {
+            book.engagements.push(Engagement { point, day, count, direction, requested: 1, ..Engagement::default() });
         }
     }
     book.lay_out();
@@ -57,6 +52,7 @@ fn largest_files() {
         let length = LARGEST_FILES[kind as usize - 1];
         let book = largest(kind);
         let bytes = book.encode();
+        assert_eq!(bytes.len(), LARGEST_BOOK);
         assert!(length <= enough(&book));
         let call = |file| file_call(&bytes, kind, receiver, &[b'x'; 36], CASE_F_MOMENT, LARGEST_ROWS, file);
         let filed = call(length).unwrap();

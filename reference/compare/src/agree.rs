@@ -6,7 +6,7 @@ use crate::lent::{Lent, Tally, near};
 use crate::quick;
 use reference::book::decode;
 use reference::message::{self, FileRead};
-use reference::message_cases::random_file;
+use reference::message_cases::{CLOCK_CHANGE_POSITIONS, random_file};
 use reference::random::Random;
 use reference::refusal::Refusal;
 use reference::series;
@@ -171,7 +171,8 @@ impl Comparison {
             let place = self.random.range(0, changed.len() as i64 - 1) as usize;
             let number = changed[place];
             let others = [number.wrapping_add(1), number.wrapping_sub(1), 0, 1, number ^ 1 << 40, u64::MAX];
-            changed[place] = self.random.pick(&others);
+            let position = place % 6 == 3 && self.random.once_in(2);
+            changed[place] = self.random.pick(if position { &CLOCK_CHANGE_POSITIONS } else { &others });
         }
         if self.random.once_in(10) {
             changed.pop();

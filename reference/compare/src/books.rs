@@ -1,6 +1,7 @@
 //! Random books, good and damaged, and damaged files.
 
 use reference::book::{Book, Choice, Engagement, MISSING};
+use reference::calendar::MONTHS;
 use reference::random::Random;
 use reference::settle_cases;
 
@@ -10,7 +11,7 @@ pub fn random_book(random: &mut Random) -> Book {
 
 /// A book with readings everywhere, whose points share access points, companies and parties.
 fn full_book(random: &mut Random) -> Book {
-    let month = random.pick(&[1, 2, 2, 6, 7, 8, 8, 9, 9, 12, 12, 4, 10]);
+    let month = random.pick(&MONTHS);
     let lead_days = if random.once_in(5) { random.range(1, 33) } else { random.range(3, 9) } as u8;
     let points = if random.once_in(40) { random.range(7, 30) } else { random.range(1, 5) } as u16;
     let mut book = Book::plain(random.range(2018, 2099) as u16, month, lead_days, points);
@@ -47,12 +48,13 @@ fn fill_point(random: &mut Random, book: &mut Book, point: usize) {
     for watts in &mut book.readings[point] {
         *watts = if random.once_in(3000) { MISSING } else { (level + random.range(0, spread)) as i32 };
     }
-    let mut day = book.lead_days as i64 + random.range(0, 4);
+    let mut day = first_day(random, book) + random.range(0, 4);
     while day < days as i64 && !random.once_in(4) {
-        let mut first = random.range(0, 95);
-        while first < 96 && !random.once_in(3) {
-            let most = if random.once_in(4) { 96 } else { 6 };
-            let count = random.range(1, most.min(96 - first));
+        let length = book.day_lengths[day as usize] as i64;
+        let mut first = random.range(0, length - 1);
+        while first < length && !random.once_in(3) {
+            let most = if random.once_in(4) { length } else { 6 };
+            let count = random.range(1, most.min(length - first));
             book.engagements.push(Engagement {
                 point: point as u16,
                 day: day as u8,
@@ -67,6 +69,14 @@ fn fill_point(random: &mut Random, book: &mut Book, point: usize) {
         }
         day += random.range(1, 9);
     }
+}
+
+/// The first settled day, or one shortly before the clock change.
+fn first_day(random: &mut Random, book: &Book) -> i64 {
+    let lead_days = book.lead_days as usize;
+    let change = (lead_days..book.days()).find(|&day| book.is_clock_change(day));
+    let near = change.filter(|_| random.once_in(2)).map_or(0, |day| day.saturating_sub(3));
+    near.max(lead_days) as i64
 }
 
 /// Another value near this byte, or any.
@@ -89,8 +99,12 @@ fn change_readings(random: &mut Random, bytes: &mut [u8], (start, length): (i64,
     }
 }
 
-/// The bytes of a book with some of them changed, cut off or added.
+/// The bytes of a book with some of them changed, cut off or added, now and then with 96 readings on every day.
 pub fn damaged_book(random: &mut Random, book: &Book) -> Vec<u8> {
+    let mut book = book.clone();
+    if random.once_in(20) {
+        book.resize_readings(96 * book.days());
+    }
     let mut bytes = book.encode();
     let section = |k: usize| (book.pairs[k].0 as i64, book.pairs[k].1 as i64);
     for _ in 0..random.range(1, 2) {

@@ -1,7 +1,7 @@
 //! A settling written for speed, to time the proved one against: it reads the lent book in place, judges all of
 //! it, and keeps the day sums of the point that it is at, so that a day's sum over any quarter-hours is one difference.
 
-use reference::calendar::{book_days, is_clock_change, month_length};
+use reference::calendar::{last_sunday, month_length};
 use reference::refusal::{Refusal, refused};
 use std::collections::HashMap;
 
@@ -21,10 +21,53 @@ fn u64_at(bytes: &[u8], at: usize) -> u64 {
     u64::from_le_bytes(bytes[at..at + 8].try_into().unwrap())
 }
 
+/// The clock-change day of a calendar, found once: its bit in a mask of days, where it starts and ends, and how many quarter-hours more than 96 it
+/// has. Without one the bit and the other numbers are 0.
+#[derive(Clone, Copy, Default)]
+struct Clock {
+    bit: u64,
+    start: usize,
+    end: usize,
+    more: isize,
+}
+
+/// The last Sunday of March or October lies in the calendars of its own month and of the next two, or in none.
+fn clock(year: i64, month: i64, lead: usize) -> Clock {
+    let Some((changing, more)) =
+        [(3, -4), (10, 4)].into_iter().find(|(changing, _)| (*changing..changing + 3).contains(&month))
+    else {
+        return Clock::default();
+    };
+    let since: i64 = (changing..month).map(|earlier| month_length(year, earlier)).sum();
+    match usize::try_from(lead as i64 + last_sunday(year, changing) - 1 - since) {
+        Ok(day) => Clock { bit: 1 << day, start: 96 * day, end: (96 * (day + 1)).wrapping_add_signed(more), more },
+        Err(_) => Clock::default(),
+    }
+}
+
+impl Clock {
+    fn day_start(self, day: usize) -> usize {
+        (96 * day).wrapping_add_signed(if 96 * day > self.start { self.more } else { 0 })
+    }
+
+    fn day_length(self, day: usize) -> usize {
+        96usize.wrapping_add_signed(if self.bit >> day & 1 == 1 { self.more } else { 0 })
+    }
+
+    /// Whether one of 12 quarter-hours from a place on lies on the clock-change day.
+    fn touched_from(self, place: usize) -> bool {
+        place < self.end && self.start < place + 12
+    }
+}
+
 /// A book whose layout is good, and its sections.
 struct Sections<'a> {
     lead: usize,
     days: usize,
+    clock: Clock,
+    /// The quarter-hours of the calendar, and the bytes of their readings.
+    quarters: usize,
+    point_bytes: usize,
     calendar: &'a [u8],
     pairs: &'a [u8],
     register: &'a [u8],
@@ -49,7 +92,10 @@ fn sections(book: &[u8]) -> Result<Sections<'_>, Refusal> {
         return refused(1, 0);
     }
     let days = lead + month_length(year as i64, month as i64) as usize;
-    let lengths = [days, 8, 64 * points, 384 * days * points, 16 * rows];
+    let clock = clock(year as i64, month as i64, lead);
+    let quarters = (96 * days).wrapping_add_signed(clock.more);
+    let point_bytes = 4 * quarters;
+    let lengths = [days, 8, 64 * points, point_bytes * points, 16 * rows];
     let mut parts: [&[u8]; 5] = [&[]; 5];
     let mut at = 56;
     for (k, length) in lengths.into_iter().enumerate() {
@@ -63,11 +109,8 @@ fn sections(book: &[u8]) -> Result<Sections<'_>, Refusal> {
     if at != book.len() {
         return refused(2, 0);
     }
-    if book_days(year as i64, month as i64, lead as i64).into_iter().any(is_clock_change) {
-        return refused(3, 0);
-    }
     let [calendar, pairs, register, readings, engagements] = parts;
-    Ok(Sections { lead, days, calendar, pairs, register, readings, engagements })
+    Ok(Sections { lead, days, clock, quarters, point_bytes, calendar, pairs, register, readings, engagements })
 }
 
 fn judge_tables(s: &Sections) -> Result<(), Refusal> {
@@ -112,7 +155,7 @@ fn out_of_range(bytes: &[u8]) -> bool {
 
 fn judge_readings(s: &Sections) -> Result<(), Refusal> {
     let bad = |point: &[u8]| point.chunks_exact(4).fold(false, |bad, four| bad | out_of_range(four));
-    match s.readings.chunks_exact(384 * s.days).position(bad) {
+    match s.readings.chunks_exact(s.point_bytes).position(bad) {
         Some(point) => refused(6, point),
         None => Ok(()),
     }
@@ -147,7 +190,7 @@ fn judge_engagements(s: &Sections) -> Result<(), Refusal> {
         let good = e.point < s.register.len() / 64
             && (s.lead..s.days).contains(&e.day)
             && e.count >= 1
-            && e.first + e.count <= 96
+            && e.first + e.count <= s.clock.day_length(e.day)
             && row[5] <= 1
             && e.notice <= 96
             && row[7] == 0
@@ -200,10 +243,35 @@ fn engaged_days(s: &Sections) -> Vec<u64> {
     engaged
 }
 
+/// What an engagement's quarter-hours look at on a reference day: `count` from quarter-hour `from` on, and after them `rest` from `then` on.
+struct Looked {
+    from: usize,
+    count: usize,
+    then: usize,
+    rest: usize,
+}
+
+/// On a day of 92 quarter-hours from 8 up look 4 later, on a day of 100 those from 12 up 4 earlier.
+fn looked(s: &Sections, e: &Engagement) -> Looked {
+    let (edge, shift) = match s.clock.day_length(e.day) {
+        92 => (8, 4),
+        100 => (12, -4),
+        _ => (usize::MAX, 0),
+    };
+    let below = edge.saturating_sub(e.first).min(e.count);
+    let then = (e.first + below).wrapping_add_signed(shift);
+    if below == 0 {
+        Looked { from: then, count: e.count, then, rest: 0 }
+    } else {
+        Looked { from: e.first, count: below, then, rest: e.count - below }
+    }
+}
+
 /// The X reference days; none if fewer than Y are eligible. The bits of `mask` are those of the days that can't be.
 fn reference_days(
     s: &Sections,
     e: &Engagement,
+    looked: &Looked,
     mask: u64,
     adjusted: bool,
     sums: &DaySums,
@@ -213,13 +281,15 @@ fn reference_days(
     let mut ranked = [(0i64, 0usize); 20];
     let mut found = 0;
     for day in (0..e.day).rev() {
-        let start = 96 * day + e.first;
+        let start = s.clock.day_start(day);
+        let (from, then) = (start + looked.from, start + looked.then);
         let eligible = s.calendar[day] == s.calendar[e.day]
             && mask >> day & 1 == 0
-            && sums.complete(start, e.count)
-            && (!adjusted || start >= 24 && sums.complete(start - 24, 12));
+            && sums.complete(from, looked.count)
+            && sums.complete(then, looked.rest)
+            && (!adjusted || from >= 24 && sums.complete(from - 24, 12) && !s.clock.touched_from(from - 24));
         if eligible {
-            ranked[found] = (sums.sum(start, e.count), day);
+            ranked[found] = (sums.sum(from, looked.count) + sums.sum(then, looked.rest), day);
             found += 1;
             if found == y {
                 break;
@@ -237,24 +307,32 @@ fn reference_days(
     Some(days)
 }
 
-/// The rows of one engagement, into `out`; the refusal's number where it is refused.
+/// Adds the readings from a place on, one to each.
+fn add_readings(bases: &mut [i64], readings: &[u8], from: usize) {
+    let theirs = &readings[4 * from..4 * (from + bases.len())];
+    for (base, four) in bases.iter_mut().zip(theirs.chunks_exact(4)) {
+        *base += i32::from_le_bytes(four.try_into().unwrap()) as i64;
+    }
+}
+
+/// The baselines of one engagement, into `bases`; the refusal's number where it is refused.
 fn settle_engagement(
     s: &Sections,
     e: &Engagement,
     engaged: u64,
     sums: &DaySums,
-    bases: &mut [i64; 96],
+    bases: &mut [i64; 100],
 ) -> Result<(), u8> {
     let row = &s.register[64 * e.point..64 * e.point + 64];
     let method = row[54];
-    let readings = &s.readings[384 * s.days * e.point..384 * s.days * (e.point + 1)];
-    let start = 96 * e.day + e.first;
+    let readings = &s.readings[s.point_bytes * e.point..s.point_bytes * (e.point + 1)];
+    let start = s.clock.day_start(e.day) + e.first;
     let bases = &mut bases[..e.count];
     if !sums.complete(start, e.count) {
         return Err(8);
     }
     if method == 0 {
-        let place = (start + 96).checked_sub(e.notice + 1 + 96).ok_or(8)?;
+        let place = start.checked_sub(e.notice + 1).ok_or(8)?;
         let watts = reading(readings, place);
         if watts == MISSING {
             return Err(8);
@@ -268,15 +346,16 @@ fn settle_engagement(
     }
     let category = s.calendar[e.day] as usize;
     let (x, y) = (s.pairs[2 * category] as usize, s.pairs[2 * category + 1] as usize);
-    let days = reference_days(s, e, u64_at(row, 32) | engaged, adjusted, sums, x, y).ok_or(9)?;
+    let looked = looked(s, e);
+    let mask = u64_at(row, 32) | engaged | s.clock.bit;
+    let days = reference_days(s, e, &looked, mask, adjusted, sums, x, y).ok_or(9)?;
     bases.fill(0);
     let mut windows = 0;
     for &day in &days[..x] {
-        let from = 96 * day + e.first;
-        let theirs = &readings[4 * from..4 * (from + e.count)];
-        for (base, four) in bases.iter_mut().zip(theirs.chunks_exact(4)) {
-            *base += i32::from_le_bytes(four.try_into().unwrap()) as i64;
-        }
+        let day_start = s.clock.day_start(day);
+        let from = day_start + looked.from;
+        add_readings(&mut bases[..looked.count], readings, from);
+        add_readings(&mut bases[looked.count..], readings, day_start + looked.then);
         if adjusted {
             windows += sums.sum(from - 24, 12);
         }
@@ -292,7 +371,7 @@ fn settle_engagement(
 
 fn write_rows(s: &Sections, e: &Engagement, bases: &[i64], out: &mut [i64]) {
     let row = &s.register[64 * e.point..64 * e.point + 64];
-    let from = 384 * s.days * e.point + 4 * (96 * e.day + e.first);
+    let from = s.point_bytes * e.point + 4 * (s.clock.day_start(e.day) + e.first);
     let own = &s.readings[from..from + 4 * e.count];
     let most = u32_at(row, if e.down { 44 } else { 40 }) as i64 * GRAINS_PER_WATT;
     let requested = e.requested as i64 * GRAINS_PER_WATT;
@@ -318,13 +397,13 @@ pub fn settle(book: &[u8], rows: &mut [i64]) -> Result<usize, Refusal> {
     // A refusal changes no buffer: where the rows might not be filled, they are filled apart.
     let mut apart = vec![0; 4 * count];
     let engaged = engaged_days(&s);
-    let mut sums = DaySums { sums: vec![0; 96 * s.days + 1] };
-    let mut bases = [0; 96];
+    let mut sums = DaySums { sums: vec![0; s.quarters + 1] };
+    let mut bases = [0; 100];
     let (mut at, mut kept) = (0, usize::MAX);
     for (index, row) in s.engagements.chunks_exact(16).enumerate() {
         let e = engagement(row);
         if e.point != kept {
-            sums.keep(&s.readings[384 * s.days * e.point..384 * s.days * (e.point + 1)]);
+            sums.keep(&s.readings[s.point_bytes * e.point..s.point_bytes * (e.point + 1)]);
             kept = e.point;
         }
         if let Err(number) = settle_engagement(&s, &e, engaged[e.point], &sums, &mut bases) {

@@ -7,9 +7,10 @@ use reference::refusal::Refusal;
 use reference::settle;
 use std::time::Instant;
 
-/// What a timed book has: engagements of one method, count and X and Y, on 64 days.
+/// What a timed book has: engagements of one method, count and X and Y, on 64 days up to the end of a month.
 #[derive(Clone, Copy)]
 struct Shape {
+    month: (u16, u8),
     points: u16,
     engagements: u16,
     method: u8,
@@ -17,13 +18,13 @@ struct Shape {
 }
 
 /// The largest settling.
-const LARGEST: Shape = Shape { points: 256, engagements: 512, method: 2, count: 48 };
+const LARGEST: Shape = Shape { month: (2021, 8), points: 256, engagements: 512, method: 2, count: 48 };
 
-/// A book of August 2021 with 33 lead days, X 10 and Y 20.
+/// A book with 33 lead days, X 10 and Y 20.
 fn month(seed: u64, shape: Shape) -> Book {
-    let Shape { points, engagements, method, count } = shape;
+    let Shape { month: (year, month), points, engagements, method, count } = shape;
     let mut random = Random::new(seed);
-    let mut book = Book::plain(2021, 8, 33, points);
+    let mut book = Book::plain(year, month, 33, points);
     book.choices = vec![Choice { x: 10, y: 20 }; 4];
     for row in &mut book.register {
         (row.supplier, row.fsp, row.method) = (3, 7, method);
@@ -34,7 +35,8 @@ fn month(seed: u64, shape: Shape) -> Book {
         *watts = random.range(-200_000, 1_000_000) as i32;
     }
     for (point, day) in places(&mut random, points, engagements) {
-        let (first, direction) = (random.range(0, 96 - count as i64) as u8, random.range(0, 1) as u8);
+        let latest = book.day_lengths[day as usize] as i64 - count as i64;
+        let (first, direction) = (random.range(0, latest) as u8, random.range(0, 1) as u8);
         let requested = random.range(1, 500_000) as u32;
         book.engagements.push(Engagement { point, day, first, count, direction, requested, ..Engagement::default() });
     }
@@ -184,6 +186,10 @@ pub fn run() {
     let shapes = [Shape { method: 0, ..LARGEST }, Shape { method: 1, ..LARGEST }, Shape { points: 64, ..LARGEST }];
     for (what, book) in others.into_iter().zip(timed(shapes.into_iter().map(|shape| (1, shape)), in_turn)) {
         book.print(what, "");
+    }
+    println!("the same in October 2023, whose 29th has 100 quarter-hours");
+    for book in timed([(1, Shape { month: (2023, 10), ..LARGEST })].into_iter(), in_turn) {
+        book.print("book 1", "");
     }
     let growths = [
         doubling("points", 32, |points| Shape { points, ..LARGEST }),
