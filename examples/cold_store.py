@@ -15,8 +15,8 @@ LIBRARY = os.path.join(os.path.dirname(__file__), "../target/staticlib/libtoe.so
 
 GRAINS_PER_WATT = 30_240
 # Long enough for any book.
-ROWS_LARGEST = 196_608
-FILE_LARGEST = 4_680_238
+ROWS_LARGEST = 204_800
+FILE_LARGEST = 4_856_366
 
 LEAD_DAYS = 1
 DAYS = LEAD_DAYS + 30

@@ -19,9 +19,9 @@ use Rattle.book.specs.declared.Engagement.{Engagement}
 use Rattle.book.specs.declared.Point.{Point}
 use Rattle.book.specs.declared.Method.{Method}
 use Rattle.book.specs.declared.Method.the-variants.{LastQuarter, HighXOfY, Adjusted}
-use Rattle.quarters.specs.Quarters.{originOf}
+use Rattle.quarters.specs.Quarters.{dayStart, originOf}
 use Rattle.book.specs.Book.{Book}
-use Rattle.volumes.specs.Quarters.{start, reference}
+use Rattle.volumes.specs.Quarters.{start, referenceQuarter, reference}
 use Rattle.volumes.specs.Baseline.{pointOf, watts, known, complete, mean, dayReading, dayWindow, ownWindow, lastReading, taken, high, addend, baselineBy, baseline, eligibleDays, yOf}
 use Rattle.volumes.specs.BaselineLaws.{window-12}
 use Rattle.volumes.specs.Settlement.{tooFew}
@@ -30,7 +30,8 @@ use Rattle.volumes.specs.UsedLaws.{high-complete, windows-complete, own-window-
 use Rattle.baseline.specs.declared.shown.Shown.{Shown}
 use Rattle.baseline.specs.ShownInner.{Fits, beforeIn, windowIn}
 use Rattle.baseline.specs.ShownLaws.{own-window, before-at, start-at, stands, stands-on}
-use Rattle.baseline.specs.RunsInner.{daysIn, dayRuns, Lies, Lie}
+use Rattle.baseline.specs.RunsInner.{daysIn, dayRuns, Starts, Lies, Lie}
+use Rattle.baseline.specs.RunsLaws.{start-of}
 use Rattle.baseline.specs.LevelsInner.{Lasts, Adds}
 use Rattle.baseline.specs.LevelsLaws.{quarter-runs, window-runs, window-inside}
 use Rattle.baseline.specs.RanksInner.{RankedTo}
@@ -40,7 +41,6 @@ use Rattle.baseline.specs.NeedsInner.{looksBack}
 use Rattle.baseline.specs.FillsInner.{Raises, Added}
 use Rattle.baseline.specs.FilledInner.{Unrefused}
 use Rattle.integers.specs.AllLaws.{all-at}
-use Rattle.quarters.specs.QuartersInner.{longestDay}
 use Rattle.wire.specs.ReadingsInner.{raise}
 use Rattle.integers.specs.ListsLaws.{length-flatMap}
 
@@ -131,32 +131,33 @@ module _ {shown : Shown} {calendar readings : List ℕ} {book : Book} (s : Unref
       let day : getD (daysIn keys (shown .x)) j 0 ≡ getD keys j 0 % 64 = List·getD-map (λ k. k % 64) (take (shown .x) keys) j 0 ∙ ap (λ (k : ℕ). k % 64) (getD-take (shown .x) keys j 0 i) in
       subst (Serves book (shown .e)) day (all-at (Serves book (shown .e)) (daysIn keys (shown .x)) j 0 (rw (t .days) (t .each)) (omega (arith, length-map (take (shown .x) keys) (λ k. k % 64), length-take (shown .x) keys)))
 
-  lie-of : (keys : List ℕ) → Fits shown calendar readings → Took book (shown .e) keys (shown .x) → shown .x ≤ 10 → shown .x ≤ length keys → (k back n : ℕ) → k ≤ longestDay → n ≤ 12
-      → ((d : ℕ) → Serves book (shown .e) d → Lies readings (shown .c) (shown .e) (originOf (shown .c) (shown .e .point)) k back n d) → Lie readings keys (shown .c) (shown .e) (originOf (shown .c) (shown .e .point)) k back n (shown .x)
-  lie-of keys f t few room k back n h short lies =
+  lie-of : (keys starts : List ℕ) → Fits shown calendar readings → Took book (shown .e) keys (shown .x) → shown .x ≤ 10 → shown .x ≤ length keys → Starts (shown .c) keys starts (shown .x) → (place back n : ℕ) → n ≤ 12
+      → ((d : ℕ) → Serves book (shown .e) d → Lies readings (originOf (shown .c) (shown .e .point)) place back n (dayStart (shown .c) d)) → Lie readings starts (originOf (shown .c) (shown .e .point)) place back n (shown .x)
+  lie-of keys starts f t few room begin place back n short lies =
       record {
         start = stands shown calendar readings f .origin;
-        quarter = h;
         short = short;
         few = few;
-        some = room;
-        lies = λ j i. lies (getD keys j 0 % 64) (serves-at keys t room j i);
+        some = begin .some;
+        lies = λ j i. rw (start-of begin room j i) (lies (getD keys j 0 % 64) (serves-at keys t room j i));
       }
 
-  pub lie-quarters : (keys : List ℕ) → Fits shown calendar readings → Took book (shown .e) keys (shown .x) → shown .x ≤ 10 → shown .x ≤ length keys → (k : ℕ) → k < shown .e .count → Lie readings keys (shown .c) (shown .e) (originOf (shown .c) (shown .e .point)) k 0 1 (shown .x)
-  lie-quarters keys f t few room k h =
+  pub lie-quarters : (keys starts : List ℕ) → Fits shown calendar readings → Took book (shown .e) keys (shown .x) → shown .x ≤ 10 → shown .x ≤ length keys → Starts (shown .c) keys starts (shown .x) → (k : ℕ) → k < shown .e .count → Lie readings starts (originOf (shown .c) (shown .e .point)) (referenceQuarter (shown .c) (shown .e .day) (shown .e .first + k)) 0 1 (shown .x)
+  unfolding reference
+  lie-quarters keys starts f t few room begin k h =
       let own = stands shown calendar readings f in
-      lie-of keys f t few room k 0 1 (omega (arith, own .many)) (omega arith)
-      (λ d v. let m = stands-on shown calendar readings d f (v .early) .each k h in record { early = v .small; inside = omega (arith, own .few); from = omega arith; room = omega (arith, own .roomy) })
+      lie-of keys starts f t few room begin (referenceQuarter (shown .c) (shown .e .day) (shown .e .first + k)) 0 1 (omega arith)
+      (λ d v. let m = stands-on shown calendar readings d f (v .early) .each k h in record { inside = omega (arith, own .few); from = omega arith; room = omega (arith, own .roomy) })
 
-  pub lie-windows : (keys : List ℕ) → Fits shown calendar readings → Took book (shown .e) keys (shown .x) → shown .x ≤ 10 → shown .x ≤ length keys → shown .point .method ≡ Adjusted → Lie readings keys (shown .c) (shown .e) (originOf (shown .c) (shown .e .point)) 0 24 12 (shown .x)
-  lie-windows keys f t few room w =
+  pub lie-windows : (keys starts : List ℕ) → Fits shown calendar readings → Took book (shown .e) keys (shown .x) → shown .x ≤ 10 → shown .x ≤ length keys → Starts (shown .c) keys starts (shown .x) → shown .point .method ≡ Adjusted → Lie readings starts (originOf (shown .c) (shown .e .point)) (referenceQuarter (shown .c) (shown .e .day) (shown .e .first + 0)) 24 12 (shown .x)
+  unfolding reference
+  lie-windows keys starts f t few room begin w =
       let own = stands shown calendar readings f in
-      lie-of keys f t few room 0 24 12 (omega arith) (omega arith)
+      lie-of keys starts f t few room begin (referenceQuarter (shown .c) (shown .e .day) (shown .e .first + 0)) 24 12 (omega arith)
       (λ d v.
-      let m = stands-on shown calendar readings d f (v .early) .run in
+      let m = stands-on shown calendar readings d f (v .early) .each 0 (f .some) in
       let q = window-inside (s .shows) d w (v .good) in
-      record { early = v .small; inside = omega (arith, own .few); from = q; room = omega (arith, own .roomy) })
+      record { inside = omega (arith, own .few); from = q; room = omega (arith, own .roomy) })
 
   -- methods 1 and 2 together
   pub by-days : (keys : List ℕ) (k add r : ℕ) (m : Method) → shown .point .method ≡ m → looksBack m ≡ true → Took book (shown .e) keys (shown .x) → k < shown .e .count

@@ -13,6 +13,7 @@ use Rattle.quarters.specs.declared.Calendar.{Calendar}
 use Rattle.book.specs.declared.Engagement.{Engagement}
 use Rattle.book.specs.declared.Method.{Method}
 use Rattle.book.specs.declared.Method.the-variants.{HighXOfY, Adjusted}
+use Rattle.volumes.specs.Quarters.{referenceQuarter}
 use Rattle.volumes.specs.Baseline.{watts, complete}
 use Rattle.baseline.specs.RunsInner.{Lie}
 use Rattle.baseline.specs.LevelsInner.{Adds}
@@ -30,11 +31,11 @@ pub record FillsLevels (holds : ℕ → ℕ → Type 0) (n : ℕ) (before after 
 
 -- what each quarter-hour of the days needs to be read
 abbrev pub LieAll : List ℕ → List ℕ → Calendar → Engagement → ℕ → ℕ → Type 0
-LieAll readings keys c e origin x = (k : ℕ) → k < e .count → Lie readings keys c e origin k 0 1 x
+LieAll readings starts c e origin x = (k : ℕ) → k < e .count → Lie readings starts origin (referenceQuarter c (e .day) (e .first + k)) 0 1 x
 
 -- what the days' windows need, where method 2 looks at them
-abbrev pub Adding : Method → List ℕ → List ℕ → Calendar → Engagement → ℕ → ℕ → Type 0
-Adding method readings keys c e origin x = method ≡ Adjusted → Lie readings keys c e origin 0 24 12 x
+abbrev pub Adding : Method → List ℕ → List ℕ → ℕ → ℕ → ℕ → Type 0
+Adding method readings starts origin place x = method ≡ Adjusted → Lie readings starts origin place 24 12 x
 
 -- method 2's addend; method 1 adds nothing
 pub record Added (method : Method) (own days : List Reading) (x r : ℕ) : Type 0 where

@@ -13,14 +13,15 @@ use Rattle.wire.specs.declared.Reading.{Reading}
 use Rattle.wire.specs.declared.Reading.the-variants.{Missing}
 use Rattle.quarters.specs.declared.Calendar.{Calendar}
 use Rattle.book.specs.declared.Engagement.{Engagement}
-use Rattle.quarters.specs.Quarters.{quarters, dayStart, quartersOf, originOf}
-use Rattle.quarters.specs.QuartersLaws.{days-few, quarters-few, origin-few}
+use Rattle.quarters.specs.Quarters.{daysOf, quartersOf, originOf}
+use Rattle.quarters.specs.QuartersLaws.{quarters-most, day-start-next, day-start-mono, days-few, quarters-few, origin-few}
 use Rattle.book.specs.Book.{Book}
-use Rattle.volumes.specs.Quarters.{quarterHours, start, referenceQuarter, reference}
+use Rattle.volumes.specs.Quarters.{quarterHours, start, reference}
 use Rattle.volumes.specs.Baseline.{readingBefore, window, ownReading, dayReading, dayReadings, ownWindow, dayWindow, known, complete}
 use Rattle.baseline.specs.declared.shown.Shown.{Shown}
 use Rattle.baseline.specs.TallyInner.{inRun}
-use Rattle.baseline.specs.RunsInner.{standing}
+use Rattle.baseline.specs.RunsInner.{standing, StandsOn}
+use Rattle.baseline.specs.RunsLaws.{stands-runs}
 use Rattle.baseline.specs.ShownInner.{Shows, Fits, beforeIn, windowIn}
 use Rattle.integers.specs.RangesLaws.{range-shift}
 use Rattle.quarters.specs.QuartersInner.{longestDay, longestCalendar, farthestOrigin}
@@ -102,31 +103,21 @@ pub record DayStands (c : Calendar) (e : Engagement) (room : ℕ) : Type 0 where
   pub roomy : 4 * (originOf c (e .point) + quartersOf c) ≤ room
 
 pub stands : (shown : Shown) (calendar readings : List ℕ) → Fits shown calendar readings → DayStands (shown .c) (shown .e) (length readings)
-unfolding start dayStart quarters
+unfolding start
 stands shown calendar readings f =
     let c = shown .c in
+    let d = shown .e .day in
     let n = days-few c (f .ranged) in
     let q = f .quarter in
-    let d = f .day in
     record {
-      many = omega arith;
-      early = omega arith;
-      inside = omega arith;
+      many = omega (arith, quarters-most c d);
+      early = omega (arith, f .day);
+      inside = omega (arith, day-start-next c d, day-start-mono c (suc d) (daysOf c) (f .day));
       few = quarters-few c (f .ranged);
       origin = origin-few c (shown .e .point) (f .ranged) (f .few);
       roomy = f .room;
     }
 
--- and those that stand for them on a day before, in one run
-pub record StandsOn (c : Calendar) (e : Engagement) (d : ℕ) : Type 0 where
-  pub early : d < 64
-  pub each : (k : ℕ) → k < e .count → reference c e d k < quartersOf c
-  pub run : reference c e d 0 + e .count ≤ quartersOf c
-
+-- and those that stand for them on a day before
 pub stands-on : (shown : Shown) (calendar readings : List ℕ) (d : ℕ) → Fits shown calendar readings → d < shown .e .day → StandsOn (shown .c) (shown .e) d
-unfolding reference referenceQuarter dayStart quarters
-stands-on shown calendar readings d f h =
-    let n = days-few (shown .c) (f .ranged) in
-    let q = f .quarter in
-    let b = f .day in
-    record { early = omega arith; each = λ k l. omega arith; run = omega arith }
+stands-on shown calendar readings d f h = stands-runs (shown .c) (shown .e) d (f .day) (days-few (shown .c) (f .ranged) .1) (f .quarter) h

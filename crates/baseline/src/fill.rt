@@ -7,14 +7,15 @@ ghost use mathlib.Core.Path.{_≡_};
 ghost use mathlib.Core.Bool.{true, false};
 ghost use mathlib.Core.List.{_++_};
 ghost use Prim.Native.Nat.{_+_, _*_, _≤_};
-ghost use lib.ListN.{length, drop, replicate};
+ghost use lib.ListN.{length, take, drop, replicate};
 ghost use Rattle.grains.specs.Grains.{grains};
 ghost use Rattle.baseline.specs.ShownInner.{windowIn};
-ghost use Rattle.baseline.specs.RunsInner.{daysIn, dayRuns};
+ghost use Rattle.baseline.specs.RunsInner.{startRuns};
 ghost use Rattle.baseline.specs.NeedsInner.{looksBack};
 ghost use Rattle.baseline.specs.FilledInner.{Accepts, LevelsFilled};
 ghost use Rattle.baseline.specs.FillsInner.{Raises, FillsLevels, LieAll, Adding, Added};
-ghost use Rattle.quarters.specs.QuartersInner.{longestCalendar};
+ghost use Rattle.quarters.specs.QuartersInner.{longestDay, longestCalendar};
+ghost use Rattle.volumes.specs.Quarters.{referenceQuarter};
 ghost use Rattle.wire.specs.ReadingsInner.{raise};
 
 // One level for all quarter-hours.
@@ -29,24 +30,25 @@ fn fill_flat(levels: &mut [u64], n: usize, level: u64)
     }
 }
 
-// The mean of each quarter-hour over the x days that the keys tell, and an addend.
+// The mean of what stands for each quarter-hour on the first x days, and an addend.
 fn fill_means(
     c: Calendar,
     readings: &[u8],
-    keys: &[u64],
+    starts: &[u64],
     x: usize,
     origin: usize,
     e: Engagement,
     add: u64,
     levels: &mut [u64],
 )
-    requires { ⌜ LieAll (now readings) (now keys) c e origin x × (1 ≤ x) × (add ≤ grains (4 * raise)) × (e .count ≤ length (now levels)) ⌝ }
-    ensures { λ r. ⌜ FillsLevels (λ k. Raises (dayRuns (now (readings .entry)) c e origin k 0 1 (daysIn (now (keys .entry)) x)) x add) (e .count) (now (levels .entry)) (now (levels .exit)) ⌝ }
+    requires { ⌜ LieAll (now readings) (now starts) c e origin x × (1 ≤ x) × (add ≤ grains (4 * raise)) × (e .count ≤ longestDay) × (e .count ≤ length (now levels)) ⌝ }
+    ensures { λ r. ⌜ FillsLevels (λ k. Raises (startRuns (now (readings .entry)) origin (referenceQuarter c (e .day) (e .first + k)) 0 1 (take x (now (starts .entry)))) x add) (e .count) (now (levels .entry)) (now (levels .exit)) ⌝ }
 {
     let n = e.count as usize;
     let mut k = 0;
     while k < n {
-        let mean = crate::levels::mean_level(c, readings, keys, x, origin, e, k);
+        let place = crate::days::reference_quarter(c, e, k);
+        let mean = crate::levels::mean_level(readings, starts, x, origin, place);
         levels[k] = mean + add;
         k += 1;
     }
@@ -54,22 +56,21 @@ fn fill_means(
 
 // What methods 1 and 2 add to a mean, and two raises.
 fn addend_of(
-    c: Calendar,
     readings: &[u8],
-    keys: &[u64],
+    starts: &[u64],
     x: usize,
     origin: usize,
-    e: Engagement,
+    place: usize,
     q: usize,
     method: Method,
 ) -> u64
-    requires { ⌜ Adding method (now readings) (now keys) c e origin x × (1 ≤ x) × (q ≤ longestCalendar) × (4 * (origin + q) ≤ length (now readings)) ⌝ }
-    ensures { λ r. ⌜ Added method (windowIn (now (readings .entry)) origin q) (dayRuns (now (readings .entry)) c e origin 0 24 12 (daysIn (now (keys .entry)) x)) x r ⌝ }
+    requires { ⌜ Adding method (now readings) (now starts) origin place x × (1 ≤ x) × (q ≤ longestCalendar) × (4 * (origin + q) ≤ length (now readings)) ⌝ }
+    ensures { λ r. ⌜ Added method (windowIn (now (readings .entry)) origin q) (startRuns (now (readings .entry)) origin place 24 12 (take x (now (starts .entry)))) x r ⌝ }
 {
     match method {
         Method::LastQuarter => crate::levels::lift(),
         Method::HighXOfY => crate::levels::lift(),
-        Method::Adjusted => crate::levels::addend_level(c, readings, keys, x, origin, e, q),
+        Method::Adjusted => crate::levels::addend_level(readings, starts, x, origin, place, q),
     }
 }
 
@@ -84,11 +85,14 @@ fn fill_days(shown: Shown, calendar: &[u8], readings: &[u8], levels: &mut [u64])
     let x = shown.x;
     let mut keys = [0u64; 20];
     crate::ranking::rank_days(shown, calendar, readings, &mut keys);
+    let mut starts = [0u64; 10];
+    crate::means::start_days(c, &keys, x, &mut starts);
     let origin = quarters::origin_of(c, e.point);
     let q = quarters::in_calendar(c, e.day, e.first);
+    let place = crate::days::reference_quarter(c, e, 0);
     let method = point.method;
-    let add = addend_of(c, readings, &keys, x, origin, e, q, method);
-    fill_means(c, readings, &keys, x, origin, e, add, levels);
+    let add = addend_of(readings, &starts, x, origin, place, q, method);
+    fill_means(c, readings, &starts, x, origin, e, add, levels);
 }
 
 // Method 0: one reading for all quarter-hours.

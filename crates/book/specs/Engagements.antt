@@ -58,7 +58,8 @@ engagementRow engagements i = rowAt engagementWidth engagements i
 abbrev pub engagementAt : List ℕ → ℕ → Engagement
 engagementAt engagements i = engagementOf (engagementRow engagements i)
 
--- "point index u16 (below P)", "Days are settled days.", "first quarter-hour (0 to 95), count (1 or more, first + count at most 96)"
+-- "point index u16 (below P)", "Days are settled days.", "count (1 or more ..)"; by the day's number of quarter-hours "first is below that number, and first + count
+-- at most it"
 unfoldable pub placeGood : Calendar → ℕ → List ℕ → Bool
 placeGood c points row =
     ltb (pointIn row) points

@@ -5,6 +5,7 @@ use Prim.Native.Nat.{ℕ, suc, _+_, _*_}
 use lib.Dec.{eqb, leb}
 use lib.ListN.{length, take, drop}
 use Rattle.wire.specs.Numbers.{numberAt}
+use Rattle.calendar.specs.Clocks.{clockOf}
 use Rattle.quarters.specs.declared.Calendar.{Calendar}
 use Rattle.quarters.specs.Quarters.{daysOf, quartersOf}
 
@@ -13,7 +14,13 @@ abbrev pub version : List ℕ → ℕ
 version book = numberAt book 0 2
 
 abbrev pub calendarOf : List ℕ → Calendar
-calendarOf book = record { year = numberAt book 2 2; month = numberAt book 4 1; lead = numberAt book 5 1 }
+calendarOf book =
+    record {
+      year = numberAt book 2 2;
+      month = numberAt book 4 1;
+      lead = numberAt book 5 1;
+      clock = clockOf (numberAt book 2 2) (numberAt book 4 1) (numberAt book 5 1);
+    }
 
 abbrev pub pointCount : List ℕ → ℕ
 pointCount book = numberAt book 6 2

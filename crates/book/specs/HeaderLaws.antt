@@ -113,7 +113,7 @@ headed book e =
     let points = both (leb 1 (pointCount book)) (leb (pointCount book) 256) (f₆ .0) in
     record {
       long = leb-true 56 (length book) (f₁ .0);
-      ranged = record { from = leb-true 2018 (c .year) (year .0); to = leb-true (c .year) 2099 (year .1); january = leb-true 1 (c .month) (month .0); december = leb-true (c .month) 12 (month .1); some = leb-true 1 (c .lead) (lead .0); few = leb-true (c .lead) 33 (lead .1) };
+      ranged = record { from = leb-true 2018 (c .year) (year .0); to = leb-true (c .year) 2099 (year .1); january = leb-true 1 (c .month) (month .0); december = leb-true (c .month) 12 (month .1); some = leb-true 1 (c .lead) (lead .0); few = leb-true (c .lead) 33 (lead .1); clock = refl };
       points = leb-true (pointCount book) 256 (points .1);
       some = leb-true 1 (pointCount book) (points .0);
       rows = leb-true (engagementCount book) 512 (f₇ .0);

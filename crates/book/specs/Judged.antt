@@ -1,9 +1,8 @@
 -- Refusals 1 to 7 of a book's bytes, in the order of document 01, "What is sent back".
-use mathlib.Core.Bool.{Bool, not, _&&_}
+use mathlib.Core.Bool.{_&&_}
 use mathlib.Core.List.{List}
 use mathlib.Core.Option.{Option, none}
 use Prim.Native.Nat.{ℕ}
-use Rattle.calendar.specs.Dates.{hasClockChange}
 use Rattle.integers.specs.First.{first}
 use Rattle.refusals.specs.Refusals.{Refusal, unless, unlessFound}
 use Rattle.quarters.specs.declared.Calendar.{Calendar}
@@ -13,10 +12,6 @@ use Rattle.book.specs.Tables.{calendarGood, tableGood}
 use Rattle.book.specs.Register.{badPoint}
 use Rattle.book.specs.Metering.{firstBadReading}
 use Rattle.book.specs.Engagements.{badEngagement}
-
--- "a clock-change day in the calendar"
-abbrev pub clockChangeIn : Calendar → Bool
-clockChangeIn c = hasClockChange (c .year) (c .month) (c .lead)
 
 -- "first bad register row", "first reading out of range", "first bad engagement": of so many points and engagements
 unfoldable pub rowsRefusal : Calendar → ℕ → ℕ → List ℕ → List ℕ → List ℕ → Option Refusal
@@ -30,12 +25,11 @@ unfoldable pub sectionsRefusal : Calendar → ℕ → ℕ → List ℕ → List 
 sectionsRefusal c points rows calendar table register readings engagements =
     unless (calendarGood calendar && tableGood table) 4 (rowsRefusal c points rows register readings engagements)
 
--- "Order: 1 to 7"
+-- "Order: 1 to 7"; "Refusal 3 then never occurs"
 unfoldable pub refusalOf : List ℕ → Option Refusal
 refusalOf book =
     unless (headerGood book) 1
     (unless (layoutGood book) 2
-    (unless (not (clockChangeIn (calendarOf book))) 3
     (sectionsRefusal
     (calendarOf book)
     (pointCount book)
@@ -44,4 +38,4 @@ refusalOf book =
     (tableSection book)
     (registerSection book)
     (readingSection book)
-    (engagementSection book))))
+    (engagementSection book)))

@@ -12,7 +12,7 @@ use Rattle.wire.specs.declared.Reading.the-variants.{Watts, Missing}
 use Rattle.quarters.specs.declared.Calendar.{Calendar}
 use Rattle.quarters.specs.Quarters.{quartersOf, originOf}
 
--- "by point, by day, 96 signed 32-bit watts": of point p at quarter-hour k of the calendar
+-- "by point, by day, .. signed 32-bit watts": of point p at quarter-hour k of the calendar
 abbrev pub meterAt : Calendar → List ℕ → ℕ → ℕ → Reading
 meterAt c readings p k = readingAt readings (originOf c p + k)
 

@@ -1,18 +1,25 @@
 // The header: the calendar, and how many points and engagements there are.
 use quarters::Calendar;
 ghost use mathlib.Core.Path.{_≡_};
+ghost use mathlib.Core.Bool.{true};
 ghost use Prim.Native.Nat.{_≤_};
 ghost use lib.ListN.{length};
-ghost use Rattle.book.specs.Header.{calendarOf, pointCount, engagementCount};
+ghost use Rattle.book.specs.Header.{calendarOf, pointCount, engagementCount, headerGood};
 
 pub fn calendar_of(book: &[u8]) -> Calendar
-    requires { ⌜ 56 ≤ length (now book) ⌝ }
+    requires { ⌜ headerGood (now book) ≡ true ⌝ }
     ensures { λ r. ⌜ r ≡ calendarOf (now (book .entry)) ⌝ }
 {
     let year = wire::u16_at(book, 2) as u64;
     let month = wire::u8_at(book, 4) as u64;
     let lead = wire::u8_at(book, 5) as u64;
-    Calendar { year, month, lead }
+    let clock = calendar::dates::clock_of(year, month, lead);
+    Calendar {
+        year,
+        month,
+        lead,
+        clock,
+    }
 }
 
 pub fn point_count(book: &[u8]) -> usize

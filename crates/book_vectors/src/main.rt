@@ -7,7 +7,6 @@ fn answer(judged: Judged) {
         Judged::Passed => cases::answers::text(b"passed\n"),
         Judged::Header => cases::answers::refused(1, 0),
         Judged::Layout => cases::answers::refused(2, 0),
-        Judged::ClockChange => cases::answers::refused(3, 0),
         Judged::Tables => cases::answers::refused(4, 0),
         Judged::Register(row) => cases::answers::refused(5, row as u64),
         Judged::Readings(point) => cases::answers::refused(6, point as u64),

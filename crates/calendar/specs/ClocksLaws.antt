@@ -1,6 +1,6 @@
 -- A calendar holds at most one day on which the clocks change, and its clock says which: March's and October's on their last Sunday, another month's among its
 -- lead days. The day of whatever year is the clock's.
-use mathlib.Core.Path.{_≡_, refl, ap, ap₂}
+use mathlib.Core.Path.{_≡_, refl, ap₂}
 use mathlib.Core.Bool.{Bool, true, false, cond, _&&_}
 use Prim.Native.Nat.{ℕ, _+_, _-_, _≤_, _<_}
 use native.Mathlib.Omega.{arith}
@@ -11,7 +11,7 @@ use Rattle.integers.specs.Running.{upTo}
 use Rattle.calendar.specs.declared.Clock.{Clock}
 use Rattle.calendar.specs.declared.Clock.the-variants.{Same, Shorter, Longer}
 use Rattle.calendar.specs.Dates.{monthLength, dayNumber, lastSunday, marchSunday, octoberSunday, calendarDays}
-use Rattle.calendar.specs.DatesLaws.{month-length, not-february, last-sunday-is, first-mono, sunday-after, sunday-before, next-before, Inner, march-inner, october-inner, own-year}
+use Rattle.calendar.specs.DatesLaws.{month-length, not-february, last-sunday-is, first-mono, sunday-after, sunday-before, next-before, march-inner, october-inner, own-year}
 use Rattle.calendar.specs.Clocks.{holdsDay, dayOf, clockOf}
 
 -- a day of the calendar, in numbers

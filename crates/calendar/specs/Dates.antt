@@ -5,7 +5,6 @@ use mathlib.Core.List.{List, [], _∷_}
 use Prim.Native.Nat.{ℕ, zero, suc, pred, _+_, _/_, _%_, _≤_}
 use lib.Dec.{eqb, leb, ltb}
 use lib.ListN.{getD}
-use Rattle.integers.specs.First.{anyBelow}
 use Rattle.integers.specs.Running.{upTo}
 
 -- 4 divides a leap year; where 100 divides it too, 400 does
@@ -77,25 +76,6 @@ offsetHours year month day =
 -- "The calendar has N = L + days of the month": of a year, month and lead
 unfoldable pub calendarDays : ℕ → ℕ → ℕ → ℕ
 calendarDays year month lead = lead + monthLength year month
-
--- "day 0 is L days before the 1st": of a year, month and lead, whether day k of the calendar is the day of that number
-abbrev pub isDay : ℕ → ℕ → ℕ → ℕ → ℕ → Bool
-isDay year month lead k number = eqb (number + lead) (dayNumber year month 1 + k)
-
--- whether day k is the day of March, or that of October, on which the clocks change.
--- The month's own year is enough: a calendar has no such day of another year (`march-of-any-year`, `october-of-any-year`)
-unfoldable pub marchChange : ℕ → ℕ → ℕ → ℕ → Bool
-marchChange year month lead k = isDay year month lead k (marchSunday year)
-
-unfoldable pub octoberChange : ℕ → ℕ → ℕ → ℕ → Bool
-octoberChange year month lead k = isDay year month lead k (octoberSunday year)
-
-unfoldable pub clockChange : ℕ → ℕ → ℕ → ℕ → Bool
-clockChange year month lead k = marchChange year month lead k || octoberChange year month lead k
-
--- "a clock-change day in the calendar"
-unfoldable pub hasClockChange : ℕ → ℕ → ℕ → Bool
-hasClockChange year month lead = anyBelow (clockChange year month lead) (calendarDays year month lead)
 
 -- the month after a month
 unfoldable pub nextYear : ℕ → ℕ → ℕ

@@ -1,6 +1,6 @@
 -- Laws of dates: the closed forms that the code computes are the definitions, and the definitions mean what they say.
-use mathlib.Core.Path.{_≡_, refl, sym, ap, _∙_, ap₂}
-use mathlib.Core.Bool.{Bool, true, false, cond, not, _&&_, _||_, or-true, and-true, and-false}
+use mathlib.Core.Path.{_≡_, refl, sym, ap, _∙_}
+use mathlib.Core.Bool.{Bool, true, false, cond, not, _&&_, _||_, and-true, and-false}
 use Prim.Native.Nat.{ℕ, zero, suc, pred, _+_, _-_, _*_, _/_, _%_, _≤_, _<_}
 use native.Mathlib.Omega.{arith}
 use native.Mathlib.Nat.{add-zero, add-suc, le-refl, div-add-mod', mod-lt, suc-mul}
@@ -9,11 +9,10 @@ use lib.Arith.{digits-div}
 use lib.Dec.{T, eqb, leb, ltb, lit<, lit≤, eqb→eq, eqb·suc-zero}
 use borrow.Author.Tests.{ltb-true, ltb-false, leb-true, leb-false, eqb-true, eqb-false, eq-eqb, ne-eqb, lt-ltb, le-ltb, le-leb, lt-leb}
 use lib.ListN.{List·getD-eq-default, getD}
-use Rattle.integers.specs.First.{anyBelow}
 use Rattle.integers.specs.Running.{upTo}
 use Rattle.integers.specs.RunningLaws.{upTo-cong}
 use Rattle.integers.specs.TestsLaws.{allBelow, all-below}
-use Rattle.calendar.specs.Dates.{leap, monthLength, MonthLengths, yearLength, dayNumber, weekday, sundayUpTo, lastSunday, marchSunday, octoberSunday, offsetHours, lengths, daysBeforeYear, daysBeforeMonth, calendarDays, clockChange, marchChange, octoberChange, hasClockChange, nextYear, nextMonth}
+use Rattle.calendar.specs.Dates.{leap, monthLength, MonthLengths, yearLength, dayNumber, weekday, sundayUpTo, lastSunday, marchSunday, octoberSunday, offsetHours, lengths, daysBeforeYear, daysBeforeMonth, calendarDays, nextYear, nextMonth}
 use Rattle.calendar.specs.DatesInner.{IsMonth}
 
 -- the test by 400 decides for a century's year, that by 4 for any other
@@ -275,78 +274,6 @@ own-year y m lead k z number hy hz h l few below i day = go (ltb z y) (ltb y z) 
     go true b p q = absurd (omega (arith, day, i, first, year-after z y hz (ltb-true z y p)))
     go false true p q = absurd (omega (arith, day, i, end, days y m (omega (arith, month-length y m h l)), year-after y z hy (ltb-true y z q)))
     go false false p q = omega (arith, ltb-false z y p, ltb-false y z q)
-
--- some of n numbers, counted on from b, is a
-pub any-is : (a b n : ℕ) → anyBelow (λ k. eqb a (b + k)) n ≡ (leb b a && ltb a (b + n))
-unfolding anyBelow
-any-is a b zero = go (leb b a) refl
-  where
-    go : (x : Bool) → leb b a ≡ x → false ≡ (x && ltb a (b + 0))
-    go true e = sym (le-ltb a (b + 0) (omega (arith, leb-true b a e)))
-    go false e = refl
-any-is a b (suc n) = rw (any-is a b n) (go (leb b a) (ltb a (b + n)) (eqb a (b + n)) refl refl refl)
-  where
-    go : (x y z : Bool) → leb b a ≡ x → ltb a (b + n) ≡ y → eqb a (b + n) ≡ z → ((x && y) || z) ≡ (x && ltb a (b + suc n))
-    go true true z p q r = sym (lt-ltb a (b + suc n) (omega (arith, ltb-true a (b + n) q)))
-    go true false true p q r = sym (lt-ltb a (b + suc n) (omega (arith, eqb-true a (b + n) r)))
-    go true false false p q r = sym (le-ltb a (b + suc n) (omega (arith, ltb-false a (b + n) q, eqb-false a (b + n) r)))
-    go false y true p q r = absurd (omega (arith, leb-false b a p, eqb-true a (b + n) r))
-    go false y false p q r = refl
-
-or-swap : (a b c d : Bool) → ((a || b) || (c || d)) ≡ ((a || c) || (b || d))
-or-swap true b c d = refl
-or-swap false true c d = sym (or-true c)
-or-swap false false c d = refl
-
-pub any-or : (f g : ℕ → Bool) (n : ℕ) → anyBelow (λ k. f k || g k) n ≡ (anyBelow f n || anyBelow g n)
-unfolding anyBelow
-any-or f g zero = refl
-any-or f g (suc n) = rw (any-or f g n) (or-swap (anyBelow f n) (anyBelow g n) (f n) (g n))
-
--- a day of that number is one of the calendar's
-abbrev pub inCalendar : ℕ → ℕ → ℕ → ℕ → Bool
-inCalendar y m lead number =
-    leb (dayNumber y m 1) (number + lead) && ltb (number + lead) (dayNumber y m 1 + calendarDays y m lead)
-
--- a calendar has a clock-change day if one of the year's two lies in it
-pub has-clock-change : (y m lead : ℕ) → hasClockChange y m lead ≡ (inCalendar y m lead (marchSunday y) || inCalendar y m lead (octoberSunday y))
-unfolding hasClockChange clockChange marchChange octoberChange
-has-clock-change y m lead =
-    any-or _ _ (calendarDays y m lead)
-    ∙ ap₂ _||_ (any-is (marchSunday y + lead) (dayNumber y m 1) (calendarDays y m lead)) (any-is (octoberSunday y + lead) (dayNumber y m 1) (calendarDays y m lead))
-
--- the last Sunday of a month lies in each calendar of that month
-own-month : (y m lead : ℕ) → 1 ≤ m → m ≤ 12 → inCalendar y m lead (dayNumber y m (lastSunday y m)) ≡ true
-unfolding dayNumber calendarDays
-own-month y m lead h l =
-    let s = last-sunday-is y m h l in
-    let from : dayNumber y m 1 ≤ dayNumber y m (lastSunday y m) + lead = omega (arith, s .first) in
-    let to : dayNumber y m (lastSunday y m) + lead < dayNumber y m 1 + calendarDays y m lead = omega (arith, s .last) in
-    ap₂ _&&_ (le-leb _ _ from) (lt-ltb _ _ to)
-
--- "March always gives 3", and so does October
-pub march-has : (y lead : ℕ) → hasClockChange y 3 lead ≡ true
-unfolding marchSunday
-march-has y lead = rw (has-clock-change y 3 lead, own-month y 3 lead (lit≤ tt) (lit≤ tt))
-
-pub october-has : (y lead : ℕ) → hasClockChange y 10 lead ≡ true
-unfolding octoberSunday
-october-has y lead =
-    rw (has-clock-change y 10 lead, own-month y 10 lead (lit≤ tt) (lit≤ tt))
-    (or-true (inCalendar y 10 lead (marchSunday y)))
-
--- the day on which the clocks change, of whatever year, is one by the definition
-pub march-of-any-year : (y m lead k z : ℕ) → 1 ≤ y → 1 ≤ z → 1 ≤ m → m ≤ 12 → lead ≤ 33 → k < calendarDays y m lead → marchSunday z + lead ≡ dayNumber y m 1 + k → clockChange y m lead k ≡ true
-unfolding clockChange marchChange
-march-of-any-year y m lead k z hy hz h l few below day =
-    let own : z ≡ y = own-year y m lead k z (marchSunday z) hy hz h l few below (march-inner z) day in
-    rw (eq-eqb (marchSunday y + lead) (dayNumber y m 1 + k) (rw own at day))
-
-pub october-of-any-year : (y m lead k z : ℕ) → 1 ≤ y → 1 ≤ z → 1 ≤ m → m ≤ 12 → lead ≤ 33 → k < calendarDays y m lead → octoberSunday z + lead ≡ dayNumber y m 1 + k → clockChange y m lead k ≡ true
-unfolding clockChange octoberChange
-october-of-any-year y m lead k z hy hz h l few below day =
-    let own : z ≡ y = own-year y m lead k z (octoberSunday z) hy hz h l few below (october-inner z) day in
-    rw (eq-eqb (octoberSunday y + lead) (dayNumber y m 1 + k) (rw own at day)) (or-true (marchChange y m lead k))
 
 -- ---- the offset of the first of a month: +02:00 from April to October
 

@@ -1,10 +1,10 @@
-// Lengths of months, day numbers, weekdays, last Sundays, clock-change days, offsets.
+// Lengths of months, day numbers, weekdays, last Sundays, offsets, clock-change days.
 use crate::Clock;
 ghost use mathlib.Core.Path.{_≡_};
 ghost use mathlib.Core.Bool.{_&&_};
 ghost use Prim.Native.Nat.{_≤_};
 ghost use lib.Dec.{leb, ltb};
-ghost use Rattle.calendar.specs.Dates.{leap, monthLength, MonthLengths, daysBeforeYear, daysBeforeMonth, dayNumber, weekday, lastSunday, marchSunday, octoberSunday, offsetHours, calendarDays, hasClockChange, nextYear, nextMonth};
+ghost use Rattle.calendar.specs.Dates.{leap, monthLength, MonthLengths, daysBeforeYear, daysBeforeMonth, dayNumber, weekday, lastSunday, marchSunday, octoberSunday, offsetHours, calendarDays, nextYear, nextMonth};
 ghost use Rattle.calendar.specs.DatesInner.{IsMonth};
 ghost use Rattle.calendar.specs.Clocks.{clockOf};
 
@@ -132,21 +132,6 @@ pub fn calendar_days(year: u64, month: u64, lead: u64) -> u64
     ensures { λ r. ⌜ r ≡ calendarDays year month lead ⌝ }
 {
     lead + month_length(year, month)
-}
-
-// Whether the clocks change on some day of the calendar.
-pub fn has_clock_change(year: u64, month: u64, lead: u64) -> bool
-    requires { ⌜ IsMonth year month × (lead ≤ 255) ⌝ }
-    ensures { λ r. ⌜ r ≡ hasClockChange year month lead ⌝ }
-{
-    let from = day_number(year, month, 1);
-    let to = from + calendar_days(year, month, lead);
-    let march = march_sunday(year) + lead;
-    if between(from, march, to) {
-        return true;
-    }
-    let october = october_sunday(year) + lead;
-    between(from, october, to)
 }
 
 // On which day of the calendar the clocks change.

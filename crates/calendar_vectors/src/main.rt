@@ -2,6 +2,7 @@
 // 2099 its length, the weekday of its first, its last Sunday, the offset of its first, the next month, the offset of that
 // month's first, and the day on which the clocks change, or 0. Then for each line of standard input how it is judged, as
 // a moment (with its instant) and as a transaction ID.
+use calendar::Clock;
 use calendar::dates;
 use libc::STDIN_FILENO;
 use libc::STDOUT_FILENO;
@@ -30,24 +31,32 @@ fn month_name(year: u64, month: u64) {
     number(month);
 }
 
-// The day of the month on which the clocks change, or 0, as refusal 3 finds it: the month alone is a calendar with that
-// day, and so is the next month with a lead that reaches back to it, and with none shorter.
+// A day counted from 1, as dates are; a calendar has fewer than 255.
+fn counted(day: u64) -> u64 {
+    if day < 255 { day + 1 } else { 0 }
+}
+
+// The day of a calendar on which the clocks change, counted from 1, or 0.
+fn changes_on(clock: Clock) -> u64 {
+    match clock {
+        Clock::Same => 0,
+        Clock::Shorter(day) => counted(day),
+        Clock::Longer(day) => counted(day),
+    }
+}
+
+// The day of the month on which the clocks change, or 0, as a book finds it: in the month's own calendar and, where it has one, again among the lead days of the
+// next month's, which reach back to the first.
 fn change(year: u64, month: u64) -> u64
     requires { ⌜ IsMonth year month × (year ≤ 2099) ⌝ }
 {
-    if !dates::has_clock_change(year, month, 0) {
+    let own = changes_on(dates::clock_of(year, month, 0));
+    if own == 0 {
         return 0;
     }
     let next = dates::next_month(year, month);
     let days = dates::month_length(year, month);
-    let mut lead = 0;
-    while lead < days {
-        lead += 1;
-        if dates::has_clock_change(next.year, next.month, lead) {
-            return days + 1 - lead;
-        }
-    }
-    0
+    changes_on(dates::clock_of(next.year, next.month, days))
 }
 
 fn next_field(year: u64, month: u64)

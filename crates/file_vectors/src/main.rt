@@ -221,7 +221,7 @@ fn run(text: &[u8], book: &mut [u8], rows: &mut [i64], file: &mut [u8]) {
 
 // The text of all cases, and their largest book: 180 points, 33 days.
 fn main() {
-    let mut text = [0u8; 300000];
+    let mut text = [0u8; 400000];
     let mut book = [0u8; 2400000];
     let mut rows = [0; 8704];
     let mut file = [0u8; 66048];

@@ -1,3 +1,5 @@
 pub mod SheetLaws
 pub mod FileCallLaws
 pub mod LayingLaws
+pub mod NeverThree
+pub mod NeverThreeLaws

@@ -33,6 +33,11 @@ module _ {ℓ} {A : Type ℓ} where
   map-range-cong f g a zero h = refl
   map-range-cong f g a (suc n) h = ap₂ _∷_ (h a (omega arith) (omega arith)) (map-range-cong f g (suc a) n (λ i p q. h i (omega arith) (omega arith)))
 
+pub range-split : (a m n : ℕ) → range a (m + n) ≡ range a m ++ range (a + m) n
+unfolding range
+range-split a zero n = let z : 0 + n ≡ n = omega arith in let y : a + 0 ≡ a = omega arith in rw (z, y)
+range-split a (suc m) n = let z : suc m + n ≡ suc (m + n) = omega arith in let y : a + suc m ≡ suc a + m = omega arith in rw (z, y) (ap (λ l. a ∷ l) (range-split (suc a) m n))
+
 pub range-more : (a n : ℕ) → range a (n + 1) ≡ range a n ++ ((a + n) ∷ [])
 range-more a n = let s : n + 1 ≡ suc n = omega arith in rw s (range-next a n)
 

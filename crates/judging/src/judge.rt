@@ -68,8 +68,5 @@ pub fn judge_book(book: &[u8]) -> Judged
     if !crate::header::layout_good(book, c, points, rows) {
         return Judged::Layout;
     }
-    if calendar::dates::has_clock_change(c.year, c.month, c.lead) {
-        return Judged::ClockChange;
-    }
     judge_sections(book, c, points, rows)
 }

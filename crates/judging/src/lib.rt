@@ -8,7 +8,6 @@ pub enum Judged {
     Passed,
     Header,
     Layout,
-    ClockChange,
     Tables,
     Register(usize),
     Readings(usize),

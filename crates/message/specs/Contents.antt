@@ -3,7 +3,7 @@ use mathlib.Core.List.{List}
 use Prim.Native.Nat.{ℕ, _+_, _*_}
 use Rattle.kinds.specs.declared.Kind.{Kind}
 
--- "Position is 96 (day - L) + q + 1", "Quantity is kilowatts with three decimals", here in watts
+-- "Positions count the quarter-hours that the month has", "Quantity is kilowatts with three decimals", here in watts
 pub record Observation : Type 0 where
   pub position : ℕ
   pub watts : ℕ

@@ -1,6 +1,7 @@
 pub mod Contents
 pub mod Bytes
 pub mod Valid
+pub mod PositionsLaws
 pub mod ObservationForm
 pub mod SeriesForm
 pub mod SeriesListForm

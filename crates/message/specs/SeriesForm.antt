@@ -12,14 +12,13 @@ use Rattle.text.specs.Tag.{begins}
 use Rattle.formats.specs.Format.{Format}
 use Rattle.formats.specs.Words.{Apart, apart-two, wordAt, words}
 use Rattle.formats.specs.Combine.{strip, pre, post, seq, seqBy, only, Recast, recast}
-use Rattle.quarters.specs.QuartersLaws.{month-most}
 use Rattle.kinds.specs.declared.Kind.{Kind}
 use Rattle.kinds.specs.declared.Kind.the-variants.{Toe03}
 use Rattle.message.specs.Contents.{Observation, TimeSeries}
 use Rattle.message.specs.Bytes.{opening, ending, closing, element, observationBytes, periodBytes, supplies, deliveries, supplyBytes, volumeBytes, seriesBytes, inSeries}
+use Rattle.message.specs.PositionsLaws.{position-small}
 use Rattle.message.specs.Valid.{most, IsVolume, IsSeries, IsCounter, lastPosition}
 use Rattle.message.specs.ObservationForm.{plainNumber, observations, observations-ok, ok-observations, period}
-use Rattle.quarters.specs.QuartersInner.{longestMonth}
 
 -- ---- a time series
 
@@ -30,10 +29,6 @@ apart-supplies = apart-two (bytes "Off-take") (bytes "Injection") (λ rest. refl
 pub apart-deliveries : Apart deliveries
 unfolding deliveries bytes strip begins
 apart-deliveries = apart-two (bytes "DeliveryUp") (bytes "DeliveryDown") (λ rest. refl)
-
-pub position-small : (year month : ℕ) → lastPosition year month ≤ longestMonth
-unfolding lastPosition
-position-small year month = month-most year month
 
 pub position-fits : (year month : ℕ) → lastPosition year month ≤ most
 position-fits year month = omega (arith, position-small year month)

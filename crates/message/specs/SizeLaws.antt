@@ -23,7 +23,7 @@ use Rattle.kinds.specs.declared.Kind.the-variants.{Toe01, Toe02, Toe03}
 use Rattle.message.specs.Contents.{Observation, TimeSeries, Partner, File, place}
 use Rattle.message.specs.Bytes.{opening, ending, closing, element, root, counter, group, partner, digits, quantityBytes, observationBytes, periodBytes, supplies, deliveries, supplyBytes, volumeBytes, inSeries, withPartner, seriesBytes, supplyOf, partnerBytes, fileBytes}
 use Rattle.message.specs.Valid.{most, lastPosition, IsObservation, IsSeries, IsPartner, IsFile}
-use Rattle.message.specs.SeriesForm.{position-small}
+use Rattle.message.specs.PositionsLaws.{position-small}
 use Rattle.message.specs.FileForm.{moment-length}
 use Rattle.message.specs.Group.{spread}
 use Rattle.message.specs.Rows.{seriesRows, partnerRows, rowsOf}

@@ -20,7 +20,7 @@ use Rattle.message.specs.Bytes.{digits, supplyOf}
 abbrev pub most : ℕ
 most = 18446744073709551615
 
--- "Positions go up to 96 times the days of the month"
+-- "Positions count the quarter-hours that the month has, in the reader too: up to 2,972 in March and 2,980 in October", else "96 times the days of the month"
 unfoldable pub lastPosition : ℕ → ℕ → ℕ
 lastPosition year month = quartersInMonth year month
 

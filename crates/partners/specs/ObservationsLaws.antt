@@ -1,21 +1,22 @@
 -- Observations one position after the other, and those of a series' watts: they are the series' own.
 use mathlib.Core.Path.{_≡_, refl, sym, ap, _∙_}
+use mathlib.Core.Bool.{true}
 use mathlib.Core.List.{List, [], _∷_, _++_, map, map-append}
 use Prim.Native.Nat.{ℕ, suc, _+_, _<_, _≤_}
 use native.Mathlib.Numerals.{add-one}
 use native.Mathlib.Omega.{arith}
-use lib.ListN.{length, getD}
+use lib.ListN.{getD}
 use borrow.Author.Tests.{lt-ltb}
 use Rattle.integers.specs.Ranges.{range}
 use Rattle.quarters.specs.declared.Calendar.{Calendar}
 use Rattle.quarters.specs.Quarters.{monthQuarters}
 use Rattle.quarters.specs.QuartersLaws.{month-quarters-most}
-use Rattle.book.specs.Header.{calendarOf}
+use Rattle.book.specs.Header.{calendarOf, headerGood}
 use Rattle.book.specs.Book.{Book, bookOf}
 use Rattle.volumes.specs.SettlementLaws.{passing}
 use Rattle.volumes.specs.declared.Series.{Series}
 use Rattle.volumes.specs.Series.{Kind, seriesWatts}
-use Rattle.settlement.specs.SectionsLaws.{bytes-long}
+use Rattle.settlement.specs.SectionsLaws.{bytes-headed}
 use Rattle.message.specs.Contents.{Observation}
 use Rattle.message.specs.Valid.{IsPeriod}
 use Rattle.message.specs.ObservationForm.{observed}
@@ -72,7 +73,7 @@ period-of c h = record { from = h .from; to = h .to; january = h .january; decem
 
 -- what a book that refusals 1 to 9 pass says of its calendar
 pub record Dated (bytes : List ℕ) : Type 0 where
-  pub long : 56 ≤ length bytes
+  pub header : headerGood bytes ≡ true
   pub ranged : Ranged (calendarOf bytes)
   pub own : calendarOf bytes ≡ bookOf bytes .calendar
   pub few : monthQuarters (bookOf bytes .calendar) ≤ longestMonth
@@ -81,4 +82,4 @@ pub dated : (bytes volumes : List ℕ) → DeliveredIn bytes volumes → Dated b
 dated bytes volumes h =
     let p = parts-of bytes volumes h in
     let r = rw (p .when) at (p .sound .ranged) in
-    record { long = bytes-long bytes (passing bytes (h .accepted) .passed); ranged = r; own = sym (p .when); few = month-quarters-most (bookOf bytes .calendar) }
+    record { header = bytes-headed bytes (passing bytes (h .accepted) .passed); ranged = r; own = sym (p .when); few = month-quarters-most (bookOf bytes .calendar) (p .sound .ranged) }

@@ -1,7 +1,11 @@
 -- Quarter-hours: how many a day, a month and a calendar have, and where one of them lies (document 01, "The book", "Baseline", "Delivered volume,
--- corrections, series", "The file"). Nothing else knows how many a day has.
--- A Calendar is a year, a month, and the lead days L: document 01's own term.
-use Prim.Native.Nat.{ℕ, _+_, _-_, _*_}
+-- corrections, series", "The file", with document 02, C-12). Nothing else knows on which day there are how many; what those of a day of 92 or 100 look at is `volumes` `looksAt`.
+-- A Calendar is a year, a month, the lead days L, document 01's own term, and the clock: on which of its days the clocks change.
+use mathlib.Core.Bool.{Bool, cond, not}
+use Prim.Native.Nat.{ℕ, zero, suc, _+_, _-_, _*_}
+use lib.Dec.{eqb}
+use Rattle.calendar.specs.declared.Clock.{Clock}
+use Rattle.calendar.specs.declared.Clock.the-variants.{Same, Shorter, Longer}
 use Rattle.calendar.specs.Dates.{monthLength, calendarDays}
 use Rattle.quarters.specs.declared.Calendar.{Calendar}
 
@@ -9,13 +13,24 @@ use Rattle.quarters.specs.declared.Calendar.{Calendar}
 abbrev pub daysOf : Calendar → ℕ
 daysOf c = calendarDays (c .year) (c .month) (c .lead)
 
--- "by point, by day, 96 signed 32-bit watts": the quarter-hours of day d
-unfoldable pub quarters : Calendar → ℕ → ℕ
-quarters c d = 96
+-- "by point, by day, 96 signed 32-bit watts"; "A clock-change day has 92 or 100 readings": the quarter-hours of day d, by the clock and in a calendar
+unfoldable pub quartersBy : Clock → ℕ → ℕ
+quartersBy Same d = 96
+quartersBy (Shorter at) d = cond (eqb d at) 92 96
+quartersBy (Longer at) d = cond (eqb d at) 100 96
 
--- "Quarter-hours are counted through the whole calendar, q of day d being 96 d + q.": where day d starts, the quarter-hours of the whole calendar, and q of day d
+unfoldable pub quarters : Calendar → ℕ → ℕ
+quarters c d = quartersBy (c .clock) d
+
+-- a day with 92 or 100
+unfoldable pub isClockChange : Calendar → ℕ → Bool
+isClockChange c d = not (eqb (quarters c d) 96)
+
+-- "Quarter-hours are counted through the whole calendar", "the quarter-hours that passed": where day d starts, behind those of the days before it,
+-- the quarter-hours of the whole calendar, and q of day d
 unfoldable pub dayStart : Calendar → ℕ → ℕ
-dayStart c d = 96 * d
+dayStart c zero = 0
+dayStart c (suc d) = dayStart c d + quarters c d
 
 abbrev pub quartersOf : Calendar → ℕ
 quartersOf c = dayStart c (daysOf c)
@@ -23,7 +38,7 @@ quartersOf c = dayStart c (daysOf c)
 abbrev pub inCalendar : Calendar → ℕ → ℕ → ℕ
 inCalendar c d q = dayStart c d + q
 
--- "Position is 96 (day - L) + q + 1.": of quarter-hour q of day d
+-- "Positions count the quarter-hours that the month has": that of quarter-hour q of day d, the first being 1
 unfoldable pub position : Calendar → ℕ → ℕ → ℕ
 position c d q = dayStart c d - dayStart c (c .lead) + q + 1
 
@@ -31,9 +46,11 @@ position c d q = dayStart c d - dayStart c (c .lead) + q + 1
 unfoldable pub monthQuarters : Calendar → ℕ
 monthQuarters c = quartersOf c - dayStart c (c .lead)
 
--- "Positions go up to 96 times the days of the month": of any month, whose calendar isn't known; `month-quarters` has that it is the same number
+-- "up to 2,972 in March and 2,980 in October", else "96 times the days of the month": of any month, whose calendar isn't known; `month-quarters` has that it is
+-- the same number
 unfoldable pub quartersInMonth : ℕ → ℕ → ℕ
-quartersInMonth year month = 96 * monthLength year month
+quartersInMonth year month =
+    cond (eqb month 3) 2972 (cond (eqb month 10) 2980 (96 * monthLength year month))
 
 -- "by point, by day": the place among the readings where those of point p start
 abbrev pub originOf : Calendar → ℕ → ℕ

@@ -1,5 +1,7 @@
 -- Cells of a month, the calendars that a header may have, and bounds that code needs.
+use mathlib.Core.Path.{_≡_}
 use Prim.Native.Nat.{ℕ, _-_, _*_, _≤_}
+use Rattle.calendar.specs.Clocks.{clockOf}
 use Rattle.quarters.specs.declared.Calendar.{Calendar}
 use Rattle.quarters.specs.Quarters.{position}
 
@@ -7,7 +9,7 @@ use Rattle.quarters.specs.Quarters.{position}
 abbrev pub cellOf : Calendar → ℕ → ℕ → ℕ
 cellOf c d q = position c d q - 1
 
--- the years, months and lead days that a header may have
+-- the years, months and lead days that a header may have, with their clock
 pub record Ranged (c : Calendar) : Type 0 where
   pub from : 2018 ≤ c .year
   pub to : c .year ≤ 2099
@@ -15,16 +17,21 @@ pub record Ranged (c : Calendar) : Type 0 where
   pub december : c .month ≤ 12
   pub some : 1 ≤ c .lead
   pub few : c .lead ≤ 33
+  pub clock : c .clock ≡ clockOf (c .year) (c .month) (c .lead)
+
+-- what a day has on which the clocks don't change, and so every reference day
+abbrev pub usualDay : ℕ
+usualDay = 96
 
 -- no day, no month and no calendar has more quarter-hours
 abbrev pub longestDay : ℕ
-longestDay = 96
+longestDay = 100
 
 abbrev pub longestMonth : ℕ
-longestMonth = 2976
+longestMonth = 2980
 
 abbrev pub longestCalendar : ℕ
-longestCalendar = 6144
+longestCalendar = 6148
 
 -- no book has more settlement rows: 512 engagements of a longest day
 abbrev pub mostRows : ℕ

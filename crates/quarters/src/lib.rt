@@ -1,20 +1,22 @@
-// Quarter-hours: how many a day, a month and a calendar have, and where one of them lies. Nothing else knows how many a day has.
+// Quarter-hours: how many a day, a month and a calendar have, and where one of them lies. Nothing else knows on which day there are how many.
+use calendar::Clock;
 ghost use mathlib.Core.Path.{_≡_};
 ghost use Prim.Native.Nat.{_≤_, _<_};
-ghost use Rattle.quarters.specs.Quarters.{daysOf, quarters, dayStart, quartersOf, inCalendar, monthQuarters, quartersInMonth, originOf};
+ghost use Rattle.quarters.specs.Quarters.{daysOf, quarters, isClockChange, dayStart, quartersOf, inCalendar, monthQuarters, quartersInMonth, originOf};
 ghost use Rattle.quarters.specs.QuartersInner.{Ranged, cellOf};
 
-// The month, and the lead days before it.
+// The month, the lead days before it, and on which of these days the clocks change.
 pub struct Calendar {
     pub year: u64,
     pub month: u64,
     pub lead: u64,
+    pub clock: Clock,
 }
 
 // No day, and no month, has more quarter-hours; no book has more settlement rows.
-pub const LONGEST_DAY: usize = 96;
+pub const LONGEST_DAY: usize = 100;
 
-pub const LONGEST_MONTH: usize = 2976;
+pub const LONGEST_MONTH: usize = 2980;
 
 pub const MOST_ROWS: usize = 512 * LONGEST_DAY;
 
@@ -30,14 +32,32 @@ pub fn days_of(c: Calendar) -> u64
 pub fn quarters(c: Calendar, day: u64) -> u64
     ensures { λ r. ⌜ r ≡ quarters c day ⌝ }
 {
-    96
+    let clock = c.clock;
+    match clock {
+        Clock::Same => 96,
+        Clock::Shorter(at) => if day == at { 92 } else { 96 },
+        Clock::Longer(at) => if day == at { 100 } else { 96 },
+    }
+}
+
+// The clocks change on the day.
+pub fn is_clock_change(c: Calendar, day: u64) -> bool
+    ensures { λ r. ⌜ r ≡ isClockChange c day ⌝ }
+{
+    quarters(c, day) != 96
 }
 
 pub fn day_start(c: Calendar, day: u64) -> u64
     requires { ⌜ day ≤ 64 ⌝ }
     ensures { λ r. ⌜ r ≡ dayStart c day ⌝ }
 {
-    96 * day
+    let clock = c.clock;
+    let start = 96 * day;
+    match clock {
+        Clock::Same => start,
+        Clock::Shorter(at) => if at < day { start - 4 } else { start },
+        Clock::Longer(at) => if at < day { start + 4 } else { start },
+    }
 }
 
 pub fn quarters_of(c: Calendar) -> u64
@@ -75,6 +95,12 @@ pub fn month_quarters(c: Calendar) -> usize
 pub fn quarters_in_month(year: u64, month: u64) -> u64
     ensures { λ r. ⌜ r ≡ quartersInMonth year month ⌝ }
 {
+    if month == 3 {
+        return 2972;
+    }
+    if month == 10 {
+        return 2980;
+    }
     96 * calendar::dates::month_length(year, month)
 }
 

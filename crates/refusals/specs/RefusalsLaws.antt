@@ -1,4 +1,4 @@
--- What a refusal that did not come says of its test, and of what came later.
+-- What a refusal that did not come says of its test, and of what came later; and what holds of each that may come.
 use mathlib.Core.Path.{_≡_, refl}
 use mathlib.Core.Bool.{Bool, true, false, cond}
 use mathlib.Core.Option.{Option, none, some}
@@ -38,6 +38,36 @@ not-short item answer lent e = go (leb answer lent) refl e
     go : (b : Bool) → leb answer lent ≡ b → cond b none (refused 10 item) ≡ none → answer ≤ lent
     go true f e = leb-true answer lent f
     go false f e = absurd (never 10 e)
+
+-- ---- what holds of the number and item of a refusal, if there is one
+
+abbrev pub Each : (ℕ → ℕ → Type 0) → Option Refusal → Type 0
+Each P none = Unit {0}
+Each P (some r) = P (r .number) (r .item)
+
+pub each-under : {P Q : ℕ → ℕ → Type 0} (o : Option Refusal) → ((number item : ℕ) → P number item → Q number item) → Each P o → Each Q o
+each-under none f h = tt
+each-under (some r) f h = f (r .number) (r .item) h
+
+pub each-unless : (P : ℕ → ℕ → Type 0) (test : Bool) (number : ℕ) (later : Option Refusal) → P number 0 → (test ≡ true → Each P later) → Each P (unless test number later)
+each-unless P true number later h k = k refl
+each-unless P false number later h k = h
+
+pub each-found : (P : ℕ → ℕ → Type 0) (found : Option ℕ) (number : ℕ) (later : Option Refusal) → ((i : ℕ) → found ≡ some i → P number i) → Each P later → Each P (unlessFound found number later)
+each-found P none number later h k = k
+each-found P (some i) number later h k = h i refl
+
+pub each-else : (P : ℕ → ℕ → Type 0) (first later : Option Refusal) → Each P first → (first ≡ none → Each P later) → Each P (orElse first later)
+unfolding orElse
+each-else P none later h k = k refl
+each-else P (some r) later h k = h
+
+pub each-short : (P : ℕ → ℕ → Type 0) (item answer lent : ℕ) → P 10 item → Each P (short item answer lent)
+each-short P item answer lent h = go (leb answer lent)
+  where
+    go : (b : Bool) → Each P (cond b none (refused 10 item))
+    go true = tt
+    go false = h
 
 -- ---- one after the other
 

@@ -35,6 +35,7 @@ use Rattle.volumes.specs.SoundLaws.{mem-range}
 use Rattle.volumes.specs.WidthsLaws.{most, delivered-most}
 use Rattle.message.specs.Contents.{Observation, TimeSeries, Partner, place, position, number}
 use Rattle.message.specs.Bytes.{digits, supplyOf}
+use Rattle.message.specs.PositionsLaws.{last-is}
 use Rattle.message.specs.Valid.{lastPosition, IsObservation, IsVolume, IsSeries, OneSupply, IsPartner, isMoment, monthOf, periods, firstOf, IsFile}
 use Rattle.reports.specs.FileRows.{supplyNumber, deliveryNumber, isTaken, partnerNumbers, directions, isWritten, partnersOf, fileOf, observationBy, observationsBy, timeSeriesBy, partnerBy, partnersBy}
 use Rattle.reports.specs.Roles.{receivers}
@@ -42,7 +43,7 @@ use Rattle.reports.specs.RegisteredInner.{NumbersFit, Registered}
 use Rattle.reports.specs.PointsLaws.{Of, Inside, watts-point}
 use Rattle.integers.specs.AllLaws.{all-map, each-all, all-append}
 use Rattle.integers.specs.RangesLaws.{length-range}
-use Rattle.quarters.specs.QuartersInner.{longestMonth}
+use Rattle.quarters.specs.QuartersInner.{Ranged, longestMonth}
 use Rattle.reports.specs.FileRowsInner.{positions, observationAt, observationsOf, timeSeries, timeSeriesOf, partnerAt}
 
 -- ---- lists
@@ -93,9 +94,9 @@ watts-below book sound kind receiver s (suc p) = omega (arith, grains-below book
 
 -- ---- positions
 
-month-positions : (c : Calendar) → monthQuarters c ≡ lastPosition (c .year) (c .month)
-unfolding lastPosition
-month-positions c = month-quarters c
+-- the month's quarter-hours are as many as the reader's positions
+pub month-positions : (c : Calendar) → Ranged c → monthQuarters c ≡ lastPosition (c .year) (c .month)
+month-positions c h = month-quarters c h ∙ sym (last-is (c .year) (c .month))
 
 partner-fits : (kind : Kind) (point : Point) → NumbersFit point → partnerOf kind point < 10 ^ digits kind
 unfolding partnerOf digits
@@ -127,7 +128,7 @@ module _ (book : Book) (sound : Sound book) (registered : Registered book) (kind
       go (p, m, e) h =
           let r = mem-range 1 (monthQuarters (book .calendar)) p m in
           record {
-            within = omega (arith, r .1, ap (λ (x : Observation). x .position) e, month-positions (book .calendar));
+            within = omega (arith, r .1, ap (λ (x : Observation). x .position) e, month-positions (book .calendar) (sound .ranged));
             some = omega arith;
             below = omega (arith, ap (λ (x : Observation). x .watts) e, watts-below book sound kind receiver s p);
           }
@@ -135,7 +136,7 @@ module _ (book : Book) (sound : Sound book) (registered : Registered book) (kind
   observations-few : (s : Series) → length (observationsOf book kind receiver s) ≤ longestMonth
   unfolding observationsOf observationsBy positions observationAt observationBy seriesWatts
   observations-few s =
-      omega (arith, keep-length isWritten (map (observationAt book kind receiver s) (positions book)), length-map (positions book) (observationAt book kind receiver s), length-range 1 (monthQuarters (book .calendar)), month-quarters-most (book .calendar))
+      omega (arith, keep-length isWritten (map (observationAt book kind receiver s) (positions book)), length-map (positions book) (observationAt book kind receiver s), length-range 1 (monthQuarters (book .calendar)), month-quarters-most (book .calendar) (sound .ranged))
 
   observations-rise : (s : Series) → rises 1 (map position (observationsOf book kind receiver s)) ≡ true
   unfolding observationsOf observationsBy positions observationAt observationBy seriesWatts

@@ -12,9 +12,13 @@ pub mod ReadLaws
 pub mod Calls
 pub mod Demand3
 pub mod CallsLaws
+pub mod NumbersLaws
 pub mod Demand3Laws
 pub mod PossibleLaws
 pub mod Small
-pub mod SmallLaws
 pub mod Pool
+pub mod GivenLaws
+pub mod SmallLaws
 pub mod PoolLaws
+pub mod March
+pub mod MarchLaws

@@ -2,6 +2,7 @@
 ghost use Rattle.reports.specs.Demand3.{Demand3, Possible};
 ghost use Rattle.reports.specs.Small.{SmallShown};
 ghost use Rattle.reports.specs.Pool.{PoolShown};
+ghost use Rattle.reports.specs.March.{MarchShown};
 
 // What a sheet call answers: the sums that it filled, or a number and an item of document 01.
 pub enum SheetAnswer {
@@ -33,4 +34,9 @@ pub fn small_book_has_watts()
 // There is an accepted book whose files of all three kinds have watts that no point has alone at their position.
 pub fn pool_files_have_watts()
     ensures { λ r. ⌜ PoolShown ⌝ }
+{}
+
+// There is an accepted book of March whose file has watts behind the clock change.
+pub fn march_book_has_watts()
+    ensures { λ r. ⌜ MarchShown ⌝ }
 {}

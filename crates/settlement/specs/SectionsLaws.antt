@@ -1,11 +1,12 @@
 -- The sections of a book that passes refusals 1 to 7 are parts of its bytes; with its own engagements it is itself.
 use mathlib.Core.Path.{_≡_, refl, ap, _∙_}
+use mathlib.Core.Bool.{true}
 use mathlib.Core.List.{List}
 use mathlib.Core.Option.{none}
 use Prim.Native.Nat.{ℕ, zero, suc, _+_, _≤_}
 use native.Mathlib.Omega.{arith}
 use lib.ListN.{length}
-use Rattle.book.specs.Header.{calendarOf, pointCount, engagementCount, offsetOf, lengthOf, layoutGood, registerSection, engagementSection}
+use Rattle.book.specs.Header.{calendarOf, pointCount, engagementCount, offsetOf, lengthOf, headerGood, layoutGood, registerSection, engagementSection}
 use Rattle.book.specs.HeaderLaws.{LaidOut, laid, headed}
 use Rattle.book.specs.Book.{bookOf}
 use Rattle.book.specs.Judged.{refusalOf}
@@ -19,6 +20,9 @@ use Rattle.settlement.specs.SectionsInner.{pointCountIn, engagementCount
 pub all-held : (bytes : List ℕ) → refusalOf bytes ≡ none → LaidOut bytes (calendarOf bytes) (pointCount bytes) (engagementCount bytes)
 unfolding layoutGood
 all-held bytes e = laid bytes (calendarOf bytes) (pointCount bytes) (engagementCount bytes) (passes bytes e .layout)
+
+pub bytes-headed : (bytes : List ℕ) → refusalOf bytes ≡ none → headerGood bytes ≡ true
+bytes-headed bytes e = passes bytes e .header
 
 pub bytes-long : (bytes : List ℕ) → refusalOf bytes ≡ none → 56 ≤ length bytes
 bytes-long bytes e = all-held bytes e .long

@@ -27,7 +27,6 @@ fn verdict_of(judged: Judged) -> Verdict
         Judged::Passed => Verdict::Passed,
         Judged::Header => Verdict::Refused(1, 0),
         Judged::Layout => Verdict::Refused(2, 0),
-        Judged::ClockChange => Verdict::Refused(3, 0),
         Judged::Tables => Verdict::Refused(4, 0),
         Judged::Register(row) => Verdict::Refused(5, row),
         Judged::Readings(point) => Verdict::Refused(6, point),

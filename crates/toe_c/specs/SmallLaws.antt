@@ -1,31 +1,19 @@
 -- Every refusal has a number of at most 31 and an item of at most 512, so that no code wraps, no two refusals share one, and both are taken out of it.
 use mathlib.Core.Path.{_≡_, refl}
-use mathlib.Core.Bool.{Bool, true, false, cond, not, _&&_}
-use mathlib.Core.List.{List, [], _∷_}
+use mathlib.Core.Bool.{Bool, true, false, cond, _&&_}
+use mathlib.Core.List.{List}
 use mathlib.Core.Option.{Option, none, some}
-use Prim.Native.Nat.{ℕ, zero, suc, _+_, _*_, _/_, _≤_, _<_}
+use Prim.Native.Nat.{ℕ, _*_, _≤_}
 use lib.Dec.{leb}
 use lib.IntN.{ℤ}
-use lib.ListN.{length, length-map}
-use native.Mathlib.Nat.{div-le-of-le-mul}
+use lib.ListN.{length}
 use native.Mathlib.Omega.{arith}
-use Rattle.integers.specs.First.{first}
-use Rattle.integers.specs.Ranges.{range}
-use Rattle.quarters.specs.declared.Calendar.{Calendar}
-use Rattle.book.specs.declared.Engagement.{Engagement}
-use Rattle.quarters.specs.Quarters.{daysOf, quartersOf, monthQuarters}
-use Rattle.refusals.specs.Refusals.{Refusal, refused, unless, unlessFound, orElse, short}
-use Rattle.book.specs.Header.{calendarOf, pointCount, engagementCount, headerGood, layoutGood, calendarSection, tableSection, registerSection, readingSection, engagementSection}
-use Rattle.book.specs.HeaderLaws.{headed}
-use Rattle.book.specs.Tables.{calendarGood, tableGood}
-use Rattle.book.specs.Register.{badPoint}
-use Rattle.book.specs.Metering.{badReading, pointOfReading, firstBadReading}
-use Rattle.book.specs.Engagements.{badEngagement, engagementAt}
-use Rattle.book.specs.Judged.{clockChangeIn, rowsRefusal, sectionsRefusal, refusalOf}
-use Rattle.book.specs.Book.{Book, bookOf}
-use Rattle.volumes.specs.SoundLaws.{passes}
-use Rattle.volumes.specs.Baseline.{pointOf, complete, eligibleDays, yOf}
-use Rattle.volumes.specs.Settlement.{needed, tooFew, rowWidth, rowCount, refusalNumber, rowRefusal, refusalFrom, settlementRefusal, bookRefusal, settlingRefusal}
+use Rattle.quarters.specs.Quarters.{monthQuarters}
+use Rattle.refusals.specs.Refusals.{Refusal}
+use Rattle.refusals.specs.RefusalsLaws.{Each, each-under, each-unless, each-short}
+use Rattle.book.specs.Book.{bookOf}
+use Rattle.volumes.specs.NumbersLaws.{Listed, settling-listed}
+use Rattle.volumes.specs.Settlement.{rowCount, settlingRefusal}
 use Rattle.settlement.specs.declared.settle.Settled.{Settled}
 use Rattle.settlement.specs.Calls.{settleSays, settleAnswer, SettleCalled}
 use Rattle.moments.specs.Ids.{isTransactionId}
@@ -42,19 +30,15 @@ use Rattle.formats.specs.Format.{Res, got, bad}
 use Rattle.writer.specs.Rows.{isRows, rowsMessage}
 use Rattle.writer.specs.WriteCalls.{textFrom, writeRefusal, writeSays, writeAnswer, WriteCalled}
 use Rattle.toe_c.specs.Codes.{Reply, counts, refuses, settleReply, sheetReply, fileReply, readReply, writeReply, refusalCode, Decoded, withFacts}
-use Rattle.volumes.specs.Sheets.{parties}
 use Rattle.reports.specs.declared.SheetAnswer.{SheetAnswer}
 use Rattle.reports.specs.declared.FileAnswer.{FileAnswer}
-use Rattle.reports.specs.FileRows.{fileText}
-use Rattle.reports.specs.Roles.{receivers}
-use Rattle.reports.specs.Calls.{stands, sheetRefusal, sheetSays, sheetAnswer, SheetCalled, textOf, shortRefusal, askedRefusal, fileRefusal, fileSays, fileAnswer, FileCalled}
+use Rattle.reports.specs.NumbersLaws.{sheet-listed, file-listed}
+use Rattle.reports.specs.Calls.{sheetRefusal, sheetSays, sheetAnswer, SheetCalled, textOf, fileRefusal, fileSays, fileAnswer, FileCalled}
 use Rattle.volumes.specs.Series.{Kind}
 use Rattle.toe_c.specs.SmallInner.{Small, SmallReply}
-use Rattle.integers.specs.RangesLaws.{length-range}
 
 abbrev pub AllSmall : Option Refusal → Type 0
-AllSmall none = Unit {0}
-AllSmall (some r) = Small (r .number) (r .item)
+AllSmall = Each Small
 
 few : (number item : ℕ) → number ≤ 31 → item ≤ 512 → Small number item
 few number item h k = record { number-few = h; item-few = k }
@@ -104,107 +88,13 @@ decoded number item h =
       item-is = omega (arith, h .item-few);
     }
 
--- ---- by the shape of what is refused
+-- ---- 1 to 9, and a settling's 10
 
-small-unless : (t : Bool) (n : ℕ) (later : Option Refusal) → n ≤ 31 → (t ≡ true → AllSmall later) → AllSmall (unless t n later)
-small-unless true n later h k = k refl
-small-unless false n later h k = record { number-few = h; item-few = omega arith }
+listed-small : (number item : ℕ) → Listed number item → Small number item
+listed-small number item h = few number item (omega (arith, h .most)) (h .few)
 
-small-found : (f : Option ℕ) (n : ℕ) (later : Option Refusal) → n ≤ 31 → ((i : ℕ) → f ≡ some i → i ≤ 512) → AllSmall later → AllSmall (unlessFound f n later)
-small-found none n later h l k = k
-small-found (some i) n later h l k = record { number-few = h; item-few = l i refl }
-
-small-short : (item answer lent : ℕ) → item ≤ 512 → AllSmall (short item answer lent)
-small-short item answer lent h = go (leb answer lent)
-  where
-    go : (t : Bool) → AllSmall (cond t none (refused 10 item))
-    go true = tt
-    go false = few 10 item (omega arith) h
-
-small-else : (a b : Option Refusal) → AllSmall a → (a ≡ none → AllSmall b) → AllSmall (orElse a b)
-unfolding orElse
-small-else none b h k = k refl
-small-else (some r) b h k = h
-
-some-same : {i j : ℕ} → some i ≡ some j → i ≡ j
-some-same e = cc
-
-none-some : {A : Type 0} {i : ℕ} → _≡_ {A = Option ℕ} none (some i) → A
-none-some e = let z : _≡_ {A = ℕ} 0 1 = cc in absurd (omega arith)
-
--- ---- where a search ends
-
-first-below : (test : ℕ → Bool) (a n i : ℕ) → first test a n ≡ some i → i < a + n
-unfolding first
-first-below test a zero i e = none-some e
-first-below test a (suc n) i e = go (test a) e (first-below test (suc a) n i)
-  where
-    go : (b : Bool) → cond b (some a) (first test (suc a) n) ≡ some i → (first test (suc a) n ≡ some i → i < suc a + n) → i < a + suc n
-    go true e k = omega (arith, some-same e)
-    go false e k = omega (arith, k e)
-
-reading-below : (quarters : ℕ) (test : ℕ → Bool) (n i : ℕ) → pointOfReading quarters (first test 0 (quarters * n)) ≡ some i → i ≤ n
-reading-below quarters test n i e = go (first test 0 (quarters * n)) refl e
-  where
-    go : (f : Option ℕ) → first test 0 (quarters * n) ≡ f → pointOfReading quarters f ≡ some i → i ≤ n
-    go none p e = none-some e
-    go (some k) p e =
-        let h : k < 0 + quarters * n = first-below test 0 (quarters * n) k p in
-        let l : k / quarters ≤ n = div-le-of-le-mul quarters (omega arith) in
-        omega (arith, some-same e)
-
--- ---- refusals 1 to 7
-
-rows-small : (c : Calendar) (points rows : ℕ) (register readings engagements : List ℕ) → points ≤ 256 → rows ≤ 512 → AllSmall (rowsRefusal c points rows register readings engagements)
-unfolding rowsRefusal firstBadReading
-rows-small c points rows register readings engagements h k =
-    small-found (first (badPoint (daysOf c) register) 0 points) 5 _ (omega arith) (λ i e. omega (arith, first-below (badPoint (daysOf c) register) 0 points i e))
-    (small-found (firstBadReading c readings points) 6 _ (omega arith) (λ i e. omega (arith, reading-below (quartersOf c) (badReading readings) points i e))
-    (small-found (first (badEngagement c points engagements) 0 rows) 7 none (omega arith) (λ i e. omega (arith, first-below (badEngagement c points engagements) 0 rows i e)) tt))
-
-bytes-small : (bytes : List ℕ) → AllSmall (refusalOf bytes)
-unfolding refusalOf sectionsRefusal
-bytes-small bytes =
-    small-unless (headerGood bytes) 1 _ (omega arith) (λ e.
-    small-unless (layoutGood bytes) 2 _ (omega arith) (λ f.
-    small-unless (not (clockChangeIn (calendarOf bytes))) 3 _ (omega arith) (λ g.
-    small-unless (calendarGood (calendarSection bytes) && tableGood (tableSection bytes)) 4 _ (omega arith) (λ k.
-    rows-small (calendarOf bytes) (pointCount bytes) (engagementCount bytes) (registerSection bytes) (readingSection bytes) (engagementSection bytes) (headed bytes e .points) (headed bytes e .rows)))))
-
--- ---- 8 and 9
-
-number-small : (book : Book) (e : Engagement) (n : ℕ) → refusalNumber book e ≡ some n → n ≤ 9
-unfolding refusalNumber
-number-small book e n h = go (complete (needed book e)) (tooFew (pointOf book e .method) (yOf book e) (length (eligibleDays book e))) h
-  where
-    go : (a b : Bool) → cond a (cond b (some 9) none) (some 8) ≡ some n → n ≤ 9
-    go true true h = omega (arith, some-same h)
-    go true false h = none-some h
-    go false b h = omega (arith, some-same h)
-
-from-small : (book : Book) (row : ℕ) (es : List Engagement) → row + length es ≤ 512 → AllSmall (refusalFrom book row es)
-unfolding refusalFrom rowRefusal
-from-small book row [] h = tt
-from-small book row (e ∷ es) h = go (refusalNumber book e) refl (from-small book (suc row) es (omega arith))
-  where
-    go : (n : Option ℕ) → refusalNumber book e ≡ n → AllSmall (refusalFrom book (suc row) es) → AllSmall (rowRefusal row n (refusalFrom book (suc row) es))
-    go none p k = k
-    go (some n) p k = record { number-few = omega (arith, number-small book e n p); item-few = omega arith }
-
-engagements-few : (bytes : List ℕ) → refusalOf bytes ≡ none → length (bookOf bytes .engagements) ≤ 512
-unfolding bookOf
-engagements-few bytes e =
-    let n = length-map (range 0 (engagementCount bytes)) (engagementAt (engagementSection bytes)) in
-    omega (arith, n, length-range 0 (engagementCount bytes), headed bytes (passes bytes e .header) .rows)
-
--- 1 to 9
-pub book-small : (bytes : List ℕ) → AllSmall (bookRefusal bytes)
-unfolding bookRefusal settlementRefusal
-book-small bytes = small-else (refusalOf bytes) (settlementRefusal (bookOf bytes)) (bytes-small bytes) (λ e. from-small (bookOf bytes) 0 (bookOf bytes .engagements) (omega (arith, engagements-few bytes e)))
-
-pub settling-small : (bytes : List ℕ) (lent : ℕ) → AllSmall (settlingRefusal bytes lent)
-unfolding settlingRefusal
-settling-small bytes lent = small-else (bookRefusal bytes) _ (book-small bytes) (λ e. small-short 0 (rowWidth * rowCount (bookOf bytes)) lent (omega arith))
+settling-small : (bytes : List ℕ) (lent : ℕ) → AllSmall (settlingRefusal bytes lent)
+settling-small bytes lent = each-under (settlingRefusal bytes lent) listed-small (settling-listed bytes lent)
 
 -- ---- the calls' answers
 
@@ -221,11 +111,7 @@ settle-small {bytes} {before} s =
 
 -- 1 to 9, 11 and 10
 sheet-judged : (bytes : List ℕ) (party lent : ℕ) → AllSmall (sheetRefusal bytes party lent)
-unfolding sheetRefusal
-sheet-judged bytes party lent =
-    small-else (bookRefusal bytes) _ (book-small bytes) (λ e.
-    small-unless (stands party (parties (bookOf bytes))) 11 _ (omega arith) (λ f.
-    small-short 0 (monthQuarters (bookOf bytes .calendar)) lent (omega arith)))
+sheet-judged bytes party lent = each-under (sheetRefusal bytes party lent) listed-small (sheet-listed bytes party lent)
 
 pub sheet-small : {bytes : List ℕ} {party : ℕ} {before after : List ℤ} {r : SheetAnswer} → SheetCalled bytes party before after r → SmallReply (sheetReply r)
 unfolding sheetAnswer
@@ -235,23 +121,9 @@ sheet-small {bytes} {party} {before} s =
     rw (s .answer, sheet-by x n) (by-small x n (sheet-judged bytes party (length before)))
 
 -- 1 to 9, 12, 11, 12 and 10
-short-judged : (rowNumbers rowsLent fileLength fileLent : ℕ) → AllSmall (shortRefusal rowNumbers rowsLent fileLength fileLent)
-unfolding shortRefusal
-short-judged rowNumbers rowsLent fileLength fileLent =
-    small-else (short 0 rowNumbers rowsLent) (short 1 fileLength fileLent) (small-short 0 rowNumbers rowsLent (omega arith)) (λ e. small-short 1 fileLength fileLent (omega arith))
-
-asked-judged : (book : Book) (kind : Option Kind) (receiver : ℕ) (id moment : List ℕ) (rowsLent fileLent : ℕ) → AllSmall (askedRefusal book kind receiver id moment rowsLent fileLent)
-unfolding askedRefusal
-asked-judged book none receiver id moment rowsLent fileLent = few 12 0 (omega arith) (omega arith)
-asked-judged book (some kind) receiver id moment rowsLent fileLent =
-    small-unless (stands receiver (receivers book kind)) 11 _ (omega arith) (λ e.
-    small-unless (isTransactionId id && isMoment moment) 12 _ (omega arith) (λ f.
-    short-judged (rowWidth * rowCount book) rowsLent (length (fileText book kind receiver id moment)) fileLent))
-
 file-judged : (bytes : List ℕ) (kind receiver : ℕ) (id moment : List ℕ) (rowsLent fileLent : ℕ) → AllSmall (fileRefusal bytes kind receiver id moment rowsLent fileLent)
-unfolding fileRefusal
 file-judged bytes kind receiver id moment rowsLent fileLent =
-    small-else (bookRefusal bytes) _ (book-small bytes) (λ e. asked-judged (bookOf bytes) (kindNumbered kind) receiver id moment rowsLent fileLent)
+    each-under (fileRefusal bytes kind receiver id moment rowsLent fileLent) listed-small (file-listed bytes kind receiver id moment rowsLent fileLent)
 
 pub file-small : {bytes : List ℕ} {kind receiver : ℕ} {id moment : List ℕ} {rowsBefore rowsAfter : List ℤ} {before after : List ℕ} {r : FileAnswer} → FileCalled bytes kind receiver id moment rowsBefore rowsAfter before after r → SmallReply (fileReply r)
 unfolding fileAnswer
@@ -265,9 +137,9 @@ write-judged : (kind : Option Kind) (receiver year month : ℕ) (rows id moment 
 unfolding writeRefusal
 write-judged none receiver year month rows id moment lent = few 12 0 (omega arith) (omega arith)
 write-judged (some kind) receiver year month rows id moment lent =
-    small-unless (isRows kind receiver year month rows) 13 _ (omega arith) (λ e.
-    small-unless (isTransactionId id && isMoment moment) 12 _ (omega arith) (λ f.
-    small-short 1 (length (messageBytes (rowsMessage kind receiver year month rows id moment))) lent (omega arith)))
+    each-unless Small (isRows kind receiver year month rows) 13 _ (few 13 0 (omega arith) (omega arith)) (λ e.
+    each-unless Small (isTransactionId id && isMoment moment) 12 _ (few 12 0 (omega arith) (omega arith)) (λ f.
+    each-short Small 1 (length (messageBytes (rowsMessage kind receiver year month rows id moment))) lent (few 10 1 (omega arith) (omega arith))))
 
 pub write-small : {kind receiver year month : ℕ} {rows id moment before after : List ℕ} {r : WriteAnswer} → WriteCalled kind receiver year month rows id moment before after r → SmallReply (writeReply r)
 unfolding writeAnswer
@@ -280,7 +152,7 @@ write-small {kind} {receiver} {year} {month} {rows} {id} {moment} {before} w =
 read-judged : (x : Res Message) (lent : ℕ) → AllSmall (readRefusal x lent)
 unfolding readRefusal
 read-judged bad lent = few 13 0 (omega arith) (omega arith)
-read-judged (got m rest) lent = small-short 0 (6 * length (m .rows)) lent (omega arith)
+read-judged (got m rest) lent = each-short Small 0 (6 * length (m .rows)) lent (few 10 0 (omega arith) (omega arith))
 
 pub read-small : (file : List ℕ) (lent : ℕ) {r : ReadAnswer} → r ≡ readAnswer file lent → SmallReply (readReply r)
 unfolding readAnswer

@@ -17,6 +17,8 @@ use Rattle.book.specs.Book.{bookOf}
 use Rattle.quarters.specs.Quarters.{monthQuarters}
 use Rattle.quarters.specs.QuartersLaws.{month-quarters-most}
 use Rattle.volumes.specs.Settlement.{rowCount, bookRefusal, settlingRefusal}
+use Rattle.volumes.specs.SettlementLaws.{passing}
+use Rattle.volumes.specs.SoundLaws.{sound}
 use Rattle.volumes.specs.Series.{Kind}
 use Rattle.settlement.specs.declared.settle.Settled.{Settled}
 use Rattle.settlement.specs.Calls.{settleAnswer, SettleCalled}
@@ -58,7 +60,7 @@ by-few (some r) n k = tt
 pub told-by : (p : Reply) (code : ℕ) → code ≡ codeOf p → SmallReply p → FewReply p → Tells p code
 told-by p code e h k = subst (Tells p) (sym e) (tells p h k)
 
--- ---- settling: at most 49,152 rows
+-- ---- settling: at most 51,200 rows
 
 rows-few : (bytes : List ℕ) (lent : ℕ) → settlingRefusal bytes lent ≡ none → rowCount (bookOf bytes) < 2 ^ 63
 unfolding settlingRefusal
@@ -76,7 +78,7 @@ settle-few {bytes} {before} s =
 sums-few : (bytes : List ℕ) (party lent : ℕ) → sheetRefusal bytes party lent ≡ none → monthQuarters (bookOf bytes .calendar) < 2 ^ 63
 unfolding sheetRefusal
 sums-few bytes party lent e =
-    omega (arith, month-quarters-most (bookOf bytes .calendar))
+    omega (arith, month-quarters-most (bookOf bytes .calendar) (sound bytes (passing bytes (not-first (bookRefusal bytes) _ e) .passed) .ranged))
 
 pub sheet-few : {bytes : List ℕ} {party : ℕ} {before after : List ℤ} {r : SheetAnswer} → SheetCalled bytes party before after r → FewReply (sheetReply r)
 unfolding sheetAnswer

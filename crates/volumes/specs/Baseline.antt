@@ -17,11 +17,13 @@ use Rattle.book.specs.declared.Takers.the-variants.{Neither}
 use Rattle.book.specs.declared.Supply.the-variants.{OffTake}
 use Rattle.book.specs.declared.Method.{Method}
 use Rattle.book.specs.declared.Method.the-variants.{LastQuarter, HighXOfY, Adjusted}
+use Rattle.quarters.specs.declared.Calendar.{Calendar}
+use Rattle.quarters.specs.Quarters.{isClockChange}
 use Rattle.book.specs.declared.Point.{Point}
 use Rattle.book.specs.declared.Engagement.{Engagement}
 use Rattle.book.specs.Register.{excludes}
 use Rattle.book.specs.Book.{Book}
-use Rattle.volumes.specs.Quarters.{quarterHours, start, reference}
+use Rattle.volumes.specs.Quarters.{quarterHours, start, reference, touches}
 use Rattle.volumes.specs.Ranking.{ranked}
 
 -- an engagement's delivery point; its index is below the number of points, so `noPoint` is never met
@@ -68,7 +70,7 @@ mean l = sumZ watts l *ℤ pos (share (length l))
 unfoldable pub readingBefore : Book → ℕ → ℕ → ℕ → Reading
 readingBefore book p q n = cond (leb n q) (book .reading p (q - n)) Missing
 
--- "the 12 readings from 96 A + s - 24", q being 96 A + s or what stands for it on another day
+-- "the 12 readings from 96 A + s - 24", q being 96 A + s or what stands for it on another day: "24 before the place so found for the first quarter-hour"
 unfoldable pub window : Book → ℕ → ℕ → List Reading
 window book p q = map (λ i. readingBefore book p q (24 - i)) (range 0 12)
 
@@ -112,9 +114,21 @@ isOn p d e = eqb (e .point) p && eqb (e .day) d
 unfoldable pub engaged : Book → ℕ → ℕ → Bool
 engaged book p d = anyOf (isOn p d) (book .engagements)
 
--- "a day isn't eligible if the book holds an engagement of that point on it"
+-- document 02, C-12: "for method 2 neither is a day whose window of 12 touches one", the window being from 24 before quarter-hour q of the calendar
+unfoldable pub clear : Method → Calendar → ℕ → Bool
+clear LastQuarter c q = true
+clear HighXOfY c q = true
+clear Adjusted c q = not (touches c q)
+
+-- "A clock-change day is never a reference day", nor is one whose window touches it
+unfoldable pub regular : Book → Engagement → ℕ → Bool
+regular book e d =
+    not (isClockChange (book .calendar) d)
+    && clear (pointOf book e .method) (book .calendar) (reference (book .calendar) e d 0)
+
+-- "a day isn't eligible if the book holds an engagement of that point on it"; it is regular, and is what document 01 asks for
 unfoldable pub eligible : Book → Engagement → ℕ → Bool
-eligible book e d = not (engaged book (e .point) d) && suits book e d
+eligible book e d = not (engaged book (e .point) d) && (regular book e d && suits book e d)
 
 -- the days before a, the latest first
 unfoldable pub before : ℕ → List ℕ

@@ -17,6 +17,7 @@ use Rattle.book.specs.declared.Method.{Method}
 use Rattle.book.specs.declared.Method.the-variants.{LastQuarter, HighXOfY, Adjusted}
 use Rattle.book.specs.declared.Direction.{Direction}
 use Rattle.book.specs.declared.Direction.the-variants.{Up, Down}
+use Rattle.calendar.specs.declared.Clock.the-variants.{Same}
 use Rattle.quarters.specs.declared.Calendar.{Calendar}
 use Rattle.book.specs.declared.Point.{Point}
 use Rattle.book.specs.declared.Engagement.{Engagement}
@@ -29,7 +30,7 @@ use Rattle.volumes.specs.Series.{Toe01, seriesWatts}
 
 -- "June 2021, L 3"
 unfoldable pub june : Calendar
-june = record { year = 2021; month = 6; lead = 3 }
+june = record { year = 2021; month = 6; lead = 3; clock = Same }
 
 -- "one point (supplier 3, FSP 7, off-take, transfer, .., mask 0": its parties, EAN, method and largest watts each way
 unfoldable pub pointFor : ℕ → ℕ → ℕ → Method → ℕ → Point

@@ -1,23 +1,32 @@
 -- The examples hold: each side computes to the other.
-use mathlib.Core.Path.{refl}
+use mathlib.Core.Path.{refl, sym}
+use lib.Dec.{lit≤}
 use mathlib.Core.List.{flatMap, zip, zipWith}
 use Rattle.integers.specs.Ranges.{range}
 use Rattle.integers.specs.Sums.{sumBy}
 use Rattle.integers.specs.Running.{upTo, floorAt}
 use Rattle.integers.specs.Keep.{keep}
-use Rattle.integers.specs.First.{anyOf}
-use Rattle.quarters.specs.Quarters.{quarters, dayStart, position}
-use Rattle.volumes.specs.Quarters.{quarterHours, start, referenceQuarter, reference}
+use Rattle.integers.specs.First.{anyOf, anyBelow}
+use Rattle.calendar.specs.Dates.{calendarDays, monthLength, leap}
+use Rattle.calendar.specs.ClocksLaws.{summer-clock}
+use Rattle.quarters.specs.Quarters.{quartersBy, quarters, isClockChange, dayStart, position}
+use Rattle.quarters.specs.QuartersInner.{Ranged}
+use Rattle.volumes.specs.Quarters.{quarterHours, start, looksAt, referenceQuarter, reference, touchesDay, touches}
 use Rattle.volumes.specs.Ranking.{insert, ranked}
-use Rattle.volumes.specs.Baseline.{pointOf, watts, known, complete, mean, readingBefore, window, ownReading, dayReading, dayReadings, ownWindow, dayWindow, windowed, allowed, suits, engaged, eligible, before, eligibleDays, latest, daySum, taken, high, addend, lastReading, baselineBy, baseline}
+use Rattle.volumes.specs.Baseline.{pointOf, watts, known, complete, mean, readingBefore, window, ownReading, dayReading, dayReadings, ownWindow, dayWindow, windowed, allowed, suits, engaged, clear, regular, eligible, before, eligibleDays, latest, daySum, taken, high, addend, lastReading, baselineBy, baseline}
 use Rattle.volumes.specs.Settlement.{neededBy, needed, tooFew, refusalNumber, rowRefusal, refusalFrom, settlementRefusal, requestedAt, limited, deliveredBy, delivered, signed, sourceCorrection, fspCorrection, corrections, row, rowsOf, rows}
 use Rattle.volumes.specs.Sheets.{covers, quarterAt, partiesOf, shareOf, correctionAt, sheetAt, requestedBy, requestedVolume}
 use Rattle.volumes.specs.Series.{takes, receiverOf, partnerOf, sameSupply, sameDirection, isPoint, isEngagement, grainsOf, grainsAt, seriesWatts}
 use Rattle.volumes.specs.Examples.{june, pointFor, point, engagement, book, plain, byDay, byQuarter, engagementF, bookF, caseF, series, thirds, halves, risen, equalSums, shifted, windows, Checked}
 use Rattle.volumes.specs.FurtherLaws.{one, next, on, flat, gap, rising, turns, oneParty, Further}
 
+-- June 2021 has no clock-change day, nor have its lead days
+pub june-ranged : Ranged june
+unfolding june
+june-ranged = record { from = lit≤ tt; to = lit≤ tt; january = lit≤ tt; december = lit≤ tt; some = lit≤ tt; few = lit≤ tt; clock = sym (summer-clock 2021 6 3 (lit≤ tt) (lit≤ tt) (lit≤ tt)) }
+
 pub checked : Checked
-unfolding june pointFor point engagement book plain byDay byQuarter engagementF bookF caseF series thirds halves risen equalSums shifted windows quarters dayStart quarterHours start referenceQuarter reference position insert ranked pointOf watts known complete mean readingBefore window ownReading dayReading dayReadings ownWindow dayWindow windowed allowed suits engaged anyOf eligible before keep eligibleDays latest daySum taken high addend lastReading baselineBy baseline neededBy needed tooFew refusalNumber rowRefusal refusalFrom settlementRefusal requestedAt limited deliveredBy delivered signed sourceCorrection fspCorrection corrections row rowsOf rows covers quarterAt takes receiverOf partnerOf sameSupply sameDirection isPoint isEngagement grainsOf grainsAt seriesWatts range sumBy upTo floorAt flatMap
+unfolding june pointFor point engagement book plain byDay byQuarter engagementF bookF caseF series thirds halves risen equalSums shifted windows quartersBy quarters isClockChange dayStart quarterHours start looksAt referenceQuarter reference touchesDay touches anyBelow calendarDays monthLength leap position insert ranked pointOf watts known complete mean readingBefore window ownReading dayReading dayReadings ownWindow dayWindow windowed allowed suits engaged anyOf clear regular eligible before keep eligibleDays latest daySum taken high addend lastReading baselineBy baseline neededBy needed tooFew refusalNumber rowRefusal refusalFrom settlementRefusal requestedAt limited deliveredBy delivered signed sourceCorrection fspCorrection corrections row rowsOf rows covers quarterAt takes receiverOf partnerOf sameSupply sameDirection isPoint isEngagement grainsOf grainsAt seriesWatts range sumBy upTo floorAt flatMap
 checked =
     record {
       p1 = refl;
@@ -41,7 +50,7 @@ checked =
     }
 
 pub further : Further
-unfolding one next on flat gap rising turns oneParty june pointFor point engagement book plain byDay byQuarter engagementF bookF caseF series thirds halves risen equalSums shifted windows quarters dayStart quarterHours start referenceQuarter reference position insert ranked pointOf watts known complete mean readingBefore window ownReading dayReading dayReadings ownWindow dayWindow windowed allowed suits engaged anyOf eligible before keep eligibleDays latest daySum taken high addend lastReading baselineBy baseline neededBy needed tooFew refusalNumber rowRefusal refusalFrom settlementRefusal requestedAt limited deliveredBy delivered signed sourceCorrection fspCorrection corrections row rowsOf rows covers quarterAt partiesOf shareOf correctionAt sheetAt requestedBy requestedVolume takes receiverOf partnerOf sameSupply sameDirection isPoint isEngagement grainsOf grainsAt seriesWatts range sumBy upTo floorAt flatMap zip zipWith
+unfolding one next on flat gap rising turns oneParty june pointFor point engagement book plain byDay byQuarter engagementF bookF caseF series thirds halves risen equalSums shifted windows quartersBy quarters isClockChange dayStart quarterHours start looksAt referenceQuarter reference touchesDay touches anyBelow calendarDays monthLength leap position insert ranked pointOf watts known complete mean readingBefore window ownReading dayReading dayReadings ownWindow dayWindow windowed allowed suits engaged anyOf clear regular eligible before keep eligibleDays latest daySum taken high addend lastReading baselineBy baseline neededBy needed tooFew refusalNumber rowRefusal refusalFrom settlementRefusal requestedAt limited deliveredBy delivered signed sourceCorrection fspCorrection corrections row rowsOf rows covers quarterAt partiesOf shareOf correctionAt sheetAt requestedBy requestedVolume takes receiverOf partnerOf sameSupply sameDirection isPoint isEngagement grainsOf grainsAt seriesWatts range sumBy upTo floorAt flatMap zip zipWith
 further =
     record {
       enough = refl;

@@ -11,6 +11,7 @@ pub mod Examples
 pub mod FurtherLaws
 pub mod OrderLaws
 pub mod QuartersLaws
+pub mod WindowsLaws
 pub mod RankingLaws
 pub mod DaysLaws
 pub mod BaselineLaws
@@ -25,3 +26,5 @@ pub mod SoundLaws
 pub mod WidthsLaws
 pub mod RunningLaws
 pub mod ExamplesLaws
+pub mod ClockExamplesLaws
+pub mod NumbersLaws

@@ -20,7 +20,7 @@ use Rattle.book.specs.declared.Engagement.{Engagement}
 use Rattle.book.specs.Book.{Book}
 use Rattle.volumes.specs.Quarters.{quarterHours, start, reference}
 use Rattle.volumes.specs.Ranking.{ranked}
-use Rattle.volumes.specs.Baseline.{pointOf, watts, known, complete, mean, readingBefore, window, ownReading, dayReading, dayReadings, ownWindow, dayWindow, windowed, allowed, suits, isOn, engaged, eligible, before, eligibleDays, xOf, yOf, latest, daySum, taken, high, addend, lastReading, baselineBy, baseline}
+use Rattle.volumes.specs.Baseline.{pointOf, watts, known, complete, mean, readingBefore, window, ownReading, dayReading, dayReadings, ownWindow, dayWindow, windowed, allowed, suits, isOn, engaged, regular, eligible, before, eligibleDays, xOf, yOf, latest, daySum, taken, high, addend, lastReading, baselineBy, baseline}
 use Rattle.volumes.specs.Settlement.{neededBy, needed, tooFew, refusalNumber, deliveredBy, delivered, requestedAt, sourceCorrection, fspCorrection, corrections, signed, row}
 
 -- an engagement as one of point 0
@@ -67,9 +67,13 @@ module _ (book : Book) (e : Engagement) where
   unfolding only alone quarterHours start reference pointOf known complete readingBefore window dayReading dayReadings dayWindow windowed allowed suits range
   suits-only d = refl
 
+  pub regular-only : (d : ℕ) → regular book e d ≡ regular (only book e) (alone e) d
+  unfolding only alone reference pointOf regular
+  regular-only d = refl
+
   pub eligible-only : (d : ℕ) → eligible book e d ≡ eligible (only book e) (alone e) d
   unfolding alone eligible
-  eligible-only d = ap₂ (λ (b s : Bool). not b && s) (engaged-only d) (suits-only d)
+  eligible-only d = λ i. not (engaged-only d i) && (regular-only d i && suits-only d i)
 
   pub days-only : eligibleDays book e ≡ eligibleDays (only book e) (alone e)
   unfolding alone eligibleDays

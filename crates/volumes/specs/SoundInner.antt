@@ -29,7 +29,7 @@ pub record Limited (point : Point) : Type 0 where
   pub upward : point .upward ≤ 10 ^ 9
   pub downward : point .downward ≤ 10 ^ 9
 
--- "point index u16 (below P)", "Days are settled days.", "count (1 or more, first + count at most 96)"
+-- "point index u16 (below P)", "Days are settled days.", "count (1 or more ..)", "first + count at most" the day's number of quarter-hours
 pub record Placed (c : Calendar) (points : ℕ) (e : Engagement) : Type 0 where
   pub point : e .point < points
   pub settled : c .lead ≤ e .day

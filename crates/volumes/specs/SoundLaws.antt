@@ -30,7 +30,7 @@ use Rattle.quarters.specs.declared.Calendar.{Calendar}
 use Rattle.book.specs.Engagements.{engagementOf, engagementAt, engagementRow, pointIn, dayIn, firstIn, countIn, directionIn, noticeIn, requestedIn, placeGood, termsGood, outOfOrder, badEngagement}
 use Rattle.refusals.specs.Refusals.{unless, unlessFound}
 use Rattle.refusals.specs.RefusalsLaws.{not-refused, not-found}
-use Rattle.book.specs.Judged.{clockChangeIn, rowsRefusal, sectionsRefusal, refusalOf}
+use Rattle.book.specs.Judged.{rowsRefusal, sectionsRefusal, refusalOf}
 use Rattle.book.specs.Book.{bookOf}
 use Rattle.book.specs.declared.Point.{Point}
 use Rattle.book.specs.declared.Engagement.{Engagement}
@@ -197,11 +197,9 @@ passes bytes e =
     let n₆ = unlessFound (firstBadReading c (readingSection bytes) (pointCount bytes)) 6 n₇ in
     let n₅ = unlessFound (first (badPoint (daysOf c) (registerSection bytes)) 0 (pointCount bytes)) 5 n₆ in
     let n₄ = unless (calendarGood (calendarSection bytes) && tableGood (tableSection bytes)) 4 n₅ in
-    let n₃ = unless (not (clockChangeIn c)) 3 n₄ in
-    let e₁ = not-refused (headerGood bytes) 1 (unless (layoutGood bytes) 2 n₃) e in
-    let e₂ = not-refused (layoutGood bytes) 2 n₃ (e₁ .1) in
-    let e₃ = not-refused (not (clockChangeIn c)) 3 n₄ (e₂ .1) in
-    let e₄ = not-refused (calendarGood (calendarSection bytes) && tableGood (tableSection bytes)) 4 n₅ (e₃ .1) in
+    let e₁ = not-refused (headerGood bytes) 1 (unless (layoutGood bytes) 2 n₄) e in
+    let e₂ = not-refused (layoutGood bytes) 2 n₄ (e₁ .1) in
+    let e₄ = not-refused (calendarGood (calendarSection bytes) && tableGood (tableSection bytes)) 4 n₅ (e₂ .1) in
     let e₅ = not-found (first (badPoint (daysOf c) (registerSection bytes)) 0 (pointCount bytes)) 5 n₆ (e₄ .1) in
     let e₆ = not-found (firstBadReading c (readingSection bytes) (pointCount bytes)) 6 n₇ (e₅ .1) in
     let e₇ = not-found (first (badEngagement c (pointCount bytes) (engagementSection bytes)) 0 (engagementCount bytes)) 7 none (e₆ .1) in

@@ -17,7 +17,7 @@ use Rattle.book.specs.Book.{Book}
 use Rattle.volumes.specs.Quarters.{quarterHours}
 use Rattle.volumes.specs.Ranking.{ranked}
 use Rattle.volumes.specs.RankingLaws.{from-ranked}
-use Rattle.volumes.specs.Baseline.{pointOf, known, complete, ownReading, dayReading, dayReadings, ownWindow, dayWindow, windowed, allowed, suits, engaged, eligible, before, eligibleDays, xOf, yOf, latest, daySum, taken, lastReading}
+use Rattle.volumes.specs.Baseline.{pointOf, known, complete, ownReading, dayReading, dayReadings, ownWindow, dayWindow, windowed, allowed, suits, engaged, regular, eligible, before, eligibleDays, xOf, yOf, latest, daySum, taken, lastReading}
 use Rattle.volumes.specs.BaselineLaws.{complete-append}
 use Rattle.volumes.specs.Settlement.{neededBy, needed}
 use Rattle.volumes.specs.SettlementLaws.{Settles}
@@ -50,8 +50,9 @@ unfolding before
 days-before zero d m = absurd (List·Memᴰ·not-nil m)
 days-before (suc a) d m = ⊎-elim (λ e. omega arith) (λ k. let h : d < a = days-before a d k in omega arith) (List·Memᴰ·cases-cons m)
 
--- "a day isn't eligible if the book holds an engagement ..", and "if it has A's category, isn't excluded and misses no reading ..": the parts that other laws go by
-pub eligible-is : (book : Book) (e : Engagement) (d : ℕ) → eligible book e d ≡ (not (engaged book (e .point) d) && suits book e d)
+-- "a day isn't eligible if the book holds an engagement ..", "A clock-change day is never a reference day ..", and "if it has A's category, isn't excluded and misses no
+-- reading ..": the parts that other laws go by
+pub eligible-is : (book : Book) (e : Engagement) (d : ℕ) → eligible book e d ≡ (not (engaged book (e .point) d) && (regular book e d && suits book e d))
 unfolding eligible
 eligible-is book e d = refl
 
@@ -59,9 +60,10 @@ pub suits-is : (book : Book) (e : Engagement) (d : ℕ) → suits book e d ≡ (
 unfolding suits
 suits-is book e d = refl
 
--- an eligible day: it has no engagement, what allows it, its readings and, by method 2, its 12
+-- an eligible day: it has no engagement, is regular, has what allows it, its readings and, by method 2, its 12
 pub record Eligible (book : Book) (e : Engagement) (d : ℕ) : Type 0 where
   pub free : engaged book (e .point) d ≡ false
+  pub regular : regular book e d ≡ true
   pub allowed : allowed book e d ≡ true
   pub whole : complete (dayReadings book e d) ≡ true
   pub windowed : windowed (pointOf book e .method) (dayWindow book e d) ≡ true
@@ -69,14 +71,15 @@ pub record Eligible (book : Book) (e : Engagement) (d : ℕ) : Type 0 where
 pub eligible-day : (book : Book) (e : Engagement) (d : ℕ) → eligible book e d ≡ true → Eligible book e d
 eligible-day book e d h =
     let r = complete (dayReadings book e d) && windowed (pointOf book e .method) (dayWindow book e d) in
-    let n = and-eq-true-iff (not (engaged book (e .point) d)) (suits book e d) .0 (sym (eligible-is book e d) ∙ h) in
-    let f = and-eq-true-iff (allowed book e d) r .0 (sym (suits-is book e d) ∙ n .1) in
+    let n = and-eq-true-iff (not (engaged book (e .point) d)) (regular book e d && suits book e d) .0 (sym (eligible-is book e d) ∙ h) in
+    let c = and-eq-true-iff (regular book e d) (suits book e d) .0 (n .1) in
+    let f = and-eq-true-iff (allowed book e d) r .0 (sym (suits-is book e d) ∙ c .1) in
     let g = and-eq-true-iff (complete (dayReadings book e d)) (windowed (pointOf book e .method) (dayWindow book e d)) .0 (f .1) in
-    record { free = not-true (engaged book (e .point) d) (n .0); allowed = f .0; whole = g .0; windowed = g .1 }
+    record { free = not-true (engaged book (e .point) d) (n .0); regular = c .0; allowed = f .0; whole = g .0; windowed = g .1 }
 
 -- no day is eligible and has an engagement of the point
 pub engaged-not : (book : Book) (e : Engagement) (d : ℕ) → engaged book (e .point) d ≡ true → eligible book e d ≡ false
-engaged-not book e d h = eligible-is book e d ∙ ap (λ (b : Bool). not b && suits book e d) h
+engaged-not book e d h = eligible-is book e d ∙ ap (λ (b : Bool). not b && (regular book e d && suits book e d)) h
 
 module _ (book : Book) (e : Engagement) where
   -- "day d before A is eligible": each day that is taken

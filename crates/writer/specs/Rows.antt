@@ -13,7 +13,7 @@ use Rattle.message.specs.Keys.{numberKeys, directionsKeys}
 use Rattle.message.specs.Rows.{Row, rowsIn, inSixes, Message}
 use Rattle.writer.specs.Order.{every, ordered, by, both}
 
--- "Positions go up to 96 times the days of the month"; "above 0 and below 10^9" kilowatts
+-- "Positions count the quarter-hours that the month has", up to its last; "above 0 and below 10^9" kilowatts
 unfoldable pub isObservation : ℕ → Observation → Bool
 isObservation last o = (leb 1 (o .position) && leb (o .position) last) && (leb 1 (o .watts) && ltb (o .watts) 1000000000000)
 

@@ -15,7 +15,7 @@ use Rattle.kinds.specs.declared.Kind.the-variants.{Toe01, Toe02, Toe03}
 use Rattle.message.specs.Contents.{Observation, TimeSeries, Partner, position, place, number}
 use Rattle.message.specs.Bytes.{digits, supplyOf}
 use Rattle.message.specs.Valid.{most, lastPosition, IsObservation, IsPeriod, IsSeries, OneSupply, IsPartner, isMoment, monthOf, periods, firstOf}
-use Rattle.message.specs.SeriesForm.{position-small}
+use Rattle.message.specs.PositionsLaws.{position-small}
 use Rattle.message.specs.ObservationForm.{isPeriod, to-period, from-period}
 use Rattle.message.specs.Keys.{numberKeys, directionsKeys}
 use Rattle.message.specs.Group.{Keys, group}

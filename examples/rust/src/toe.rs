@@ -22,8 +22,8 @@ unsafe extern "C" {
 
 pub const GRAINS_PER_WATT: i64 = 30_240;
 /// Long enough for any book.
-pub const ROWS_LARGEST: usize = 196_608;
-pub const FILE_LARGEST: usize = 4_680_238;
+pub const ROWS_LARGEST: usize = 204_800;
+pub const FILE_LARGEST: usize = 4_856_366;
 
 /// A refusal: its number and item; docs/BOOK.md says what they mean.
 pub struct Refused {

@@ -2,12 +2,13 @@
 use mathlib.Core.Path.{_≡_, subst, ap₂, _∙_}
 use Prim.Native.Nat.{ℕ, _+_, _-_, _*_, _≤_}
 use lib.IntN.{pos, _*ℤ_}
+use lib.ListN.{take}
 use Rattle.integers.specs.Sums.{sumZ}
 use Rattle.integers.specs.ZLaws.{Over}
 use Rattle.volumes.specs.Baseline.{watts}
 use Rattle.grains.specs.Grains.{grains, share}
 use Rattle.baseline.specs.ShownInner.{windowIn}
-use Rattle.baseline.specs.RunsInner.{daysIn, dayRuns}
+use Rattle.baseline.specs.RunsInner.{startRuns}
 use Rattle.baseline.specs.LevelLaws.{difference}
 use native.Mathlib.Nat.{mul-comm}
 use Rattle.grains.specs.GrainsLaws.{shares-12x, mean-over, mean-small}
@@ -57,7 +58,7 @@ returns c = let s = c .before .before .before .before .before .before .before in
     let x = s .args .x in
     let own = c .before .before .before .before .window in
     let days = c .before .before .before .tally-days in
-    let total = sumZ watts (dayRuns (s .args .readings .now) (s .args .c) (s .args .e) (s .args .origin) 0 24 12 (daysIn (s .args .keys .now) (s .args .x))) in
+    let total = sumZ watts (startRuns (s .args .readings .now) (s .args .origin) (s .args .place) 24 12 (take (s .args .x) (s .args .starts .now))) in
     let mine = sumZ watts (windowIn (s .args .readings .now) (s .args .origin) (s .args .q)) in
     let less = less-small (c .before) in
     let answer : c .before .before .mean .result .count + c .lift .result - c .before .mean2 .result .count ≡ own .result .sum * share 12 + grains (2 * raise) - days .result .sum * share (12 * x) = ap₂ _-_ (ap₂ _+_ (c .before .before .mean .ensures) (c .lift .ensures)) (c .before .mean2 .ensures) in

@@ -1,8 +1,9 @@
 -- A mean of X raised readings is raised by one reading.
 use Rattle.integers.specs.Sums.{sumZ}
 use Rattle.volumes.specs.Baseline.{watts}
-use Rattle.baseline.specs.RunsInner.{daysIn, dayRuns}
+use Rattle.baseline.specs.RunsInner.{startRuns}
 use mathlib.Core.Path.{subst, _∙_}
+use lib.ListN.{take}
 use Prim.Native.Nat.{ℕ, _*_}
 use native.Mathlib.Nat.{mul-one}
 use Rattle.integers.specs.ZLaws.{Over}
@@ -25,7 +26,7 @@ returns c = let s = c .before .before .before .before in
     let x = s .args .x in
     let t = c .before .tally-days .ensures in
     let sum = c .before .tally-days .result .sum in
-    let total = sumZ watts (dayRuns (s .args .readings .now) (s .args .c) (s .args .e) (s .args .origin) (s .args .k) 0 1 (daysIn (s .args .keys .now) (s .args .x))) in
+    let total = sumZ watts (startRuns (s .args .readings .now) (s .args .origin) (s .args .place) 0 1 (take (s .args .x) (s .args .starts .now))) in
     let shares = shares-x x (s .pre .1) (s .pre .0 .few) in
     record {
       level = λ h. rw (c .mean .ensures) (mean-over x raise total sum shares (subst (λ (n : ℕ). Over (raise * n) total sum) (mul-one x) (t .sum (t .whole ∙ h))));

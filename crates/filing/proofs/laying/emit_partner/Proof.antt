@@ -35,7 +35,7 @@ stood c =
     ap (rowsFrom (c .fill-partner .last .1 .1 .1 .1 .0) 0) n ∙ filled-stand rows _ _ _ f (omega (arith, f .behind, c .fill-partner .ensures .1, s .pre .1))
 
 calendar-of-requires : tie.Need-calendar-of-requires
-calendar-of-requires c κs = calendar (c .before .before .before .before) .long
+calendar-of-requires c κs = calendar (c .before .before .before .before) .header
 
 fill-partner-requires : tie.Need-fill-partner-requires
 fill-partner-requires c κs = search needs

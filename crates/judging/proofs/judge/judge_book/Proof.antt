@@ -1,7 +1,7 @@
-use Rattle.book.specs.Header.{calendarOf, sizes, adjoining, layoutGood, calendarSection, tableSection, registerSection, readingSection, engagementSection}
-use Rattle.book.specs.Judged.{clockChangeIn, sectionsRefusal, refusalOf}
+use Rattle.book.specs.Header.{sizes, adjoining, layoutGood, calendarSection, tableSection, registerSection, readingSection, engagementSection}
+use Rattle.book.specs.Judged.{sectionsRefusal, refusalOf}
 -- Each test is the refusal that comes next; the sections are read where the layout says.
-use mathlib.Core.Path.{_≡_, sym, ap, subst, _∙_}
+use mathlib.Core.Path.{_≡_, sym, subst, _∙_}
 use borrow.Author.Tests.{not-true, not-false}
 use Rattle.book.specs.HeaderLaws.{Headed, headed}
 use native.Mathlib.Omega.{arith}
@@ -32,11 +32,8 @@ layout c =
     c .layout-good .ensures
     ∙ (λ i. adjoining book 0 56 (sizes (c .before .before .before .calendar-of .ensures i) (c .before .before .point-count .ensures i) (c .before .engagement-count .ensures i)))
 
-clock : (c : tie.After-has-clock-change) → c .has-clock-change .result ≡ clockChangeIn (calendarOf (c .before .before .before .before .before .before .before .before .before .args .book .now))
-clock c = c .has-clock-change .ensures ∙ ap clockChangeIn (c .before .before .before .before .before .calendar-of .ensures)
-
 calendar-of-requires : tie.Need-calendar-of-requires
-calendar-of-requires c κs = header c .long
+calendar-of-requires c κs = sym (c .before .header-good .ensures) ∙ not-false _ (c .if1 .left)
 
 point-count-requires : tie.Need-point-count-requires
 point-count-requires c κs = header (c .before) .long
@@ -52,24 +49,16 @@ returns-2 : tie.Need-returns-2
 unfolding refusalOf
 returns-2 c = rw (sym (c .before .before .before .before .before .before .header-good .ensures) ∙ not-false _ (c .before .before .before .before .before .if1 .left), sym (layout (c .before)) ∙ not-true _ (c .if2 .taken))
 
-has-clock-change-requires : tie.Need-has-clock-change-requires
-has-clock-change-requires c κs = let r = ranged (c .before .before .before .before) in
-    (record { from = omega arith; to = omega arith; january = r .january; december = r .december }, omega arith)
+judge-sections-requires : tie.Need-judge-sections-requires
+judge-sections-requires c κs = let h = header (c .before .before .before .before .before) in
+    (ranged (c .before .before .before .before), omega (arith, c .before .before .before .point-count .ensures, h .points), omega (arith, c .before .before .engagement-count .ensures, h .rows), sym (c .before .layout-good .ensures) ∙ not-false _ (c .if2 .left))
 
 returns-3 : tie.Need-returns-3
 unfolding refusalOf
-returns-3 c = rw (sym (c .before .before .before .before .before .before .before .before .header-good .ensures) ∙ not-false _ (c .before .before .before .before .before .before .before .if1 .left), sym (layout (c .before .before .before)) ∙ not-false _ (c .before .before .if2 .left), sym (clock (c .before)) ∙ c .if3 .taken)
-
-judge-sections-requires : tie.Need-judge-sections-requires
-judge-sections-requires c κs = let h = header (c .before .before .before .before .before .before .before) in
-    (ranged (c .before .before .before .before .before .before), omega (arith, c .before .before .before .before .before .point-count .ensures, h .points), omega (arith, c .before .before .before .before .engagement-count .ensures, h .rows), sym (c .before .before .before .layout-good .ensures) ∙ not-false _ (c .before .before .if2 .left))
-
-returns-4 : tie.Need-returns-4
-unfolding refusalOf
-returns-4 c = let book = c .before .before .before .before .before .before .before .before .before .before .before .args .book .now in
-    rw (sym (c .before .before .before .before .before .before .before .before .before .header-good .ensures) ∙ not-false _ (c .before .before .before .before .before .before .before .before .if1 .left), sym (layout (c .before .before .before .before)) ∙ not-false _ (c .before .before .before .if2 .left), sym (clock (c .before .before)) ∙ c .before .if3 .left)
+returns-3 c = let book = c .before .before .before .before .before .before .before .before .before .args .book .now in
+    rw (sym (c .before .before .before .before .before .before .before .header-good .ensures) ∙ not-false _ (c .before .before .before .before .before .before .if1 .left), sym (layout (c .before .before)) ∙ not-false _ (c .before .if2 .left))
     (c .judge-sections .ensures
-    ∙ (λ i. sectionsRefusal (c .before .before .before .before .before .before .before .calendar-of .ensures i) (c .before .before .before .before .before .before .point-count .ensures i) (c .before .before .before .before .before .engagement-count .ensures i) (calendarSection book) (tableSection book) (registerSection book) (readingSection book) (engagementSection book)))
+    ∙ (λ i. sectionsRefusal (c .before .before .before .before .before .calendar-of .ensures i) (c .before .before .before .before .point-count .ensures i) (c .before .before .before .engagement-count .ensures i) (calendarSection book) (tableSection book) (registerSection book) (readingSection book) (engagementSection book)))
 
 pub judge-book-spec : {M : Type 1} → statement M
 judge-book-spec =
@@ -82,7 +71,5 @@ judge-book-spec =
     engagement-count-requires
     layout-good-requires
     returns-2
-    has-clock-change-requires
-    returns-3
     judge-sections-requires
-    returns-4)
+    returns-3)

@@ -40,7 +40,7 @@ series-watts-requires : tie.Need-series-watts-requires
 series-watts-requires c κs = let s = c .before .before .before .before in (s .pre .0, calendar s .few)
 
 calendar-of-requires : tie.Need-calendar-of-requires
-calendar-of-requires c κs = calendar (c .before .before .before .before .before .before) .long
+calendar-of-requires c κs = calendar (c .before .before .before .before .before .before) .header
 
 month-quarters-requires : tie.Need-month-quarters-requires
 month-quarters-requires c κs = rw (c .calendar-of .ensures) (calendar (c .before .before .before .before .before .before .before) .ranged)

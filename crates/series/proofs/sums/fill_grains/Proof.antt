@@ -10,7 +10,7 @@ use Rattle.book.specs.Book.{bookOf}
 use Rattle.quarters.specs.Quarters.{monthQuarters}
 use Rattle.volumes.specs.SettlementLaws.{passing}
 use Rattle.volumes.specs.Series.{grainsAt}
-use Rattle.settlement.specs.SectionsLaws.{bytes-long}
+use Rattle.settlement.specs.SectionsLaws.{bytes-headed}
 use Rattle.series.specs.SumsInner.{byPosition, Parts}
 use Rattle.series.specs.SumsLaws.{by-again, by-own, parts-of}
 use Rattle.series.proofs.sums.fill_grains.Statement.{statement}
@@ -43,7 +43,7 @@ section-requires-2 : tie.Need-section-requires-2
 section-requires-2 c κs = (passed (c .before .before .before .before), search needs)
 
 calendar-of-requires : tie.Need-calendar-of-requires
-calendar-of-requires c κs = let s = c .before .before .before .before .before in bytes-long (s .args .book .now) (passed s)
+calendar-of-requires c κs = let s = c .before .before .before .before .before in bytes-headed (s .args .book .now) (passed s)
 
 month-quarters-requires : tie.Need-month-quarters-requires
 month-quarters-requires c κs = let s = c .before .before .before .before .before .before .before in

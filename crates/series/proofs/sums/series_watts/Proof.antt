@@ -11,7 +11,7 @@ use Rattle.book.specs.Book.{bookOf}
 use Rattle.quarters.specs.Quarters.{monthQuarters}
 use Rattle.volumes.specs.SettlementLaws.{passing}
 use Rattle.volumes.specs.Series.{grainsAt}
-use Rattle.settlement.specs.SectionsLaws.{bytes-long}
+use Rattle.settlement.specs.SectionsLaws.{bytes-headed}
 use Rattle.series.specs.SumsInner.{byPosition, cellAt, Parts}
 use Rattle.series.specs.SumsLaws.{by-length, parts-of, carry-fits, watts-are}
 use Rattle.series.proofs.sums.series_watts.Statement.{statement}
@@ -32,7 +32,7 @@ fill-grains-requires c κs = search needs
 
 calendar-of-requires : tie.Need-calendar-of-requires
 calendar-of-requires c κs = let s = c .before .before .before .before .before .before .before in
-    bytes-long (s .args .book .now) (passing (s .args .book .now) (s .pre .0 .accepted) .passed)
+    bytes-headed (s .args .book .now) (passing (s .args .book .now) (s .pre .0 .accepted) .passed)
 
 month-quarters-requires : tie.Need-month-quarters-requires
 month-quarters-requires c κs = let s = c .before .before .before .before .before .before .before .before .before in

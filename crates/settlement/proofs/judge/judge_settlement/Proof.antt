@@ -6,7 +6,7 @@ use Prim.Native.Nat.{ℕ}
 use Rattle.book.specs.Judged.{refusalOf}
 use Rattle.volumes.specs.Settlement.{settlementRefusal}
 use Rattle.settlement.specs.SectionsInner.{bookWith, Opened}
-use Rattle.settlement.specs.SectionsLaws.{bytes-long, same-book, opened}
+use Rattle.settlement.specs.SectionsLaws.{bytes-headed, same-book, opened}
 use Rattle.settlement.specs.DaysLaws.{gatherable, gathered}
 use Rattle.settlement.specs.VerdictsInner.{refusalIn}
 use Rattle.settlement.specs.VerdictsLaws.{book-refused, book-passed}
@@ -49,7 +49,7 @@ gather-days-requires : tie.Need-gather-days-requires
 gather-days-requires c κs = gatherable (own (c .before))
 
 calendar-of-requires : tie.Need-calendar-of-requires
-calendar-of-requires c κs = let e = c .before .before .before .before in bytes-long (e .before .before .before .before .before .args .book .now) (passed e)
+calendar-of-requires c κs = let e = c .before .before .before .before in bytes-headed (e .before .before .before .before .before .args .book .now) (passed e)
 
 slice-aggregate-judge-engagements : tie.Need-slice-aggregate-judge-engagements
 slice-aggregate-judge-engagements c = search needs

@@ -15,9 +15,6 @@ enum-told-3 c = search needs
 enum-told-4 : tie.Need-enum-told-4
 enum-told-4 c = search needs
 
-enum-told-5 : tie.Need-enum-told-5
-enum-told-5 c = search needs
-
 enum-known-judged : tie.Need-enum-known-judged
 enum-known-judged c = search needs
 
@@ -40,16 +37,13 @@ returns-4 : tie.Need-returns-4
 returns-4 c = search needs
 
 returns-5 : tie.Need-returns-5
-returns-5 c = search needs
+returns-5 c = rw (c .before .judged .given .1)
 
 returns-6 : tie.Need-returns-6
-returns-6 c = rw (c .before .judged .given .1)
+returns-6 c = rw (c .before .judged2 .given .1)
 
 returns-7 : tie.Need-returns-7
-returns-7 c = rw (c .before .judged2 .given .1)
-
-returns-8 : tie.Need-returns-8
-returns-8 c = rw (c .before .judged3 .given .1)
+returns-7 c = rw (c .before .judged3 .given .1)
 
 pub verdict-of-spec : {M : Type 1} → statement M
 verdict-of-spec =
@@ -59,7 +53,6 @@ verdict-of-spec =
     enum-told-2
     enum-told-3
     enum-told-4
-    enum-told-5
     enum-known-judged
     enum-known-judged-2
     enum-known-judged-3
@@ -69,5 +62,4 @@ verdict-of-spec =
     returns-4
     returns-5
     returns-6
-    returns-7
-    returns-8)
+    returns-7)

@@ -9,7 +9,7 @@ use Rattle.book.specs.Judged.{refusalOf}
 use Rattle.volumes.specs.Settlement.{rows}
 use Rattle.volumes.specs.SettlementLaws.{passing}
 use Rattle.settlement.specs.SectionsInner.{bookWith, Opened}
-use Rattle.settlement.specs.SectionsLaws.{bytes-long, same-book, opened, count-book, own-settled}
+use Rattle.settlement.specs.SectionsLaws.{bytes-headed, same-book, opened, count-book, own-settled}
 use Rattle.settlement.specs.DaysLaws.{gatherable, gathered}
 use borrow.Author.Needs.{needs}
 use Rattle.settlement.proofs.settle.fill_book.Statement.{statement}
@@ -33,7 +33,7 @@ gather-days-requires : tie.Need-gather-days-requires
 gather-days-requires c κs = gatherable (own (c .before))
 
 calendar-of-requires : tie.Need-calendar-of-requires
-calendar-of-requires c κs = let s = c .before .before .before .before .before in bytes-long (s .args .book .now) (passed s)
+calendar-of-requires c κs = let s = c .before .before .before .before .before in bytes-headed (s .args .book .now) (passed s)
 
 slice-aggregate-settle-engagements : tie.Need-slice-aggregate-settle-engagements
 slice-aggregate-settle-engagements c = search needs

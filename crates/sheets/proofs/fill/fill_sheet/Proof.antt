@@ -10,7 +10,7 @@ use Rattle.quarters.specs.Quarters.{monthQuarters}
 use Rattle.volumes.specs.Sheets.{sheet}
 use Rattle.volumes.specs.SettlementLaws.{passing}
 use Rattle.settlement.specs.SectionsInner.{bookWith, Opened}
-use Rattle.settlement.specs.SectionsLaws.{bytes-long, same-book, opened, own-settled}
+use Rattle.settlement.specs.SectionsLaws.{bytes-headed, same-book, opened, own-settled}
 use Rattle.settlement.specs.DaysLaws.{gatherable, gathered}
 use borrow.Author.Needs.{needs}
 use Rattle.sheets.proofs.fill.fill_sheet.Statement.{statement}
@@ -34,7 +34,7 @@ gather-days-requires : tie.Need-gather-days-requires
 gather-days-requires c κs = gatherable (own (c .before))
 
 calendar-of-requires : tie.Need-calendar-of-requires
-calendar-of-requires c κs = let s = c .before .before .before .before .before in bytes-long (s .args .book .now) (passed s)
+calendar-of-requires c κs = let s = c .before .before .before .before .before in bytes-headed (s .args .book .now) (passed s)
 
 slice-aggregate-fill-cells : tie.Need-slice-aggregate-fill-cells
 slice-aggregate-fill-cells c = search needs

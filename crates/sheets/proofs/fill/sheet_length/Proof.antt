@@ -4,12 +4,12 @@ use Rattle.book.specs.HeaderLaws.{headed}
 use Rattle.book.specs.Book.{bookOf}
 use Rattle.quarters.specs.Quarters.{monthQuarters}
 use Rattle.volumes.specs.SoundLaws.{passes}
-use Rattle.settlement.specs.SectionsLaws.{bytes-long}
+use Rattle.settlement.specs.SectionsLaws.{bytes-headed}
 use Rattle.sheets.proofs.fill.sheet_length.Statement.{statement}
 use Rattle.sheets.proofs.fill.sheet_length.Tie as tie
 
 calendar-of-requires : tie.Need-calendar-of-requires
-calendar-of-requires c κs = bytes-long (c .before .args .book .now) (c .before .pre)
+calendar-of-requires c κs = bytes-headed (c .before .args .book .now) (c .before .pre)
 
 month-quarters-requires : tie.Need-month-quarters-requires
 month-quarters-requires c κs =
