@@ -54,7 +54,12 @@ pub struct RegisterRow {
     pub situation: u8,
     pub supply: u8,
     pub method: u8,
-    pub zeros: [u8; 9],
+    /// Byte 55.
+    pub zero: u8,
+    /// Bytes 56 and 57: a party from version 2 on, zero in version 1.
+    pub injection_party: u16,
+    /// Bytes 58 to 63.
+    pub zeros: [u8; 6],
 }
 
 #[derive(Clone, Copy, Debug, Default, PartialEq, Eq)]
@@ -94,6 +99,11 @@ impl Book {
         };
         book.lay_out();
         book
+    }
+
+    /// C-14: "Version 2 of the book puts the injection party in bytes 56 and 57 of the register row."
+    pub fn has_injection_parties(&self) -> bool {
+        self.version >= 2
     }
 
     /// N, the days of the calendar.
@@ -218,12 +228,14 @@ impl RegisterRow {
         bytes.push(self.situation);
         bytes.push(self.supply);
         bytes.push(self.method);
+        bytes.push(self.zero);
+        bytes.extend(self.injection_party.to_le_bytes());
         bytes.extend(self.zeros);
         assert_eq!(bytes.len(), 64);
         bytes
     }
 
-    fn decode(bytes: &[u8]) -> RegisterRow {
+    pub fn decode(bytes: &[u8]) -> RegisterRow {
         RegisterRow {
             delivery_ean: u64_at(bytes, 0),
             access_ean: u64_at(bytes, 8),
@@ -237,7 +249,9 @@ impl RegisterRow {
             situation: bytes[52],
             supply: bytes[53],
             method: bytes[54],
-            zeros: bytes[55..64].try_into().unwrap(),
+            zero: bytes[55],
+            injection_party: u16_at(bytes, 56),
+            zeros: bytes[58..64].try_into().unwrap(),
         }
     }
 
@@ -301,7 +315,8 @@ pub fn judge(bytes: &[u8]) -> Option<(u8, u32)> {
     decode(bytes).err().map(|refusal| (refusal.number, refusal.item))
 }
 
-/// 1: "under 56 bytes, header out of range". Gives the header's fields and the days' lengths, the sections still empty.
+/// 1: "under 56 bytes, header out of range"; C-14: "Refusal 1 accepts versions 1 and 2." Gives the header's fields and
+/// the days' lengths, the sections still empty.
 fn judge_header(bytes: &[u8]) -> Result<Book, Refusal> {
     if bytes.len() < HEADER_LENGTH {
         return refused(1, 0);
@@ -322,7 +337,7 @@ fn judge_header(bytes: &[u8]) -> Result<Book, Refusal> {
         engagements: Vec::new(),
         day_lengths: Vec::new(),
     };
-    let good = book.version == 1
+    let good = (1..=2).contains(&book.version)
         && (2018..=2099).contains(&book.year)
         && (1..=12).contains(&book.month)
         && (1..=33).contains(&book.lead_days)
@@ -393,27 +408,30 @@ fn judge_register(book: &Book) -> Result<(), Refusal> {
             .iter()
             .filter(|other| other.access_ean == row.access_ean)
             .all(|other| other.supplier == row.supplier && other.supply == row.supply);
-        if !(good_register_row(row, book.days()) && rises && shares) {
+        if !(good_register_row(row, book) && rises && shares) {
             return refused(5, index);
         }
     }
     Ok(())
 }
 
-fn good_register_row(row: &RegisterRow, days: usize) -> bool {
+/// C-14: with an injection party "bytes 55 and 58 to 63 remain zero"; in version 1 all nine are.
+fn good_register_row(row: &RegisterRow, book: &Book) -> bool {
     let ean_limit = 10u64.pow(18);
     let company_limit = 10u64.pow(10);
     row.delivery_ean < ean_limit
         && row.access_ean < ean_limit
         && row.supplier < company_limit
         && row.fsp < company_limit
-        && (days..64).all(|day| !row.excludes(day))
+        && (book.days()..64).all(|day| !row.excludes(day))
         && row.largest_up as i64 <= MOST_WATTS
         && row.largest_down as i64 <= MOST_WATTS
         && row.situation <= 3
         && row.supply <= 1
         && row.method <= 2
-        && row.zeros == [0; 9]
+        && row.zero == 0
+        && (book.has_injection_parties() || row.injection_party == 0)
+        && row.zeros == [0; 6]
 }
 
 /// 6: "first reading out of range", named by its point.

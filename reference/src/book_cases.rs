@@ -29,6 +29,7 @@ pub fn cases() -> Vec<Case> {
     cases.clock_change_readings();
     cases.clock_change_engagements();
     cases.0.extend(random_cases(10, 40, &MONTHS));
+    cases.versions();
     cases.0
 }
 
@@ -50,12 +51,12 @@ pub fn answers(text: &str) -> String {
 }
 
 /// February 2021 with one lead day, 29 days in all.
-fn small(points: u16) -> Book {
+pub fn small(points: u16) -> Book {
     Book::plain(2021, 2, 1, points)
 }
 
 /// February 2021 with three lead days and three points, and engagements of the middle point.
-fn engaged() -> Book {
+pub fn engaged() -> Book {
     let mut book = Book::plain(2021, 2, 3, 3);
     book.engagements = vec![engagement(1, 4, 8, 4), engagement(1, 4, 20, 4), engagement(1, 6, 0, 1)];
     book.lay_out();
@@ -66,20 +67,27 @@ fn engagement(point: u16, day: u8, first: u8, count: u8) -> Engagement {
     Engagement { point, day, first, count, requested: 1, ..Engagement::default() }
 }
 
-struct Cases(Vec<Case>);
+/// The row whose bytes are these but for one.
+pub fn with_byte(row: &RegisterRow, byte: usize, value: u8) -> RegisterRow {
+    let mut bytes = row.encode();
+    bytes[byte] = value;
+    RegisterRow::decode(&bytes)
+}
+
+pub struct Cases(Vec<Case>);
 
 impl Cases {
-    fn bytes(&mut self, what: impl Into<String>, bytes: Vec<u8>) {
+    pub fn bytes(&mut self, what: impl Into<String>, bytes: Vec<u8>) {
         self.0.push(Case { what: what.into(), bytes });
     }
 
     /// The book as it is.
-    fn book(&mut self, what: impl Into<String>, book: &Book) {
+    pub fn book(&mut self, what: impl Into<String>, book: &Book) {
         self.bytes(what, book.encode());
     }
 
     /// The book with a change after its layout was made.
-    fn changed(&mut self, what: impl Into<String>, book: &Book, change: impl FnOnce(&mut Book)) {
+    pub fn changed(&mut self, what: impl Into<String>, book: &Book, change: impl FnOnce(&mut Book)) {
         let mut book = book.clone();
         change(&mut book);
         self.book(what, &book);
@@ -350,10 +358,10 @@ impl Cases {
         for method in [1, 2, 3, 255] {
             self.row(format!("method {method}"), |row| row.method = method);
         }
-        for place in 0..9 {
-            self.row(format!("zero byte {} of the row is 1", 55 + place), |row| row.zeros[place] = 1);
+        for byte in 55..64 {
+            self.row(format!("zero byte {byte} of the row is 1"), |row| *row = with_byte(row, byte, 1));
         }
-        self.row("the last zero byte of the row is 255", |row| row.zeros[8] = 255);
+        self.row("the last zero byte of the row is 255", |row| *row = with_byte(row, 63, 255));
         for index in [0, 2] {
             let what = format!("method 3 in row {index}");
             self.changed(what, &small(3), |book| book.register[index].method = 3);
@@ -651,15 +659,7 @@ impl Cases {
 
     /// Everything is bad from a refusal on: the books tell in which order the refusals come.
     fn order_of_refusals(&mut self) {
-        type Spoil = fn(&mut Book);
-        let spoil: [(u8, Spoil); 6] = [
-            (1, |book| book.zeros[5] = 1),
-            (2, |book| book.pairs[4].1 += 1),
-            (4, |book| book.choices[3].y = 21),
-            (5, |book| book.register[2].method = 3),
-            (6, |book| *book.readings[1].last_mut().unwrap() = i32::MAX),
-            (7, |book| book.engagements[1].count = 0),
-        ];
+        let spoil = spoils();
         for (what, base) in [("", engaged()), ("March, ", rebuilt_as_march(&engaged()))] {
             for from in 0..6 {
                 self.changed(format!("{what}bad in every way from {} on", spoil[from].0), &base, |book| {
@@ -789,6 +789,18 @@ impl Cases {
     }
 }
 
+/// A change of the book `engaged` for each refusal that it is then bad by.
+pub fn spoils() -> [(u8, fn(&mut Book)); 6] {
+    [
+        (1, |book| book.zeros[5] = 1),
+        (2, |book| book.pairs[4].1 += 1),
+        (4, |book| book.choices[3].y = 21),
+        (5, |book| book.register[2].method = 3),
+        (6, |book| *book.readings[1].last_mut().unwrap() = i32::MAX),
+        (7, |book| book.engagements[1].count = 0),
+    ]
+}
+
 /// Random good books of some months, each with one byte damaged after it.
 pub fn random_cases(seed: u64, count: usize, months: &[u8]) -> Vec<Case> {
     let mut cases = Vec::new();
@@ -814,7 +826,7 @@ fn rebuilt_as_march(book: &Book) -> Book {
 }
 
 /// A good book, nearly all of whose readings are zero.
-fn random_book(random: &mut Random, months: &[u8]) -> Book {
+pub fn random_book(random: &mut Random, months: &[u8]) -> Book {
     let year = random.range(2018, 2099) as u16;
     let month = random.pick(months);
     let lead_days = if random.once_in(4) { random.range(1, 33) } else { random.range(1, 4) } as u8;
@@ -874,7 +886,7 @@ fn random_book(random: &mut Random, months: &[u8]) -> Book {
 }
 
 /// A place of the book, more often one that is judged, and another value for it.
-fn random_damage(random: &mut Random, book: &Book, bytes: &[u8]) -> (usize, u8) {
+pub fn random_damage(random: &mut Random, book: &Book, bytes: &[u8]) -> (usize, u8) {
     let section = |index: usize| (book.pairs[index].0 as i64, (book.pairs[index].0 + book.pairs[index].1) as i64);
     let (start, end) = match random.range(0, 9) {
         0 | 1 => (0, 16),

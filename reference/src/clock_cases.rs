@@ -2,6 +2,7 @@
 
 use crate::book::{Book, Choice, MISSING};
 use crate::examples::{engage, looked_at_twice, month, read};
+use crate::settle::ROW_WIDTH;
 use crate::settle_cases::Cases;
 
 /// A month with a clock change on day `day` of its calendar, which then has `length` quarter-hours.
@@ -147,7 +148,7 @@ impl Cases {
             self.book(format!("{}, the whole day of {length}, method 2", change.name()), &book);
             let mut book = change.book(1, 1, 1);
             up(&mut book, change.day, 0, length as u8);
-            for numbers in [4 * length - 1, 4 * length] {
+            for numbers in [ROW_WIDTH * length - 1, ROW_WIDTH * length] {
                 self.lent(format!("{}, {length} rows, {numbers} numbers lent", change.name()), numbers, &book);
             }
             let mut book = change.book(1, 1, 1);

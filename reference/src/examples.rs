@@ -119,6 +119,18 @@ pub fn looked_at_twice() -> Book {
     book
 }
 
+/// C-14: one quarter-hour of this baseline and reading, limited to so many watts in its direction; direction 0 is up.
+pub fn one_quarter_hour(version: u16, direction: u8, baseline: i32, reading: i32, limit: u32, requested: u32) -> Book {
+    let mut book = june(1, 1, 1, 1);
+    book.version = version;
+    let row = &mut book.register[0];
+    (row.largest_up, row.largest_down) = if direction == 0 { (limit, 0) } else { (0, limit) };
+    read(&mut book, 0, 0, 50, &[baseline]);
+    read(&mut book, 0, 1, 50, &[reading]);
+    engage(&mut book, 0, 1, 50, 1, direction, requested);
+    book
+}
+
 /// The day with the greatest sum isn't the day with the greatest reading of each quarter-hour.
 pub fn ranked_by_sum() -> Book {
     let mut book = june(2, 1, 1, 2);

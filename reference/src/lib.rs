@@ -16,3 +16,4 @@ pub mod series;
 pub mod settle;
 pub mod settle_cases;
 pub mod sheet;
+pub mod split_cases;

@@ -5,7 +5,8 @@ use crate::refusal::{Refusal, refused};
 use crate::series::file_call;
 
 const INPUT_LIMIT: usize = 65_536;
-const ROWS_LENGTH: usize = 8_192;
+/// C-14: "the program's rows buffer has 10,240 numbers".
+const ROWS_LENGTH: usize = 10_240;
 const FILE_LENGTH: usize = 65_536;
 
 /// What the program prints for this input.

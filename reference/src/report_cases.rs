@@ -8,8 +8,10 @@ use crate::message_cases::{ids, moments};
 use crate::program;
 use crate::random::Random;
 use crate::series::file_call;
-use crate::settle_cases::{random_book, random_plain_book};
+use crate::settle::ROW_WIDTH;
+use crate::settle_cases::{random_book, random_plain_book, rows_text};
 use crate::sheet::sheet;
+use crate::split_cases;
 
 const FILE_LONG_ENOUGH: usize = 65_536;
 const ROWS_LONG_ENOUGH: usize = 8_192;
@@ -217,7 +219,7 @@ pub fn sheet_cases() -> Vec<SheetCase> {
     let mut bad = case_f();
     bad.pairs[4].0 += 1;
     add("2 before 11", 99, 0, &bad);
-    let bad = changed(&case_f(), &|book| book.version = 2);
+    let bad = changed(&case_f(), &|book| book.version = 3);
     add("1 before 11", 99, 0, &bad);
     add("October passes", 0, 3000, &Book::plain(2021, 10, 1, 1));
     for party in [1, 2] {
@@ -259,6 +261,7 @@ pub fn sheet_cases() -> Vec<SheetCase> {
         let party = random.range(1, 3) as u16;
         add("random book of any month", party, book.month_quarters(), &book);
     }
+    cases.extend(split_cases::sheet_cases());
     cases
 }
 
@@ -283,7 +286,7 @@ pub fn file_cases_text() -> String {
     text
 }
 
-/// `file ROWS BYTES`, a line of four numbers for each settlement row and a line with the file's bytes; or
+/// `file ROWS BYTES`, a line of five numbers for each settlement row and a line with the file's bytes; or
 /// `refused NUMBER ITEM`.
 pub fn file_answers(text: &str) -> String {
     let mut output = String::new();
@@ -296,10 +299,8 @@ pub fn file_answers(text: &str) -> String {
         match answer {
             Err(refusal) => output += &format!("refused {} {}\n", refusal.number, refusal.item),
             Ok(filed) => {
-                output += &format!("file {} {}\n", filed.rows.len() / 4, filed.file.len());
-                for four in filed.rows.chunks(4) {
-                    output += &format!("{} {} {} {}\n", four[0], four[1], four[2], four[3]);
-                }
+                output += &format!("file {} {}\n", filed.rows.len() / ROW_WIDTH, filed.file.len());
+                output += &rows_text(&filed.rows);
                 output += std::str::from_utf8(&filed.file).unwrap();
                 output += "\n";
             }
@@ -308,14 +309,14 @@ pub fn file_answers(text: &str) -> String {
     output
 }
 
-struct FileCases(Vec<FileCase>);
+pub struct FileCases(Vec<FileCase>);
 
 impl FileCases {
-    fn add(&mut self, what: &str, kind: u8, receiver: u64, book: &Book) {
+    pub fn add(&mut self, what: &str, kind: u8, receiver: u64, book: &Book) {
         self.changed(what, kind, receiver, book, |_| ());
     }
 
-    fn changed(&mut self, what: &str, kind: u8, receiver: u64, book: &Book, change: impl FnOnce(&mut FileCase)) {
+    pub fn changed(&mut self, what: &str, kind: u8, receiver: u64, book: &Book, change: impl FnOnce(&mut FileCase)) {
         let mut case = FileCase {
             what: what.to_string(),
             kind,
@@ -410,7 +411,7 @@ pub fn file_cases() -> Vec<FileCase> {
     }
     let length = CASE_F_FILE.len();
     for (rows_length, file_length) in
-        [(8, length), (7, length), (8, length - 1), (7, length - 1), (0, 0), (9, length + 1), (8, 0), (0, length)]
+        [(10, length), (9, length), (10, length - 1), (9, length - 1), (0, 0), (11, length + 1), (10, 0), (0, length)]
     {
         let what = format!("case F, {rows_length} numbers and {file_length} of {length} bytes lent");
         cases.changed(&what, 1, 7, &f, |case| (case.rows_length, case.file_length) = (rows_length, file_length));
@@ -428,6 +429,7 @@ pub fn file_cases() -> Vec<FileCase> {
         cases.add(&format!("random book {number}"), kind, receiver, &book);
     }
     clock_change_files(&mut cases);
+    split_cases::file_cases(&mut cases);
     cases.0
 }
 
@@ -440,7 +442,7 @@ fn clock_change_files(cases: &mut FileCases) {
         }
         let mut whole = change.book(0, 1, 1);
         engage(&mut whole, 0, change.day as u8, 0, change.length as u8, 0, 1);
-        let rows = 4 * change.length;
+        let rows = ROW_WIDTH * change.length;
         for rows_length in [rows - 1, rows] {
             let what = format!("{}, a whole day, {rows_length} of {rows} numbers lent", change.name());
             cases.changed(&what, 1, 7, &whole, |case| case.rows_length = rows_length);
@@ -506,7 +508,7 @@ pub fn program_answers(text: &str) -> String {
     output
 }
 
-const LINE: &str = "01 0000000007 T-1 2021-08-02T09:00:00.000+02:00\n";
+pub const LINE: &str = "01 0000000007 T-1 2021-08-02T09:00:00.000+02:00\n";
 
 pub fn program_cases() -> Vec<ProgramCase> {
     let mut cases = Vec::new();
@@ -595,6 +597,7 @@ pub fn program_cases() -> Vec<ProgramCase> {
         book.resize_readings(96 * book.days());
         add(format!("{}, 96 readings a day", change.name()), LINE.as_bytes(), &book.encode());
     }
+    split_cases::program_cases(&mut add);
     cases
 }
 
@@ -613,7 +616,7 @@ fn longest(add: &mut impl FnMut(String, &[u8], &[u8])) {
 }
 
 /// A point that delivers `watts` in quarter-hours 1 to 95 of some days.
-fn steady(days: u8, watts: i32) -> Book {
+pub fn steady(days: u8, watts: i32) -> Book {
     let mut book = june(1, 1, 1, 1);
     book.register[0].method = 0;
     for day in 1..=days {
@@ -623,7 +626,7 @@ fn steady(days: u8, watts: i32) -> Book {
     book
 }
 
-/// The rows buffer of 8,192 numbers and the file buffer of 65,536 bytes, each at both sides of its edge.
+/// The rows buffer of 10,240 numbers and the file buffer of 65,536 bytes, each at both sides of its edge.
 fn large_answers(add: &mut impl FnMut(String, &[u8], &[u8])) {
     for rows in [2047, 2048, 2049] {
         let mut book = steady(21, 0);

@@ -6,6 +6,9 @@ use crate::refusal::{Refusal, refused};
 /// "One watt is 30,240 grains; all results are whole grains."
 pub const GRAINS_PER_WATT: i128 = 30_240;
 
+/// How many numbers a row has; C-14: "Rows of results gain a fifth number".
+pub const ROW_WIDTH: usize = 5;
+
 /// What an engagement quarter-hour gives, in grains, and where it stands.
 #[derive(Clone, Copy, Debug, PartialEq, Eq)]
 pub struct Quarter {
@@ -18,9 +21,10 @@ pub struct Quarter {
     pub delivered: i128,
     pub source_correction: i128,
     pub fsp_correction: i128,
+    pub injection_correction: i128,
 }
 
-/// The settling call: four numbers for each engagement quarter-hour, or a refusal.
+/// The settling call: five numbers for each engagement quarter-hour, or a refusal.
 pub fn settle(bytes: &[u8], rows_length: usize) -> Result<Vec<i64>, Refusal> {
     let book = decode(bytes)?;
     let quarters = settle_book(&book)?;
@@ -32,10 +36,12 @@ pub fn settle(bytes: &[u8], rows_length: usize) -> Result<Vec<i64>, Refusal> {
 }
 
 /// "Each engagement quarter-hour, in order, gives four signed numbers: baseline, delivered, source and
-/// FSP correction."
+/// FSP correction"; C-14: "a fifth number, the injection correction".
 pub fn rows(quarters: &[Quarter]) -> Vec<i64> {
-    let four = |q: &Quarter| [q.baseline, q.delivered, q.source_correction, q.fsp_correction];
-    quarters.iter().flat_map(four).map(|grains| i64::try_from(grains).unwrap()).collect()
+    let row = |q: &Quarter| -> [i128; ROW_WIDTH] {
+        [q.baseline, q.delivered, q.source_correction, q.fsp_correction, q.injection_correction]
+    };
+    quarters.iter().flat_map(row).map(|grains| i64::try_from(grains).unwrap()).collect()
 }
 
 /// All engagement quarter-hours of a book that passed 1 to 7; "by engagement, 8 before 9".
@@ -209,9 +215,19 @@ fn baselines_high_x_of_y(book: &Book, engagement: &Engagement, days: &[usize], a
     (0..engagement.count as usize).map(of_quarter).collect()
 }
 
+/// C-14: "raise baseline and reading each to at least 0 and take the first less the second upward, the second less
+/// the first downward, a negative difference counting 0. The off-take party gets the lesser of this and the delivered
+/// volume."
+fn off_take_volume(baseline: i128, reading: i128, downward: bool, delivered: i128) -> i128 {
+    let (baseline, reading) = (baseline.max(0), reading.max(0));
+    let difference = if downward { reading - baseline } else { baseline - reading };
+    difference.max(0).min(delivered)
+}
+
 /// "Upward: baseline less reading; downward: reading less baseline; limited to 0 below and the register's
 /// largest watts above. The source party's correction is the delivered volume, the FSP party's is requested
-/// less delivered, both negated downward."
+/// less delivered, both negated downward." From version 2 on the source party is the off-take party, and "the injection
+/// party gets the rest. Down negates both"; "a version 1 row keeps its four numbers, and its fifth is 0".
 fn settle_quarter(book: &Book, engagement: &Engagement, quarter: usize, baseline: i128) -> Quarter {
     let point = engagement.point as usize;
     let day = engagement.day as usize;
@@ -222,6 +238,10 @@ fn settle_quarter(book: &Book, engagement: &Engagement, quarter: usize, baseline
         if downward { (reading - baseline, row.largest_down) } else { (baseline - reading, row.largest_up) };
     let delivered = volume.max(0).min(largest as i128 * GRAINS_PER_WATT);
     let requested = engagement.requested as i128 * GRAINS_PER_WATT;
+    let source = match book.has_injection_parties() {
+        true => off_take_volume(baseline, reading, downward, delivered),
+        false => delivered,
+    };
     let sign = if downward { -1 } else { 1 };
     Quarter {
         point,
@@ -231,7 +251,8 @@ fn settle_quarter(book: &Book, engagement: &Engagement, quarter: usize, baseline
         requested,
         baseline,
         delivered,
-        source_correction: sign * delivered,
+        source_correction: sign * source,
         fsp_correction: sign * (requested - delivered),
+        injection_correction: sign * (delivered - source),
     }
 }

@@ -5,7 +5,7 @@ use crate::calendar::MONTHS;
 use crate::case_text::{read_sparse, write_sparse};
 use crate::examples::*;
 use crate::random::Random;
-use crate::settle::settle;
+use crate::settle::{ROW_WIDTH, settle};
 
 /// A book and the length of the rows that are lent with it.
 pub struct SettleCase {
@@ -35,6 +35,7 @@ pub fn cases() -> Vec<SettleCase> {
     cases.0.extend(random_large_cases(3));
     cases.clock_changes();
     cases.0.extend(random_cases(11, 14, random_book));
+    cases.splits();
     cases.0
 }
 
@@ -43,7 +44,7 @@ pub fn cases_text(cases: &[SettleCase]) -> String {
     cases.iter().map(|case| format!("{} {}\n", case.rows_length, write_sparse(&case.bytes))).collect()
 }
 
-/// The expected output for a text of cases: `rows COUNT` and a line of four numbers for each row, or
+/// The expected output for a text of cases: `rows COUNT` and a line of five numbers for each row, or
 /// `refused NUMBER ITEM`.
 pub fn answers(text: &str) -> String {
     let mut output = String::new();
@@ -52,21 +53,25 @@ pub fn answers(text: &str) -> String {
         match settle(&read_sparse(&words[1..]), words[0].parse().unwrap()) {
             Err(refusal) => output += &format!("refused {} {}\n", refusal.number, refusal.item),
             Ok(rows) => {
-                output += &format!("rows {}\n", rows.len() / 4);
-                for four in rows.chunks(4) {
-                    output += &format!("{} {} {} {}\n", four[0], four[1], four[2], four[3]);
-                }
+                output += &format!("rows {}\n", rows.len() / ROW_WIDTH);
+                output += &rows_text(&rows);
             }
         }
     }
     output
 }
 
+/// A line for each row.
+pub fn rows_text(rows: &[i64]) -> String {
+    let line = |row: &[i64]| row.iter().map(i64::to_string).collect::<Vec<_>>().join(" ") + "\n";
+    rows.chunks(ROW_WIDTH).map(line).collect()
+}
+
 fn quarter_hours(book: &Book) -> usize {
     book.engagements.iter().map(|row| row.count as usize).sum()
 }
 
-pub struct Cases(Vec<SettleCase>);
+pub struct Cases(pub Vec<SettleCase>);
 
 impl Cases {
     pub fn lent(&mut self, what: impl Into<String>, rows_length: usize, book: &Book) {
@@ -75,7 +80,7 @@ impl Cases {
 
     /// With rows of exactly the length of the answer.
     pub fn book(&mut self, what: impl Into<String>, book: &Book) {
-        self.lent(what, 4 * quarter_hours(book), book);
+        self.lent(what, ROW_WIDTH * quarter_hours(book), book);
     }
 
     pub fn changed(&mut self, what: impl Into<String>, book: &Book, change: impl FnOnce(&mut Book)) {
@@ -106,7 +111,7 @@ impl Cases {
     /// Settling refuses what 1 to 7 refuse, whatever is lent.
     fn refused_books(&mut self) {
         let base = case_f();
-        self.changed("1: version 2", &base, |book| book.version = 2);
+        self.changed("1: version 3", &base, |book| book.version = 3);
         self.changed("5: method 3", &base, |book| book.register[0].method = 3);
         self.changed("6: a reading of 2^31 - 1", &base, |book| book.readings[0][100] = i32::MAX);
         self.changed("7: nothing requested", &base, |book| book.engagements[0].requested = 0);
@@ -123,17 +128,17 @@ impl Cases {
 
     fn buffers(&mut self) {
         let f = case_f();
-        for length in [0, 1, 4, 7, 8, 9, 12, 100] {
+        for length in [0, 1, 5, 9, 10, 11, 15, 100] {
             self.lent(format!("case F (2 rows), {length} numbers lent"), length, &f);
         }
         let empty = june(3, 1, 2, 3);
-        for length in [0, 1, 4] {
+        for length in [0, 1, 5] {
             self.lent(format!("no engagement, {length} numbers lent"), length, &empty);
         }
         let mut long = june(1, 1, 1, 1);
         engage(&mut long, 0, 1, 0, 96, 0, 1);
         engage(&mut long, 0, 2, 0, 96, 1, 1);
-        for length in [383, 384, 767, 768] {
+        for length in [479, 480, 959, 960] {
             self.lent(format!("192 rows, {length} numbers lent"), length, &long);
         }
         self.lent("9 before 10", 0, &{
@@ -783,7 +788,7 @@ pub fn random_cases(seed: u64, count: usize, book: fn(&mut Random) -> Book) -> V
     let mut random = Random::new(seed);
     for number in 1..=count {
         let book = book(&mut random);
-        let exact = 4 * quarter_hours(&book);
+        let exact = ROW_WIDTH * quarter_hours(&book);
         let length = match random.range(0, 9) {
             0 => exact.saturating_sub(1),
             1 => exact + 3,

@@ -1,6 +1,6 @@
 //! A balance party's sheet.
 
-use crate::book::{Book, decode};
+use crate::book::{Book, RegisterRow, decode};
 use crate::refusal::{Refusal, refused};
 use crate::settle::{Quarter, settle_book};
 
@@ -18,26 +18,35 @@ pub fn sheet(bytes: &[u8], party: u16, sheet_length: usize) -> Result<Vec<i64>, 
     Ok(numbers.into_iter().map(|grains| i64::try_from(grains).unwrap()).collect())
 }
 
-/// All parties of both columns of the register, each once.
+/// The columns of a register row that name a balance party. C-14: "From version 2 on, sheets and refusal 11 read the new
+/// column as well."
+fn columns(book: &Book, row: &RegisterRow) -> Vec<u16> {
+    let mut columns = vec![row.source_party, row.fsp_party];
+    if book.has_injection_parties() {
+        columns.push(row.injection_party);
+    }
+    columns
+}
+
+/// All parties of all columns of the register, each once.
 pub fn parties(book: &Book) -> Vec<u16> {
-    let mut parties: Vec<u16> = book.register.iter().flat_map(|row| [row.source_party, row.fsp_party]).collect();
+    let mut parties: Vec<u16> = book.register.iter().flat_map(|row| columns(book, row)).collect();
     parties.sort();
     parties.dedup();
     parties
 }
 
 /// "A party's sheet has the sum of its corrections for each quarter-hour of the month"; "one party in both
-/// columns gets both".
+/// columns gets both", and one in three all three.
 pub fn sheet_numbers(book: &Book, quarters: &[Quarter], party: u16) -> Vec<i128> {
     let mut sheet = vec![0; book.month_quarters()];
     for quarter in quarters {
-        let row = &book.register[quarter.point];
-        let place = position(book, quarter) - 1;
-        if row.source_party == party {
-            sheet[place] += quarter.source_correction;
-        }
-        if row.fsp_party == party {
-            sheet[place] += quarter.fsp_correction;
+        let columns = columns(book, &book.register[quarter.point]);
+        let corrections = [quarter.source_correction, quarter.fsp_correction, quarter.injection_correction];
+        for (column, correction) in columns.into_iter().zip(corrections) {
+            if column == party {
+                sheet[position(book, quarter) - 1] += correction;
+            }
         }
     }
     sheet

@@ -3,7 +3,7 @@
 use reference::book::{Book, Choice};
 use reference::examples::engage;
 use reference::series::file_call;
-use reference::settle::{GRAINS_PER_WATT, settle};
+use reference::settle::{GRAINS_PER_WATT, ROW_WIDTH, settle};
 
 /// June 2021 from Monday 31 May on: two points, the second at half of the first's level, turned down from 14:00 to 15:00 on the 10th.
 fn cold_store() -> Book {
@@ -33,8 +33,8 @@ fn cold_store() -> Book {
 #[test]
 fn examples_print_this() {
     let bytes = cold_store().encode();
-    let mut text = "baseline, delivered, source and FSP correction, in kilowatts\n".to_string();
-    for row in settle(&bytes, usize::MAX).unwrap().chunks(4) {
+    let mut text = "baseline, delivered, source, FSP and injection correction, in kilowatts\n".to_string();
+    for row in settle(&bytes, usize::MAX).unwrap().chunks(ROW_WIDTH) {
         let kilowatts = |&grains: &i64| {
             let watts = grains as i128 / GRAINS_PER_WATT;
             assert_eq!(watts * GRAINS_PER_WATT, grains as i128);

@@ -1,7 +1,7 @@
-//! Demand 3 on random books: sheets sum to the requested volume, TOE01 and TOE02 agree, and every series
+//! Demand 3 on random books of both versions: sheets sum to the requested volume, TOE01 and TOE02 agree, and every series
 //! is rounded down once.
 
-use reference::book::{Book, decode};
+use reference::book::{Book, RegisterRow, decode};
 use reference::message::read;
 use reference::random::Random;
 use reference::report_cases::{busy_pool, heat_pumps};
@@ -9,6 +9,7 @@ use reference::series::{file_call, series_grains};
 use reference::settle::{GRAINS_PER_WATT, Quarter, settle_book};
 use reference::settle_cases::random_book;
 use reference::sheet::{parties, requested_volume, sheet};
+use reference::split_cases::random_split_book;
 use std::collections::{BTreeMap, BTreeSet};
 
 /// Watts by (kind, receiver, partner, supply, direction, position), read from the written bytes.
@@ -89,6 +90,36 @@ fn sheets_and_files_of_random_books() {
         }
     }
     assert!(accepted > 100 && several > 50 && clock_changes > 10);
+}
+
+/// C-14: "The sum over balance parties includes the new one": three columns, each party once.
+#[test]
+fn sheets_and_files_of_random_books_of_version_2() {
+    let mut random = Random::new(16);
+    let (mut accepted, mut shared, mut in_none, mut only_injection) = (0, 0, 0, 0);
+    let mut split = [0; 4];
+    for _ in 0..400 {
+        let bytes = random_split_book(&mut random).encode();
+        let book = decode(&bytes).unwrap();
+        if let Ok(quarters) = settle_book(&book) {
+            accepted += 1;
+            let columns = |row: &RegisterRow| [row.source_party, row.fsp_party, row.injection_party];
+            let all: BTreeSet<u16> = book.register.iter().flat_map(columns).collect();
+            assert!(parties(&book).into_iter().eq(all.iter().copied()));
+            shared += book.register.iter().any(|row| columns(row)[..2].contains(&row.injection_party)) as usize;
+            in_none += !all.contains(&0) as usize;
+            let others: BTreeSet<u16> =
+                book.register.iter().flat_map(|row| [row.source_party, row.fsp_party]).collect();
+            only_injection += (all != others) as usize;
+            for quarter in &quarters {
+                let parts = (quarter.source_correction != 0, quarter.injection_correction != 0);
+                split[parts.0 as usize + 2 * parts.1 as usize] += 1;
+            }
+            holds(&book, &bytes, &quarters);
+        }
+    }
+    assert!(accepted > 200 && shared > 50 && in_none > 50 && only_injection > 50);
+    assert!(split.into_iter().all(|quarters| quarters > 30), "{split:?}");
 }
 
 /// A point has engagements on more than one day, so that the balance is over baselines that step over the earlier ones.

@@ -13,7 +13,7 @@ use reference::sheet::sheet;
 use std::collections::BTreeSet;
 
 const LARGEST_BOOK: usize = 6_320_256;
-const LARGEST_ROWS: usize = 200_704;
+const LARGEST_ROWS: usize = 250_880;
 const LARGEST_SHEET: usize = 2_980;
 const LARGEST_FILES: [usize; 3] = [4_443_665, 4_438_545, 4_427_293];
 
@@ -63,9 +63,13 @@ fn largest_files() {
 
 #[test]
 fn largest_rows_and_sheet() {
-    let bytes = largest(1).encode();
-    assert_eq!(settle(&bytes, LARGEST_ROWS).unwrap().len(), LARGEST_ROWS);
-    assert_eq!(sheet(&bytes, 0, LARGEST_SHEET).unwrap().len(), LARGEST_SHEET);
+    for version in [1, 2] {
+        let mut book = largest(1);
+        book.version = version;
+        let bytes = book.encode();
+        assert_eq!(settle(&bytes, LARGEST_ROWS).unwrap().len(), LARGEST_ROWS);
+        assert_eq!(sheet(&bytes, 0, LARGEST_SHEET).unwrap().len(), LARGEST_SHEET);
+    }
 }
 
 /// The length that docs/BOOK.md gives for every file of a book.

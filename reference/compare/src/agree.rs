@@ -4,13 +4,13 @@ use crate::books::{damaged_book, damaged_file, random_book};
 use crate::calls::{self, Named};
 use crate::lent::{Lent, Tally, near};
 use crate::quick;
-use reference::book::decode;
+use reference::book::{Book, decode};
 use reference::message::{self, FileRead};
 use reference::message_cases::{CLOCK_CHANGE_POSITIONS, random_file};
 use reference::random::Random;
 use reference::refusal::Refusal;
 use reference::series;
-use reference::settle;
+use reference::settle::{self, ROW_WIDTH};
 use reference::sheet;
 
 const LONG: usize = 1 << 22;
@@ -18,11 +18,44 @@ const LONG: usize = 1 << 22;
 struct Comparison {
     random: Random,
     tally: Tally,
+    split: Split,
+}
+
+/// What was met of both versions of the book.
+#[derive(Default)]
+struct Split {
+    /// Rows of version 1, and of version 2 without delivery, to the off-take party, to the injection party, to both.
+    rows: [usize; 5],
+    /// Sheets of parties in the injection column, and of those that stand in no other.
+    sheets: [usize; 2],
+}
+
+impl Split {
+    fn count_rows(&mut self, version: u16, rows: &[i64]) {
+        for row in rows.chunks(ROW_WIDTH) {
+            let kind = 1 + (row[2] != 0) as usize + 2 * (row[4] != 0) as usize;
+            self.rows[if version == 1 { 0 } else { kind }] += 1;
+        }
+    }
+
+    fn count_sheet(&mut self, book: &Book, party: u16) {
+        let injection = book.register.iter().any(|row| row.injection_party == party) && book.version > 1;
+        let others = book.register.iter().any(|row| row.source_party == party || row.fsp_party == party);
+        self.sheets[0] += injection as usize;
+        self.sheets[1] += (injection && !others) as usize;
+    }
+
+    fn print(&self) {
+        let [first, none, off_take, injection, both] = self.rows;
+        println!("  rows of version 1: {first}");
+        println!("  of version 2: {none} without delivery, {off_take} off-take, {injection} injection, {both} both");
+        println!("  sheets of injection parties: {}, {} in no other column", self.sheets[0], self.sheets[1]);
+    }
 }
 
 /// The seed's comparisons, so many rounds of them.
 pub fn run(seed: u64, rounds: usize) {
-    let mut comparison = Comparison { random: Random::new(seed), tally: Tally::default() };
+    let mut comparison = Comparison { random: Random::new(seed), tally: Tally::default(), split: Split::default() };
     for round in 1..=rounds {
         comparison.round();
         if round % (rounds / 10).max(1) == 0 {
@@ -30,6 +63,7 @@ pub fn run(seed: u64, rounds: usize) {
         }
     }
     comparison.tally.print();
+    comparison.split.print();
 }
 
 fn check(alike: bool, call: &str, what: &str, bytes: &[u8]) {
@@ -63,13 +97,17 @@ impl Comparison {
         let needed = settle::settle(bytes, LONG).map_or(8, |rows| rows.len());
         let length = near(&mut self.random, needed);
         let expected = settle::settle(bytes, length);
-        let count = |answer: &Result<Vec<i64>, Refusal>| answer.as_ref().map(|rows| rows.len() / 4).map_err(|r| *r);
+        let count =
+            |answer: &Result<Vec<i64>, Refusal>| answer.as_ref().map(|rows| rows.len() / ROW_WIDTH).map_err(|r| *r);
         for settle in [calls::settle, quick::settle] {
             let mut rows = Lent::new(&mut self.random, length, |n| n as i64);
             let answer = settle(bytes, rows.slice());
             check(answer == count(&expected) && rows.is_as(&expected), "settle", &format!("{answer:?}"), bytes);
         }
         self.tally.count("settle", &expected);
+        if let Ok(rows) = &expected {
+            self.split.count_rows(decode(bytes).unwrap().version, rows);
+        }
     }
 
     fn sheet(&mut self, bytes: &[u8]) {
@@ -86,6 +124,9 @@ impl Comparison {
         let alike = answer == expected.as_ref().map(Vec::len).map_err(|r| *r) && sums.is_as(&expected);
         check(alike, "sheet", &format!("party {party}, {answer:?}"), bytes);
         self.tally.count("sheet", &expected);
+        if expected.is_ok() {
+            self.split.count_sheet(&decode(bytes).unwrap(), party);
+        }
     }
 
     /// A kind, a receiver that is mostly in its role, and an ID and a moment that are mostly in form.

@@ -4,9 +4,15 @@ use reference::book::{Book, Choice, Engagement, MISSING};
 use reference::calendar::MONTHS;
 use reference::random::Random;
 use reference::settle_cases;
+use reference::split_cases::random_split_book;
 
+/// A good book of version 1 or 2.
 pub fn random_book(random: &mut Random) -> Book {
-    if random.once_in(3) { settle_cases::random_book(random) } else { full_book(random) }
+    match random.range(0, 5) {
+        0 => settle_cases::random_book(random),
+        1 => random_split_book(random),
+        _ => full_book(random),
+    }
 }
 
 /// A book with readings everywhere, whose points share access points, companies and parties.
@@ -15,6 +21,7 @@ fn full_book(random: &mut Random) -> Book {
     let lead_days = if random.once_in(5) { random.range(1, 33) } else { random.range(3, 9) } as u8;
     let points = if random.once_in(40) { random.range(7, 30) } else { random.range(1, 5) } as u16;
     let mut book = Book::plain(random.range(2018, 2099) as u16, month, lead_days, points);
+    book.version = random.range(1, 2) as u16;
     for category in &mut book.calendar {
         *category = if random.once_in(5) { random.range(0, 3) as u8 } else { 0 };
     }
@@ -39,12 +46,14 @@ fn fill_point(random: &mut Random, book: &mut Book, point: usize) {
     row.supplier = random.range(1, 3) as u64;
     row.fsp = random.pick(&[1, 2, 9_999_999_999]);
     row.access_ean = 10 * row.supplier + row.supply as u64;
-    row.source_party = random.range(1, 4) as u16;
+    row.source_party = if random.once_in(8) { 0 } else { random.range(1, 4) as u16 };
     row.fsp_party = random.range(3, 6) as u16;
+    row.injection_party = if book.version == 1 { 0 } else { random.pick(&[0, 1, 2, 4, 5, 8, 258, 513, 65535]) };
     row.largest_up = random.pick(&[0, 40, 5000, 1_000_000_000]);
     row.largest_down = random.pick(&[0, 40, 5000, 1_000_000_000]);
     row.excluded_days = if random.once_in(3) { 1 << random.range(0, days as i64 - 1) } else { 0 };
-    let (level, spread) = (random.range(-500, 5000), random.pick(&[1, 50, 3000]));
+    let spread = random.pick(&[1, 50, 3000]);
+    let level = if random.once_in(2) { random.range(-spread, 0) } else { random.range(-500, 5000) };
     for watts in &mut book.readings[point] {
         *watts = if random.once_in(3000) { MISSING } else { (level + random.range(0, spread)) as i32 };
     }
@@ -99,6 +108,13 @@ fn change_readings(random: &mut Random, bytes: &mut [u8], (start, length): (i64,
     }
 }
 
+/// Another value for one of the nine bytes behind a register row's method, of which version 2 has two for a party.
+fn change_last_nine(random: &mut Random, bytes: &mut [u8], (start, length): (i64, i64)) {
+    let row = start + 64 * random.range(0, length / 64 - 1);
+    let place = (row + random.range(55, 63)) as usize;
+    bytes[place] = other(random, bytes[place]);
+}
+
 /// The bytes of a book with some of them changed, cut off or added, now and then with 96 readings on every day.
 pub fn damaged_book(random: &mut Random, book: &Book) -> Vec<u8> {
     let mut book = book.clone();
@@ -124,6 +140,9 @@ pub fn damaged_book(random: &mut Random, book: &Book) -> Vec<u8> {
     }
     if random.once_in(6) {
         change_readings(random, &mut bytes, section(3));
+    }
+    if random.once_in(12) {
+        change_last_nine(random, &mut bytes, section(2));
     }
     match random.range(0, 19) {
         0 => bytes.truncate(random.range(0, bytes.len() as i64) as usize),

@@ -62,6 +62,8 @@ impl Clock {
 
 /// A book whose layout is good, and its sections.
 struct Sections<'a> {
+    /// Whether its rows have an injection party, which is so from version 2 on.
+    splits: bool,
     lead: usize,
     days: usize,
     clock: Clock,
@@ -81,7 +83,7 @@ fn sections(book: &[u8]) -> Result<Sections<'_>, Refusal> {
     }
     let (version, year, month, lead) = (u16_at(book, 0), u16_at(book, 2), book[4], book[5] as usize);
     let (points, rows) = (u16_at(book, 6) as usize, u16_at(book, 8) as usize);
-    let ranged = version == 1
+    let ranged = (1..=2).contains(&version)
         && (2018..=2099).contains(&year)
         && (1..=12).contains(&month)
         && (1..=33).contains(&lead)
@@ -110,7 +112,8 @@ fn sections(book: &[u8]) -> Result<Sections<'_>, Refusal> {
         return refused(2, 0);
     }
     let [calendar, pairs, register, readings, engagements] = parts;
-    Ok(Sections { lead, days, clock, quarters, point_bytes, calendar, pairs, register, readings, engagements })
+    let splits = version >= 2;
+    Ok(Sections { splits, lead, days, clock, quarters, point_bytes, calendar, pairs, register, readings, engagements })
 }
 
 fn judge_tables(s: &Sections) -> Result<(), Refusal> {
@@ -123,6 +126,8 @@ fn judge_tables(s: &Sections) -> Result<(), Refusal> {
 
 fn judge_register(s: &Sections) -> Result<(), Refusal> {
     let mut access_points: HashMap<u64, (u64, u8)> = HashMap::new();
+    // Of the row's last eight bytes the first two are the injection party, low byte first.
+    let zeros = if s.splits { !0xffff } else { u64::MAX };
     let mut last = None;
     for (index, row) in s.register.chunks_exact(64).enumerate() {
         let (delivery, access, supplier) = (u64_at(row, 0), u64_at(row, 8), u64_at(row, 16));
@@ -137,7 +142,8 @@ fn judge_register(s: &Sections) -> Result<(), Refusal> {
             && row[52] <= 3
             && row[53] <= 1
             && row[54] <= 2
-            && row[55..64] == [0; 9]
+            && row[55] == 0
+            && u64_at(row, 56) & zeros == 0
             && last.is_none_or(|last| last < delivery);
         let shared = access_points.entry(access).or_insert((supplier, row[53]));
         if !good || *shared != (supplier, row[53]) {
@@ -369,20 +375,25 @@ fn settle_engagement(
     Ok(())
 }
 
-fn write_rows(s: &Sections, e: &Engagement, bases: &[i64], out: &mut [i64]) {
+/// The numbers of a row.
+const ROW_WIDTH: usize = 5;
+
+fn write_rows<const SPLITS: bool>(s: &Sections, e: &Engagement, bases: &[i64], out: &mut [i64]) {
     let row = &s.register[64 * e.point..64 * e.point + 64];
     let from = s.point_bytes * e.point + 4 * (s.clock.day_start(e.day) + e.first);
     let own = &s.readings[from..from + 4 * e.count];
     let most = u32_at(row, if e.down { 44 } else { 40 }) as i64 * GRAINS_PER_WATT;
     let requested = e.requested as i64 * GRAINS_PER_WATT;
     let sign = if e.down { -1 } else { 1 };
-    for ((four, base), bytes) in out.chunks_exact_mut(4).zip(bases).zip(own.chunks_exact(4)) {
-        let watts = i32::from_le_bytes(bytes.try_into().unwrap()) as i64 * GRAINS_PER_WATT;
-        let delivered = (sign * (base - watts)).clamp(0, most);
-        four[0] = *base;
-        four[1] = delivered;
-        four[2] = sign * delivered;
-        four[3] = sign * (requested - delivered);
+    for ((five, &base), bytes) in out.chunks_exact_mut(ROW_WIDTH).zip(bases).zip(own.chunks_exact(4)) {
+        let level = i32::from_le_bytes(bytes.try_into().unwrap()) as i64 * GRAINS_PER_WATT;
+        let delivered = (sign * (base - level)).clamp(0, most);
+        let off_take = if SPLITS { (sign * (base.max(0) - level.max(0))).max(0).min(delivered) } else { delivered };
+        five[0] = base;
+        five[1] = delivered;
+        five[2] = sign * off_take;
+        five[3] = sign * (requested - delivered);
+        five[4] = sign * (delivered - off_take);
     }
 }
 
@@ -395,7 +406,8 @@ pub fn settle(book: &[u8], rows: &mut [i64]) -> Result<usize, Refusal> {
     judge_engagements(&s)?;
     let count: usize = s.engagements.chunks_exact(16).map(|row| row[4] as usize).sum();
     // A refusal changes no buffer: where the rows might not be filled, they are filled apart.
-    let mut apart = vec![0; 4 * count];
+    let mut apart = vec![0; ROW_WIDTH * count];
+    let write_rows = if s.splits { write_rows::<true> } else { write_rows::<false> };
     let engaged = engaged_days(&s);
     let mut sums = DaySums { sums: vec![0; s.quarters + 1] };
     let mut bases = [0; 100];
@@ -409,12 +421,12 @@ pub fn settle(book: &[u8], rows: &mut [i64]) -> Result<usize, Refusal> {
         if let Err(number) = settle_engagement(&s, &e, engaged[e.point], &sums, &mut bases) {
             return refused(number, index);
         }
-        write_rows(&s, &e, &bases[..e.count], &mut apart[at..at + 4 * e.count]);
-        at += 4 * e.count;
+        write_rows(&s, &e, &bases[..e.count], &mut apart[at..at + ROW_WIDTH * e.count]);
+        at += ROW_WIDTH * e.count;
     }
-    if rows.len() < 4 * count {
+    if rows.len() < apart.len() {
         return refused(10, 0);
     }
-    rows[..4 * count].copy_from_slice(&apart);
+    rows[..apart.len()].copy_from_slice(&apart);
     Ok(count)
 }

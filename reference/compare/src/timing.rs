@@ -4,12 +4,13 @@ use crate::{calls, quick};
 use reference::book::{Book, Choice, Engagement};
 use reference::random::Random;
 use reference::refusal::Refusal;
-use reference::settle;
+use reference::settle::{self, ROW_WIDTH};
 use std::time::Instant;
 
-/// What a timed book has: engagements of one method, count and X and Y, on 64 days up to the end of a month.
+/// What a timed book has: its version, and engagements of one method, count and X and Y, on 64 days up to the end of a month.
 #[derive(Clone, Copy)]
 struct Shape {
+    version: u16,
     month: (u16, u8),
     points: u16,
     engagements: u16,
@@ -18,18 +19,20 @@ struct Shape {
 }
 
 /// The largest settling.
-const LARGEST: Shape = Shape { month: (2021, 8), points: 256, engagements: 512, method: 2, count: 48 };
+const LARGEST: Shape = Shape { version: 1, month: (2021, 8), points: 256, engagements: 512, method: 2, count: 48 };
 
-/// A book with 33 lead days, X 10 and Y 20.
+/// A book with 33 lead days, X 10 and Y 20; of version 2 the same with an injection party.
 fn month(seed: u64, shape: Shape) -> Book {
-    let Shape { month: (year, month), points, engagements, method, count } = shape;
+    let Shape { version, month: (year, month), points, engagements, method, count } = shape;
     let mut random = Random::new(seed);
     let mut book = Book::plain(year, month, 33, points);
+    book.version = version;
     book.choices = vec![Choice { x: 10, y: 20 }; 4];
     for row in &mut book.register {
         (row.supplier, row.fsp, row.method) = (3, 7, method);
         (row.largest_up, row.largest_down) = (500_000, 500_000);
         (row.source_party, row.fsp_party) = (1, 2);
+        row.injection_party = if book.version >= 2 { 3 } else { 0 };
     }
     for watts in book.readings.iter_mut().flatten() {
         *watts = random.range(-200_000, 1_000_000) as i32;
@@ -87,7 +90,7 @@ impl Timed {
         let begun = Instant::now();
         let answer = settle(&self.bytes, &mut self.rows);
         let spent = begun.elapsed().as_nanos() as u64;
-        assert!(answer == Ok(self.rows.len() / 4) && self.rows == self.expected, "the rows differ");
+        assert!(answer == Ok(self.rows.len() / ROW_WIDTH) && self.rows == self.expected, "the rows differ");
         spent
     }
 
@@ -191,6 +194,12 @@ pub fn run() {
     for book in timed([(1, Shape { month: (2023, 10), ..LARGEST })].into_iter(), in_turn) {
         book.print("book 1", "");
     }
+    println!("the seven books of version 2");
+    let books = timed((1..=7).map(|seed| (seed, Shape { version: 2, ..LARGEST })), in_turn);
+    for (book, seed) in books.iter().zip(1..) {
+        book.print(&format!("book {seed}"), "");
+    }
+    println!("  greatest ratio {:.2}", greatest_ratio(&books));
     let growths = [
         doubling("points", 32, |points| Shape { points, ..LARGEST }),
         doubling("engagements", 64, |engagements| Shape { engagements, ..LARGEST }),
