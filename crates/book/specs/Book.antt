@@ -4,7 +4,7 @@ use Prim.Native.Nat.{ℕ}
 use Rattle.integers.specs.Ranges.{range}
 use Rattle.wire.specs.declared.Reading.{Reading}
 use Rattle.quarters.specs.declared.Calendar.{Calendar}
-use Rattle.book.specs.Header.{calendarOf, pointCount, engagementCount, calendarSection, tableSection, registerSection, readingSection, engagementSection}
+use Rattle.book.specs.Header.{versionOf, calendarOf, pointCount, engagementCount, calendarSection, tableSection, registerSection, readingSection, engagementSection}
 use Rattle.book.specs.Tables.{categoryAt, xAt, yAt}
 use Rattle.book.specs.Register.{pointAt}
 use Rattle.book.specs.Metering.{meterAt}
@@ -12,8 +12,9 @@ use Rattle.book.specs.Engagements.{engagementAt}
 use Rattle.book.specs.declared.Point.{Point}
 use Rattle.book.specs.declared.Engagement.{Engagement}
 
--- categories by day, X and Y by category, readings by point and quarter-hour of the calendar
+-- which version it is of; categories by day, X and Y by category, readings by point and quarter-hour of the calendar
 pub record Book : Type 0 where
+  pub version : ℕ
   pub calendar : Calendar
   pub category : ℕ → ℕ
   pub x : ℕ → ℕ
@@ -26,6 +27,7 @@ pub record Book : Type 0 where
 unfoldable pub bookOf : List ℕ → Book
 bookOf bytes =
     record {
+      version = versionOf bytes;
       calendar = calendarOf bytes;
       category = categoryAt (calendarSection bytes);
       x = xAt (tableSection bytes);

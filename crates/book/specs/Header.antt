@@ -10,8 +10,8 @@ use Rattle.quarters.specs.declared.Calendar.{Calendar}
 use Rattle.quarters.specs.Quarters.{daysOf, quartersOf}
 
 -- "Header: version u16 = 1; year u16 ..; month u8; lead days L u8 ..; points P u16 ..; engagements E u16 ..; six zero bytes."
-abbrev pub version : List ℕ → ℕ
-version book = numberAt book 0 2
+abbrev pub versionOf : List ℕ → ℕ
+versionOf book = numberAt book 0 2
 
 abbrev pub calendarOf : List ℕ → Calendar
 calendarOf book =
@@ -38,7 +38,7 @@ versionTaken v = eqb v 1
 -- "year u16, 2018 to 2099; month u8; lead days L u8, 1 to 33; points P u16, 1 to 256; engagements E u16, 0 to 512; six zero bytes"
 unfoldable pub headerFields : List ℕ → Bool
 headerFields book =
-    versionTaken (version book)
+    versionTaken (versionOf book)
     && (between 2018 2099 (calendarOf book .year)
     && (between 1 12 (calendarOf book .month)
     && (between 1 33 (calendarOf book .lead)

@@ -13,7 +13,7 @@ use Rattle.wire.specs.Numbers.{numberAt}
 use Rattle.wire.specs.NumbersLaws.{in-part}
 use Rattle.quarters.specs.declared.Calendar.{Calendar}
 use Rattle.quarters.specs.Quarters.{daysOf, quartersOf}
-use Rattle.book.specs.Header.{version, calendarOf, pointCount, engagementCount, between, versionTaken, headerFields, headerGood, pointWidth, engagementWidth, rowAt, offsetOf, lengthOf, isExtent, sizes, adjoining, sectionOf}
+use Rattle.book.specs.Header.{versionOf, calendarOf, pointCount, engagementCount, between, versionTaken, headerFields, headerGood, pointWidth, engagementWidth, rowAt, offsetOf, lengthOf, isExtent, sizes, adjoining, sectionOf}
 use Rattle.quarters.specs.QuartersInner.{Ranged}
 
 -- the part that ends a row later is the row
@@ -100,8 +100,8 @@ headed book e =
     let e₄ = between 1 33 (c .lead) && e₅ in
     let e₃ = between 1 12 (c .month) && e₄ in
     let e₂ = between 2018 2099 (c .year) && e₃ in
-    let f₁ = both (leb 56 (length book)) (versionTaken (version book) && e₂) e in
-    let f₂ = both (versionTaken (version book)) e₂ (f₁ .1) in
+    let f₁ = both (leb 56 (length book)) (versionTaken (versionOf book) && e₂) e in
+    let f₂ = both (versionTaken (versionOf book)) e₂ (f₁ .1) in
     let f₃ = both (between 2018 2099 (c .year)) e₃ (f₂ .1) in
     let f₄ = both (between 1 12 (c .month)) e₄ (f₃ .1) in
     let f₅ = both (between 1 33 (c .lead)) e₅ (f₄ .1) in

@@ -71,6 +71,10 @@ sourcePartyIn row = numberAt row 48 2
 abbrev pub fspPartyIn : List ℕ → ℕ
 fspPartyIn row = numberAt row 50 2
 
+-- 02, C-14: "the injection party in bytes 56 and 57 of the register row", which are zero in version 1
+abbrev pub injectionPartyIn : List ℕ → ℕ
+injectionPartyIn row = numberAt row 56 2
+
 abbrev pub situationIn : List ℕ → ℕ
 situationIn row = numberAt row 52 1
 
@@ -93,6 +97,7 @@ pointOf row =
       downward = downwardIn row;
       sourceparty = sourcePartyIn row;
       fspparty = fspPartyIn row;
+      injectionparty = injectionPartyIn row;
       situation = situationOf (situationIn row);
       takers = takersOf (situationIn row);
       supply = supplyOf (supplyIn row);
@@ -120,12 +125,13 @@ numbersGood days row =
     && (ltb (maskIn row) (2 ^ days)
     && (leb (upwardIn row) (10 ^ 9) && leb (downwardIn row) (10 ^ 9))))))
 
--- the bytes: a situation, a supply direction and a method that there are, and "nine zero bytes"
-abbrev pub restGood : List ℕ → Bool
-restGood row = eqb (numberAt row 55 9) 0
+-- the bytes that a book of a version has no column for: "nine zero bytes"
+unfoldable pub restGood : ℕ → List ℕ → Bool
+restGood version row = eqb (numberAt row 55 9) 0
 
-unfoldable pub bytesGood : List ℕ → Bool
-bytesGood row = leb (situationIn row) 3 && (leb (supplyIn row) 1 && (leb (methodIn row) 2 && restGood row))
+-- the bytes: a situation, a supply direction and a method that there are, and the rest
+unfoldable pub bytesGood : ℕ → List ℕ → Bool
+bytesGood version row = leb (situationIn row) 3 && (leb (supplyIn row) 1 && (leb (methodIn row) 2 && restGood version row))
 
 -- "Delivery EANs rise strictly.": row i is not above the row before it
 abbrev pub notAbove : List ℕ → ℕ → Bool
@@ -139,7 +145,7 @@ differs register i j =
     && not (eqb (supplierIn (registerRow register i)) (supplierIn (registerRow register j)) && eqb (supplyIn (registerRow register i)) (supplyIn (registerRow register j)))
 
 -- "first bad register row (of two, the later)": by its own fields, by the row before it, or by an earlier row of its access point
-unfoldable pub badPoint : ℕ → List ℕ → ℕ → Bool
-badPoint days register i =
-    not (numbersGood days (registerRow register i) && bytesGood (registerRow register i))
+unfoldable pub badPoint : ℕ → ℕ → List ℕ → ℕ → Bool
+badPoint version days register i =
+    not (numbersGood days (registerRow register i) && bytesGood version (registerRow register i))
     || (notAbove register i || anyBelow (differs register i) i)

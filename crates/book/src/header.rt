@@ -1,10 +1,10 @@
-// The header: the calendar, and how many points and engagements there are.
+// The header: the version, the calendar, and how many points and engagements there are.
 use quarters::Calendar;
 ghost use mathlib.Core.Path.{_≡_};
 ghost use mathlib.Core.Bool.{true};
 ghost use Prim.Native.Nat.{_≤_};
 ghost use lib.ListN.{length};
-ghost use Rattle.book.specs.Header.{calendarOf, pointCount, engagementCount, headerGood};
+ghost use Rattle.book.specs.Header.{versionOf, calendarOf, pointCount, engagementCount, headerGood};
 
 pub fn calendar_of(book: &[u8]) -> Calendar
     requires { ⌜ headerGood (now book) ≡ true ⌝ }
@@ -20,6 +20,13 @@ pub fn calendar_of(book: &[u8]) -> Calendar
         lead,
         clock,
     }
+}
+
+pub fn version_of(book: &[u8]) -> u16
+    requires { ⌜ 56 ≤ length (now book) ⌝ }
+    ensures { λ r. ⌜ r ≡ versionOf (now (book .entry)) ⌝ }
+{
+    wire::u16_at(book, 0)
 }
 
 pub fn point_count(book: &[u8]) -> usize

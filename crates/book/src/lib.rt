@@ -52,6 +52,7 @@ pub struct Point {
     // The balance parties.
     pub sourceparty: u16,
     pub fspparty: u16,
+    pub injectionparty: u16,
     // The situation, and by the same byte the file kinds that take the point.
     pub situation: Situation,
     pub takers: Takers,

@@ -72,6 +72,7 @@ fn point_of(row: &[u8]) -> Point
         downward: wire::u32_at(row, 44),
         sourceparty: wire::u16_at(row, 48),
         fspparty: wire::u16_at(row, 50),
+        injectionparty: wire::u16_at(row, 56),
         situation,
         takers,
         supply,

@@ -14,6 +14,7 @@ ghost use Rattle.quarters.specs.QuartersInner.{Ranged};
 
 // The rows and the readings: 5 to 7.
 fn judge_rows(
+    version: u16,
     c: Calendar,
     points: usize,
     rows: usize,
@@ -22,10 +23,10 @@ fn judge_rows(
     engagements: &[u8],
 ) -> Judged
     requires { ⌜ Ranged c × (points ≤ 256) × (64 * points ≤ length (now register)) × (4 * quartersOf c * points ≤ length (now readings)) × (16 * rows ≤ length (now engagements)) ⌝ }
-    ensures { λ r. ⌜ sentBack r ≡ rowsRefusal c points rows (now (register .entry)) (now (readings .entry)) (now (engagements .entry)) ⌝ }
+    ensures { λ r. ⌜ sentBack r ≡ rowsRefusal version c points rows (now (register .entry)) (now (readings .entry)) (now (engagements .entry)) ⌝ }
 {
     let days = quarters::days_of(c) as u32;
-    if let Found::At(row) = searches::register::judge_register(register, points, days) {
+    if let Found::At(row) = searches::register::judge_register(version, register, points, days) {
         return Judged::Register(row);
     }
     let quarters = quarters::quarters_of(c) as usize;
@@ -40,9 +41,9 @@ fn judge_rows(
 }
 
 // The sections of a book whose layout is good: 4 to 7.
-fn judge_sections(book: &[u8], c: Calendar, points: usize, rows: usize) -> Judged
+fn judge_sections(book: &[u8], version: u16, c: Calendar, points: usize, rows: usize) -> Judged
     requires { ⌜ Ranged c × (points ≤ 256) × (rows ≤ 512) × (adjoining (now book) 0 56 (sizes c points rows) ≡ true) ⌝ }
-    ensures { λ r. ⌜ sentBack r ≡ sectionsRefusal c points rows (calendarSection (now (book .entry))) (tableSection (now (book .entry))) (registerSection (now (book .entry))) (readingSection (now (book .entry))) (engagementSection (now (book .entry))) ⌝ }
+    ensures { λ r. ⌜ sentBack r ≡ sectionsRefusal version c points rows (calendarSection (now (book .entry))) (tableSection (now (book .entry))) (registerSection (now (book .entry))) (readingSection (now (book .entry))) (engagementSection (now (book .entry))) ⌝ }
 {
     let calendar = book::sections::section(book, 0);
     let table = book::sections::section(book, 1);
@@ -53,7 +54,7 @@ fn judge_sections(book: &[u8], c: Calendar, points: usize, rows: usize) -> Judge
     if !(days & crate::tables::table_good(table)) {
         return Judged::Tables;
     }
-    judge_rows(c, points, rows, register, readings, engagements)
+    judge_rows(version, c, points, rows, register, readings, engagements)
 }
 
 pub fn judge_book(book: &[u8]) -> Judged
@@ -62,11 +63,12 @@ pub fn judge_book(book: &[u8]) -> Judged
     if !crate::header::header_good(book) {
         return Judged::Header;
     }
+    let version = book::header::version_of(book);
     let c = book::header::calendar_of(book);
     let points = book::header::point_count(book);
     let rows = book::header::engagement_count(book);
     if !crate::header::layout_good(book, c, points, rows) {
         return Judged::Layout;
     }
-    judge_sections(book, c, points, rows)
+    judge_sections(book, version, c, points, rows)
 }

@@ -16,7 +16,7 @@ use Rattle.quarters.specs.declared.Calendar.{Calendar}
 use Rattle.quarters.specs.Quarters.{daysOf, quartersOf, monthQuarters}
 use Rattle.book.specs.declared.Supply.the-variants.{OffTake}
 use Rattle.book.specs.declared.Direction.the-variants.{Up}
-use Rattle.book.specs.Header.{calendarOf, pointCount, engagementCount, headerGood, sizes, adjoining, layoutGood, calendarSection, tableSection, registerSection, readingSection, engagementSection}
+use Rattle.book.specs.Header.{versionOf, calendarOf, pointCount, engagementCount, headerGood, sizes, adjoining, layoutGood, calendarSection, tableSection, registerSection, readingSection, engagementSection}
 use Rattle.book.specs.Tables.{categoryAt, xAt, yAt, calendarGood, tableGood}
 use Rattle.book.specs.Register.{pointAt, badPoint}
 use Rattle.book.specs.Metering.{meterAt, badReading, firstBadReading}
@@ -60,7 +60,8 @@ none-first test a (suc n) h = rw (h a (omega arith)) (none-first test (suc a) n 
 -- ---- refusals 1 to 7, and the book that the bytes say
 
 -- what the header and the extents find in a book's bytes
-pub record Parts (b : List ℕ) (c : Calendar) (points rows : ℕ) (calendar table register readings engagements : List ℕ) : Type 0 where
+pub record Parts (b : List ℕ) (version : ℕ) (c : Calendar) (points rows : ℕ) (calendar table register readings engagements : List ℕ) : Type 0 where
+  pub version-of : versionOf b ≡ version
   pub month : calendarOf b ≡ c
   pub points-of : pointCount b ≡ points
   pub rows-of : engagementCount b ≡ rows
@@ -71,19 +72,20 @@ pub record Parts (b : List ℕ) (c : Calendar) (points rows : ℕ) (calendar tab
   pub engagements-is : engagementSection b ≡ engagements
 
 -- and that each of them is good
-pub record Good (b : List ℕ) (c : Calendar) (points rows : ℕ) (calendar table register readings engagements : List ℕ) : Type 0 where
+pub record Good (b : List ℕ) (version : ℕ) (c : Calendar) (points rows : ℕ) (calendar table register readings engagements : List ℕ) : Type 0 where
   pub header : headerGood b ≡ true
   pub layout : adjoining b 0 56 (sizes c points rows) ≡ true
   pub categories : calendarGood calendar ≡ true
   pub numbers : tableGood table ≡ true
-  pub registered : first (badPoint (daysOf c) register) 0 points ≡ none
+  pub registered : first (badPoint version (daysOf c) register) 0 points ≡ none
   pub read : first (badReading readings) 0 (quartersOf c * points) ≡ none
   pub engaged : first (badEngagement c points engagements) 0 rows ≡ none
 
 -- the book of such parts, readings by point and quarter-hour
-abbrev pub bookBy : Calendar → ℕ → ℕ → List ℕ → List ℕ → List ℕ → (ℕ → ℕ → Reading) → List ℕ → Book
-bookBy c points rows calendar table register reading engagements =
+abbrev pub bookBy : ℕ → Calendar → ℕ → ℕ → List ℕ → List ℕ → List ℕ → (ℕ → ℕ → Reading) → List ℕ → Book
+bookBy version c points rows calendar table register reading engagements =
     record {
+      version = version;
       calendar = c;
       category = categoryAt calendar;
       x = xAt table;
@@ -93,7 +95,7 @@ bookBy c points rows calendar table register reading engagements =
       engagements = map (engagementAt engagements) (range 0 rows);
     }
 
-module _ (b : List ℕ) (c : Calendar) (points rows : ℕ) (calendar table register readings engagements : List ℕ) (h : Parts b c points rows calendar table register readings engagements) where
+module _ (b : List ℕ) (version : ℕ) (c : Calendar) (points rows : ℕ) (calendar table register readings engagements : List ℕ) (h : Parts b version c points rows calendar table register readings engagements) where
   layout-good : adjoining b 0 56 (sizes c points rows) ≡ true → layoutGood b ≡ true
   unfolding layoutGood
   layout-good e =
@@ -102,13 +104,14 @@ module _ (b : List ℕ) (c : Calendar) (points rows : ℕ) (calendar table regis
       let r = h .rows-of in
       (λ i. adjoining b 0 56 (sizes (m i) (p i) (r i))) ∙ e
 
-  rows-pass : Good b c points rows calendar table register readings engagements → sectionsRefusal c points rows calendar table register readings engagements ≡ none
+  rows-pass : Good b version c points rows calendar table register readings engagements → sectionsRefusal version c points rows calendar table register readings engagements ≡ none
   unfolding sectionsRefusal rowsRefusal firstBadReading
   rows-pass g = rw (g .categories, g .numbers, g .registered, g .read, g .engaged)
 
-  pub passes : Good b c points rows calendar table register readings engagements → refusalOf b ≡ none
+  pub passes : Good b version c points rows calendar table register readings engagements → refusalOf b ≡ none
   unfolding refusalOf
   passes g =
+      let v = h .version-of in
       let m = h .month in
       let p = h .points-of in
       let r = h .rows-of in
@@ -117,11 +120,12 @@ module _ (b : List ℕ) (c : Calendar) (points rows : ℕ) (calendar table regis
       let s₃ = h .register-is in
       let s₄ = h .readings-is in
       let s₅ = h .engagements-is in
-      rw (g .header, layout-good (g .layout)) ((λ i. sectionsRefusal (m i) (p i) (r i) (s₁ i) (s₂ i) (s₃ i) (s₄ i) (s₅ i)) ∙ rows-pass g)
+      rw (g .header, layout-good (g .layout)) ((λ i. sectionsRefusal (v i) (m i) (p i) (r i) (s₁ i) (s₂ i) (s₃ i) (s₄ i) (s₅ i)) ∙ rows-pass g)
 
-  pub says : (reading : ℕ → ℕ → Reading) → ((p k : ℕ) → meterAt c readings p k ≡ reading p k) → bookOf b ≡ bookBy c points rows calendar table register reading engagements
+  pub says : (reading : ℕ → ℕ → Reading) → ((p k : ℕ) → meterAt c readings p k ≡ reading p k) → bookOf b ≡ bookBy version c points rows calendar table register reading engagements
   unfolding bookOf
   says reading e =
+      let v = h .version-of in
       let m = h .month in
       let n = h .points-of in
       let r = h .rows-of in
@@ -130,8 +134,8 @@ module _ (b : List ℕ) (c : Calendar) (points rows : ℕ) (calendar table regis
       let s₃ = h .register-is in
       let s₄ = h .readings-is in
       let s₅ = h .engagements-is in
-      (λ i. bookBy (m i) (n i) (r i) (s₁ i) (s₂ i) (s₃ i) (meterAt (m i) (s₄ i)) (s₅ i))
-      ∙ (λ i. bookBy c points rows calendar table register (λ p k. e p k i) engagements)
+      (λ i. bookBy (v i) (m i) (n i) (r i) (s₁ i) (s₂ i) (s₃ i) (meterAt (m i) (s₄ i)) (s₅ i))
+      ∙ (λ i. bookBy version c points rows calendar table register (λ p k. e p k i) engagements)
 
 -- ---- what it carries
 

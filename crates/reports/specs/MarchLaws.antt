@@ -26,9 +26,9 @@ use Rattle.quarters.specs.Quarters.{daysOf, quartersBy, quarters, dayStart, qua
 use Rattle.book.specs.declared.Supply.the-variants.{OffTake}
 use Rattle.book.specs.declared.Direction.the-variants.{Up}
 use Rattle.book.specs.declared.Engagement.{Engagement}
-use Rattle.book.specs.Header.{calendarOf, pointCount, engagementCount, headerGood, headerFields, sizes, adjoining, calendarSection, tableSection, registerSection, readingSection, engagementSection}
+use Rattle.book.specs.Header.{versionOf, calendarOf, pointCount, engagementCount, headerGood, headerFields, sizes, adjoining, calendarSection, tableSection, registerSection, readingSection, engagementSection}
 use Rattle.book.specs.Tables.{calendarGood, tableGood}
-use Rattle.book.specs.Register.{badPoint, numbersGood, bytesGood}
+use Rattle.book.specs.Register.{badPoint, numbersGood, restGood, bytesGood}
 use Rattle.book.specs.Metering.{meterAt, readingGood, badReading}
 use Rattle.book.specs.Engagements.{engagementAt, badEngagement, placeGood, termsGood}
 use Rattle.book.specs.Judged.{refusalOf}
@@ -78,9 +78,9 @@ calendar-of : calendarOf march ≡ month
 unfolding march header month
 calendar-of = let k = clocks-ranged .0 .clock in λ i. record { year = 2021; month = 3; lead = 1; clock = sym k i }
 
-counts-of : (pointCount march ≡ 1) × (engagementCount march ≡ 1)
+counts-of : (versionOf march ≡ 1) × (pointCount march ≡ 1) × (engagementCount march ≡ 1)
 unfolding march header
-counts-of = (refl, refl)
+counts-of = (refl, refl, refl)
 
 calendar-is : calendarSection march ≡ calendar
 unfolding march header calendar
@@ -106,12 +106,13 @@ engagements-is : engagementSection march ≡ engagements
 unfolding march header calendar table register
 engagements-is = ap (take 16) (drop-at readings engagements 12272 readings-length) ∙ sixteen
 
-parts : Parts march month 1 1 calendar table register readings engagements
+parts : Parts march 1 month 1 1 calendar table register readings engagements
 parts =
     record {
+      version-of = counts-of .0;
       month = calendar-of;
-      points-of = counts-of .0;
-      rows-of = counts-of .1;
+      points-of = counts-of .1;
+      rows-of = counts-of .2;
       calendar-is = calendar-is;
       table-is = table-is;
       register-is = register-is;
@@ -141,15 +142,15 @@ table-good : tableGood table ≡ true
 unfolding tableGood table
 table-good = refl
 
-register-good : first (badPoint (daysOf month) register) 0 1 ≡ none
-unfolding month first badPoint numbersGood bytesGood anyBelow register calendarDays monthLength leap
+register-good : first (badPoint 1 (daysOf month) register) 0 1 ≡ none
+unfolding month first badPoint numbersGood restGood bytesGood anyBelow register calendarDays monthLength leap
 register-good = refl
 
 engagements-good : first (badEngagement month 1 engagements) 0 1 ≡ none
 unfolding month first badEngagement placeGood termsGood engagements quartersBy quarters calendarDays monthLength leap
 engagements-good = refl
 
-good : Good march month 1 1 calendar table register readings engagements
+good : Good march 1 month 1 1 calendar table register readings engagements
 good =
     record {
       header = header-good;
@@ -162,7 +163,7 @@ good =
     }
 
 march-passes : refusalOf march ≡ none
-march-passes = passes march month 1 1 calendar table register readings engagements parts good
+march-passes = passes march 1 month 1 1 calendar table register readings engagements parts good
 
 -- ---- the book that it says
 
@@ -170,7 +171,7 @@ reading : ℕ → ℕ → Reading
 reading p k = readingOf (toZ w32 (wattAt (3068 * p + k)))
 
 marchBook : Book
-marchBook = bookBy month 1 1 calendar table register reading engagements
+marchBook = bookBy 1 month 1 1 calendar table register reading engagements
 
 meter-is : (p k : ℕ) → meterAt month readings p k ≡ reading p k
 unfolding reading
@@ -180,7 +181,7 @@ meter-is p k =
 
 book-is : bookOf march ≡ marchBook
 unfolding marchBook
-book-is = says march month 1 1 calendar table register readings engagements parts reading meter-is
+book-is = says march 1 month 1 1 calendar table register readings engagements parts reading meter-is
 
 -- ---- refusals 8 and 9
 

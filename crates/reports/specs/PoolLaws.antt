@@ -25,9 +25,9 @@ use Rattle.quarters.specs.declared.Calendar.{Calendar}
 use Rattle.book.specs.declared.Supply.the-variants.{OffTake}
 use Rattle.book.specs.declared.Direction.the-variants.{Up}
 use Rattle.quarters.specs.Quarters.{daysOf, quartersBy, quarters, isClockChange, dayStart, quartersOf, position, monthQuarters}
-use Rattle.book.specs.Header.{calendarOf, pointCount, engagementCount, headerGood, headerFields, sizes, adjoining, calendarSection, tableSection, registerSection, readingSection, engagementSection}
+use Rattle.book.specs.Header.{versionOf, calendarOf, pointCount, engagementCount, headerGood, headerFields, sizes, adjoining, calendarSection, tableSection, registerSection, readingSection, engagementSection}
 use Rattle.book.specs.Tables.{calendarGood, tableGood}
-use Rattle.book.specs.Register.{badPoint, numbersGood, bytesGood}
+use Rattle.book.specs.Register.{badPoint, numbersGood, restGood, bytesGood}
 use Rattle.book.specs.Metering.{meterAt, readingGood, badReading}
 use Rattle.book.specs.Engagements.{engagementAt, badEngagement, placeGood, termsGood}
 use Rattle.book.specs.Judged.{refusalOf}
@@ -98,20 +98,21 @@ calendar-of : calendarOf pool ≡ february
 unfolding pool header february
 calendar-of = let k = winter-clock 2021 2 2 (lit≤ tt) (lit≤ tt) in λ i. record { year = 2021; month = 2; lead = 2; clock = k i }
 
-counts-of : (pointCount pool ≡ 3) × (engagementCount pool ≡ 3)
+counts-of : (versionOf pool ≡ 1) × (pointCount pool ≡ 3) × (engagementCount pool ≡ 3)
 unfolding pool header
-counts-of = (refl, refl)
+counts-of = (refl, refl, refl)
 
 quarters-are : quartersOf february ≡ 2880
 unfolding february dayStart quarters quartersBy calendarDays monthLength leap
 quarters-are = refl
 
-parts : Parts pool february 3 3 calendar table register readings engagements
+parts : Parts pool 1 february 3 3 calendar table register readings engagements
 parts =
     record {
+      version-of = counts-of .0;
       month = calendar-of;
-      points-of = counts-of .0;
-      rows-of = counts-of .1;
+      points-of = counts-of .1;
+      rows-of = counts-of .2;
       calendar-is = calendar-is;
       table-is = table-is;
       register-is = register-is;
@@ -139,15 +140,15 @@ table-good : tableGood table ≡ true
 unfolding tableGood table
 table-good = refl
 
-register-good : first (badPoint (daysOf february) register) 0 3 ≡ none
-unfolding february first badPoint numbersGood bytesGood anyBelow register calendarDays monthLength leap
+register-good : first (badPoint 1 (daysOf february) register) 0 3 ≡ none
+unfolding february first badPoint numbersGood restGood bytesGood anyBelow register calendarDays monthLength leap
 register-good = refl
 
 engagements-good : first (badEngagement february 3 engagements) 0 3 ≡ none
 unfolding february first badEngagement placeGood termsGood engagements quartersBy quarters calendarDays monthLength leap
 engagements-good = refl
 
-good : Good pool february 3 3 calendar table register readings engagements
+good : Good pool 1 february 3 3 calendar table register readings engagements
 good =
     record {
       header = header-good;
@@ -160,12 +161,12 @@ good =
     }
 
 pool-passes : refusalOf pool ≡ none
-pool-passes = passes pool february 3 3 calendar table register readings engagements parts good
+pool-passes = passes pool 1 february 3 3 calendar table register readings engagements parts good
 
 -- ---- the book that it says
 
 poolBook : Book
-poolBook = bookBy february 3 3 calendar table register (λ p k. readingOf (toZ w32 (wattAt (2880 * p + k)))) engagements
+poolBook = bookBy 1 february 3 3 calendar table register (λ p k. readingOf (toZ w32 (wattAt (2880 * p + k)))) engagements
 
 meter-is : (p k : ℕ) → meterAt february readings p k ≡ readingOf (toZ w32 (wattAt (2880 * p + k)))
 meter-is p k =
@@ -174,7 +175,7 @@ meter-is p k =
 
 book-is : bookOf pool ≡ poolBook
 unfolding poolBook
-book-is = says pool february 3 3 calendar table register readings engagements parts (λ p k. readingOf (toZ w32 (wattAt (2880 * p + k)))) meter-is
+book-is = says pool 1 february 3 3 calendar table register readings engagements parts (λ p k. readingOf (toZ w32 (wattAt (2880 * p + k)))) meter-is
 
 -- ---- refusals 8 and 9, and the watts
 

@@ -11,7 +11,7 @@ use Rattle.integers.specs.TestsLaws.{both, neither}
 use Rattle.integers.specs.First.{anyBelow}
 use Rattle.integers.specs.Ranges.{range}
 use Rattle.quarters.specs.Quarters.{daysOf}
-use Rattle.book.specs.Header.{calendarOf, pointCount, registerSection}
+use Rattle.book.specs.Header.{versionOf, calendarOf, pointCount, registerSection}
 use Rattle.book.specs.HeaderLaws.{headed}
 use Rattle.book.specs.Register.{pointAt, registerRow, deliveryIn, accessIn, supplierIn, fspIn, maskIn, upwardIn, downwardIn, supplyIn, supplyOf, numbersGood, bytesGood, notAbove, differs, badPoint}
 use Rattle.book.specs.Judged.{refusalOf}
@@ -22,12 +22,12 @@ use Rattle.volumes.specs.BookLaws.{points-length}
 use Rattle.reports.specs.RegisteredInner.{NumbersFit, Registered}
 use Rattle.integers.specs.FirstLaws.{any-of}
 
-module _ (days : ℕ) (register : List ℕ) where
-  numbered-row : (i : ℕ) → badPoint days register i ≡ false → NumbersFit (pointAt register i)
+module _ (version days : ℕ) (register : List ℕ) where
+  numbered-row : (i : ℕ) → badPoint version days register i ≡ false → NumbersFit (pointAt register i)
   unfolding badPoint numbersGood
   numbered-row i e =
       let row = registerRow register i in
-      let good = both (numbersGood days row) (bytesGood row) (not-false _ (neither (not (numbersGood days row && bytesGood row)) (notAbove register i || anyBelow (differs register i) i) e .0)) .0 in
+      let good = both (numbersGood days row) (bytesGood version row) (not-false _ (neither (not (numbersGood days row && bytesGood version row)) (notAbove register i || anyBelow (differs register i) i) e .0)) .0 in
       let m = ltb (maskIn row) (2 ^ days) && (leb (upwardIn row) (10 ^ 9) && leb (downwardIn row) (10 ^ 9)) in
       let f = ltb (fspIn row) (10 ^ 10) && m in
       let s = ltb (supplierIn row) (10 ^ 10) && f in
@@ -39,10 +39,10 @@ module _ (days : ℕ) (register : List ℕ) where
       record { access = ltb-true _ _ (e₂ .0); supplier = ltb-true _ _ (e₃ .0); fsp = ltb-true _ _ (e₄ .0) }
 
   -- row i and an earlier row of its access point
-  shared-earlier : (i j : ℕ) → badPoint days register i ≡ false → j < i → pointAt register i .access ≡ pointAt register j .access → pointAt register i .supply ≡ pointAt register j .supply
+  shared-earlier : (i j : ℕ) → badPoint version days register i ≡ false → j < i → pointAt register i .access ≡ pointAt register j .access → pointAt register i .supply ≡ pointAt register j .supply
   unfolding badPoint
   shared-earlier i j e h q =
-      let one = not (numbersGood days (registerRow register i) && bytesGood (registerRow register i)) in
+      let one = not (numbersGood days (registerRow register i) && bytesGood version (registerRow register i)) in
       let none-differs = neither (notAbove register i) (anyBelow (differs register i) i) (neither one (notAbove register i || anyBelow (differs register i) i) e .1) .1 in
       let same = eqb (supplierIn (registerRow register i)) (supplierIn (registerRow register j)) in
       let supply = eqb (supplyIn (registerRow register i)) (supplyIn (registerRow register j)) in
@@ -53,7 +53,7 @@ module _ (days : ℕ) (register : List ℕ) where
       go false f n = absurd (false≢true (sym n ∙ any-of (differs register i) j i h (rw (eq-eqb _ _ q, f))))
 
   -- any two rows
-  shared-rows : (i j : ℕ) → badPoint days register i ≡ false → badPoint days register j ≡ false → pointAt register i .access ≡ pointAt register j .access → pointAt register i .supply ≡ pointAt register j .supply
+  shared-rows : (i j : ℕ) → badPoint version days register i ≡ false → badPoint version days register j ≡ false → pointAt register i .access ≡ pointAt register j .access → pointAt register i .supply ≡ pointAt register j .supply
   shared-rows i j e f q = go (ltb j i) refl (ltb i j) refl
     where
       go : (t : Bool) → ltb j i ≡ t → (u : Bool) → ltb i j ≡ u → pointAt register i .supply ≡ pointAt register j .supply
@@ -63,7 +63,7 @@ module _ (days : ℕ) (register : List ℕ) where
 
 -- a good row of the register that is this point
 abbrev GoodRow : List ℕ → Point → Type 0
-GoodRow bytes point = (i : ℕ) × (badPoint (daysOf (calendarOf bytes)) (registerSection bytes) i ≡ false) × (pointAt (registerSection bytes) i ≡ point)
+GoodRow bytes point = (i : ℕ) × (badPoint (versionOf bytes) (daysOf (calendarOf bytes)) (registerSection bytes) i ≡ false) × (pointAt (registerSection bytes) i ≡ point)
 
 row-of : (bytes : List ℕ) → refusalOf bytes ≡ none → (point : Point) → List·Memᴰ point (bookOf bytes .points) → GoodRow bytes point
 unfolding bookOf
@@ -72,15 +72,15 @@ row-of bytes e point m = go (Memᴰ·of-map (pointAt (registerSection bytes)) (r
     go : (i : ℕ) × List·Memᴰ i (range 0 (pointCount bytes)) × (pointAt (registerSection bytes) i ≡ point) → GoodRow bytes point
     go (i, k, q) =
         let r = mem-range 0 (pointCount bytes) i k in
-        (i, first-none (badPoint (daysOf (calendarOf bytes)) (registerSection bytes)) 0 (pointCount bytes) (passes bytes e .points) i (r .0) (r .1), q)
+        (i, first-none (badPoint (versionOf bytes) (daysOf (calendarOf bytes)) (registerSection bytes)) 0 (pointCount bytes) (passes bytes e .points) i (r .0) (r .1), q)
 
 numbered-point : (bytes : List ℕ) (point : Point) → GoodRow bytes point → NumbersFit point
-numbered-point bytes point (i, f, q) = rw (← q) (numbered-row (daysOf (calendarOf bytes)) (registerSection bytes) i f)
+numbered-point bytes point (i, f, q) = rw (← q) (numbered-row (versionOf bytes) (daysOf (calendarOf bytes)) (registerSection bytes) i f)
 
 shared-points : (bytes : List ℕ) (a b : Point) → GoodRow bytes a → GoodRow bytes b → a .access ≡ b .access → a .supply ≡ b .supply
 shared-points bytes a b (i, f, p) (j, g, r) q =
     sym (ap (λ (x : Point). x .supply) p)
-    ∙ shared-rows (daysOf (calendarOf bytes)) (registerSection bytes) i j f g (ap (λ (x : Point). x .access) p ∙ q ∙ sym (ap (λ (x : Point). x .access) r))
+    ∙ shared-rows (versionOf bytes) (daysOf (calendarOf bytes)) (registerSection bytes) i j f g (ap (λ (x : Point). x .access) p ∙ q ∙ sym (ap (λ (x : Point). x .access) r))
     ∙ ap (λ (x : Point). x .supply) r
 
 pub registered : (bytes : List ℕ) → refusalOf bytes ≡ none → Registered (bookOf bytes)

@@ -22,9 +22,9 @@ use Rattle.book.specs.declared.Supply.the-variants.{OffTake}
 use Rattle.book.specs.declared.Direction.the-variants.{Up}
 use Rattle.quarters.specs.declared.Calendar.{Calendar}
 use Rattle.quarters.specs.Quarters.{daysOf, quartersBy, quarters, dayStart, quartersOf, position, monthQuarters}
-use Rattle.book.specs.Header.{calendarOf, pointCount, engagementCount, headerGood, headerFields, sizes, adjoining, calendarSection, tableSection, registerSection, readingSection, engagementSection}
+use Rattle.book.specs.Header.{versionOf, calendarOf, pointCount, engagementCount, headerGood, headerFields, sizes, adjoining, calendarSection, tableSection, registerSection, readingSection, engagementSection}
 use Rattle.book.specs.Tables.{calendarGood, tableGood}
-use Rattle.book.specs.Register.{badPoint, numbersGood, bytesGood}
+use Rattle.book.specs.Register.{badPoint, numbersGood, restGood, bytesGood}
 use Rattle.book.specs.Metering.{meterAt, readingGood, badReading}
 use Rattle.book.specs.Engagements.{badEngagement, placeGood, termsGood}
 use Rattle.book.specs.Judged.{refusalOf}
@@ -85,20 +85,21 @@ calendar-of : calendarOf small ≡ february
 unfolding small header february
 calendar-of = let k = winter-clock 2021 2 1 (lit≤ tt) (lit≤ tt) in λ i. record { year = 2021; month = 2; lead = 1; clock = k i }
 
-counts-of : (pointCount small ≡ 1) × (engagementCount small ≡ 1)
+counts-of : (versionOf small ≡ 1) × (pointCount small ≡ 1) × (engagementCount small ≡ 1)
 unfolding small header
-counts-of = (refl, refl)
+counts-of = (refl, refl, refl)
 
 quarters-are : quartersOf february * 1 ≡ 2784
 unfolding february dayStart quarters quartersBy calendarDays monthLength leap
 quarters-are = refl
 
-parts : Parts small february 1 1 calendar table register readings engagements
+parts : Parts small 1 february 1 1 calendar table register readings engagements
 parts =
     record {
+      version-of = counts-of .0;
       month = calendar-of;
-      points-of = counts-of .0;
-      rows-of = counts-of .1;
+      points-of = counts-of .1;
+      rows-of = counts-of .2;
       calendar-is = calendar-is;
       table-is = table-is;
       register-is = register-is;
@@ -139,15 +140,15 @@ table-good : tableGood table ≡ true
 unfolding tableGood table
 table-good = refl
 
-register-good : first (badPoint (daysOf february) register) 0 1 ≡ none
-unfolding february first badPoint numbersGood bytesGood anyBelow register calendarDays monthLength leap
+register-good : first (badPoint 1 (daysOf february) register) 0 1 ≡ none
+unfolding february first badPoint numbersGood restGood bytesGood anyBelow register calendarDays monthLength leap
 register-good = refl
 
 engagements-good : first (badEngagement february 1 engagements) 0 1 ≡ none
 unfolding february first badEngagement placeGood termsGood engagements quartersBy quarters calendarDays monthLength leap
 engagements-good = refl
 
-good : Good small february 1 1 calendar table register readings engagements
+good : Good small 1 february 1 1 calendar table register readings engagements
 good =
     record {
       header = header-good;
@@ -160,14 +161,14 @@ good =
     }
 
 small-passes : refusalOf small ≡ none
-small-passes = passes small february 1 1 calendar table register readings engagements parts good
+small-passes = passes small 1 february 1 1 calendar table register readings engagements parts good
 
 smallBook : Book
-smallBook = bookBy february 1 1 calendar table register (meterAt february readings) engagements
+smallBook = bookBy 1 february 1 1 calendar table register (meterAt february readings) engagements
 
 book-is : bookOf small ≡ smallBook
 unfolding smallBook
-book-is = says small february 1 1 calendar table register readings engagements parts (meterAt february readings) (λ p k. refl)
+book-is = says small 1 february 1 1 calendar table register readings engagements parts (meterAt february readings) (λ p k. refl)
 
 -- ---- refusals 8 and 9, and the watts
 

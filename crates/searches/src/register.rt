@@ -7,7 +7,7 @@ ghost use lib.Dec.{ltb};
 ghost use lib.ListN.{length};
 ghost use Rattle.integers.specs.First.{first, anyBelow};
 ghost use Rattle.searches.specs.FoundInner.{foundAt};
-ghost use Rattle.book.specs.Register.{accessIn, registerRow, numbersGood, bytesGood, notAbove, differs, badPoint};
+ghost use Rattle.book.specs.Register.{accessIn, registerRow, numbersGood, restGood, bytesGood, notAbove, differs, badPoint};
 ghost use Rattle.searches.specs.RegisterInner.{isKnown};
 ghost use Rattle.searches.specs.RegisterInner.{Topped};
 
@@ -51,15 +51,22 @@ fn numbers_good(row: &[u8], days: u32) -> bool
                     & (mask & ((upward <= 1000000000) & (downward <= 1000000000))))))
 }
 
-fn bytes_good(row: &[u8]) -> bool
+// The bytes that a book of a version has no column for are zero.
+fn rest_good(version: u16, row: &[u8]) -> bool
     requires { ⌜ 64 ≤ length (now row) ⌝ }
-    ensures { λ r. ⌜ r ≡ bytesGood (now (row .entry)) ⌝ }
+    ensures { λ r. ⌜ r ≡ restGood version (now (row .entry)) ⌝ }
+{
+    (wire::u8_at(row, 55) == 0) & (wire::u64_at(row, 56) == 0)
+}
+
+fn bytes_good(version: u16, row: &[u8]) -> bool
+    requires { ⌜ 64 ≤ length (now row) ⌝ }
+    ensures { λ r. ⌜ r ≡ bytesGood version (now (row .entry)) ⌝ }
 {
     let situation = known(book::register::takers_of(wire::u8_at(row, 52)));
     let supply = wire::u8_at(row, 53);
     let method = wire::u8_at(row, 54);
-    let zeros = (wire::u8_at(row, 55) == 0) & (wire::u64_at(row, 56) == 0);
-    situation & ((supply <= 1) & ((method <= 2) & zeros))
+    situation & ((supply <= 1) & ((method <= 2) & rest_good(version, row)))
 }
 
 // The delivery EAN of row i is not above that of the row before it.
@@ -120,14 +127,14 @@ fn differs_below(register: &[u8], i: usize, top: u64) -> bool
     differs_earlier(register, i)
 }
 
-fn bad_point(register: &[u8], i: usize, days: u32, top: u64) -> bool
+fn bad_point(version: u16, register: &[u8], i: usize, days: u32, top: u64) -> bool
     requires { ⌜ (64 * i + 64 ≤ length (now register)) × (days ≤ 64) × Topped (now register) i top ⌝ }
-    ensures { λ r. ⌜ r ≡ badPoint days (now (register .entry)) i ⌝ }
+    ensures { λ r. ⌜ r ≡ badPoint version days (now (register .entry)) i ⌝ }
 {
     let a = 64 * i;
     let e = a + 64;
     let row = &register[a..e];
-    let good = numbers_good(row, days) & bytes_good(row);
+    let good = numbers_good(row, days) & bytes_good(version, row);
     !good | (not_above(register, i) | differs_below(register, i, top))
 }
 
@@ -138,14 +145,14 @@ fn larger(a: u64, b: u64) -> u64
 }
 
 // The first bad row of n.
-pub fn judge_register(register: &[u8], n: usize, days: u32) -> Found
+pub fn judge_register(version: u16, register: &[u8], n: usize, days: u32) -> Found
     requires { ⌜ (64 * n ≤ length (now register)) × (days ≤ 64) ⌝ }
-    ensures { λ r. ⌜ foundAt r ≡ first (badPoint days (now (register .entry))) 0 n ⌝ }
+    ensures { λ r. ⌜ foundAt r ≡ first (badPoint version days (now (register .entry))) 0 n ⌝ }
 {
     let mut top: u64 = 0;
     let mut i = 0;
     while i < n {
-        if bad_point(register, i, days, top) {
+        if bad_point(version, register, i, days, top) {
             return Found::At(i);
         }
         top = larger(top, access_at(register, i));

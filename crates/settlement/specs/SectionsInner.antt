@@ -11,7 +11,7 @@ use Rattle.integers.specs.Sums.{sumOf}
 use Rattle.integers.specs.First.{anyOf}
 use Rattle.book.specs.declared.Engagement.{Engagement}
 use Rattle.book.specs.declared.Point.{Point}
-use Rattle.book.specs.Header.{calendarOf, pointCount, pointWidth, engagementWidth, calendarSection, tableSection, registerSection, readingSection}
+use Rattle.book.specs.Header.{versionOf, calendarOf, pointCount, pointWidth, engagementWidth, calendarSection, tableSection, registerSection, readingSection}
 use Rattle.book.specs.Tables.{categoryAt, xAt, yAt}
 use Rattle.book.specs.Register.{pointAt}
 use Rattle.book.specs.Metering.{meterAt}
@@ -40,6 +40,7 @@ rowCountIn engagements = sumOf (λ e. e .count) (engagementsIn engagements)
 unfoldable pub bookWith : List ℕ → List ℕ → Book
 bookWith bytes engagements =
     record {
+      version = versionOf bytes;
       calendar = calendarOf bytes;
       category = categoryAt (calendarSection bytes);
       x = xAt (tableSection bytes);

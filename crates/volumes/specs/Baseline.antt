@@ -39,6 +39,7 @@ noPoint =
       downward = 0;
       sourceparty = 0;
       fspparty = 0;
+      injectionparty = 0;
       situation = OptOut;
       takers = Neither;
       supply = OffTake;

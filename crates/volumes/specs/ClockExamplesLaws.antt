@@ -50,6 +50,7 @@ from day first count = noticed day first count 0
 unfoldable pub over : Calendar → Method → ℕ → (ℕ → Reading) → Book
 over c method y reading =
     record {
+      version = 1;
       calendar = c;
       category = λ d. 0;
       x = λ k. 1;

@@ -45,6 +45,7 @@ pointFor source fsp ean method most =
       downward = most;
       sourceparty = source;
       fspparty = fsp;
+      injectionparty = 0;
       situation = Transfer;
       takers = Aggregated;
       supply = OffTake;
@@ -63,6 +64,7 @@ engagement p count direction requested =
 unfoldable pub book : (ℕ → ℕ) → ℕ → ℕ → List Point → (ℕ → ℕ → Reading) → List Engagement → Book
 book categories x y points reading engagements =
     record {
+      version = 1;
       calendar = june;
       category = categories;
       x = λ c. x;

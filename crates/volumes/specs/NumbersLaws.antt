@@ -15,7 +15,7 @@ use Rattle.refusals.specs.RefusalsLaws.{Each, each-unless, each-found, each-els
 use Rattle.quarters.specs.declared.Calendar.{Calendar}
 use Rattle.quarters.specs.Quarters.{daysOf, quartersOf}
 use Rattle.book.specs.declared.Engagement.{Engagement}
-use Rattle.book.specs.Header.{calendarOf, pointCount, engagementCount, headerGood, layoutGood, calendarSection, tableSection, registerSection, readingSection, engagementSection}
+use Rattle.book.specs.Header.{versionOf, calendarOf, pointCount, engagementCount, headerGood, layoutGood, calendarSection, tableSection, registerSection, readingSection, engagementSection}
 use Rattle.book.specs.HeaderLaws.{headed}
 use Rattle.book.specs.Tables.{calendarGood, tableGood}
 use Rattle.book.specs.Register.{badPoint}
@@ -62,13 +62,13 @@ reading-below quarters test n i e = go (first test 0 (quarters * n)) refl e
 
 -- ---- refusals 1 to 7
 
-points-listed : (c : Calendar) (points rows : ℕ) (register readings engagements : List ℕ) → points ≤ 256 → rows ≤ 512 → Each Listed (rowsRefusal c points rows register readings engagements)
+points-listed : (version : ℕ) (c : Calendar) (points rows : ℕ) (register readings engagements : List ℕ) → points ≤ 256 → rows ≤ 512 → Each Listed (rowsRefusal version c points rows register readings engagements)
 unfolding rowsRefusal firstBadReading
-points-listed c points rows register readings engagements h k =
+points-listed version c points rows register readings engagements h k =
     let engaged = first (badEngagement c points engagements) 0 rows in
     let read = firstBadReading c readings points in
-    let registered = first (badPoint (daysOf c) register) 0 points in
-    each-found Listed registered 5 (unlessFound read 6 (unlessFound engaged 7 none)) (λ i e. record { most = omega arith; not-three = λ z. omega arith; few = omega (arith, first-below (badPoint (daysOf c) register) 0 points i e) })
+    let registered = first (badPoint version (daysOf c) register) 0 points in
+    each-found Listed registered 5 (unlessFound read 6 (unlessFound engaged 7 none)) (λ i e. record { most = omega arith; not-three = λ z. omega arith; few = omega (arith, first-below (badPoint version (daysOf c) register) 0 points i e) })
     (each-found Listed read 6 (unlessFound engaged 7 none) (λ i e. record { most = omega arith; not-three = λ z. omega arith; few = omega (arith, reading-below (quartersOf c) (badReading readings) points i e) })
     (each-found Listed engaged 7 none (λ i e. record { most = omega arith; not-three = λ z. omega arith; few = omega (arith, first-below (badEngagement c points engagements) 0 rows i e) }) tt))
 
@@ -82,7 +82,7 @@ judged-listed bytes =
     each-unless Listed (headerGood bytes) 1 _ (listed-zero 1 (omega arith) (λ z. omega arith)) (λ e.
     each-unless Listed (layoutGood bytes) 2 _ (listed-zero 2 (omega arith) (λ z. omega arith)) (λ f.
     each-unless Listed (calendarGood (calendarSection bytes) && tableGood (tableSection bytes)) 4 _ (listed-zero 4 (omega arith) (λ z. omega arith)) (λ k.
-    points-listed (calendarOf bytes) (pointCount bytes) (engagementCount bytes) (registerSection bytes) (readingSection bytes) (engagementSection bytes) (headed bytes e .points) (headed bytes e .rows))))
+    points-listed (versionOf bytes) (calendarOf bytes) (pointCount bytes) (engagementCount bytes) (registerSection bytes) (readingSection bytes) (engagementSection bytes) (headed bytes e .points) (headed bytes e .rows))))
 
 -- ---- 8 and 9
 

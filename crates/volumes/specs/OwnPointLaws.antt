@@ -35,6 +35,7 @@ ofPoint p l = map alone (keep (λ e. eqb (e .point) p) l)
 unfoldable pub only : Book → Engagement → Book
 only book e =
     record {
+      version = book .version;
       calendar = book .calendar;
       category = book .category;
       x = book .x;

@@ -21,7 +21,7 @@ use Rattle.wire.specs.Readings.{readingAt, readingOf}
 use Rattle.wire.specs.declared.Reading.{Reading}
 use Rattle.wire.specs.declared.Reading.the-variants.{Watts, Missing}
 use Rattle.quarters.specs.Quarters.{daysOf, quarters, quartersOf}
-use Rattle.book.specs.Header.{calendarOf, pointCount, engagementCount, between, headerGood, layoutGood, lengthOf, offsetOf, pointWidth, engagementWidth, calendarSection, tableSection, registerSection, readingSection, engagementSection}
+use Rattle.book.specs.Header.{versionOf, calendarOf, pointCount, engagementCount, between, headerGood, layoutGood, lengthOf, offsetOf, pointWidth, engagementWidth, calendarSection, tableSection, registerSection, readingSection, engagementSection}
 use Rattle.book.specs.HeaderLaws.{headed, adjoins}
 use Rattle.book.specs.Tables.{categoryAt, xAt, yAt, badDay, calendarGood, entryGood, tableGood}
 use Rattle.book.specs.Register.{pointAt, registerRow, deliveryIn, accessIn, supplierIn, fspIn, maskIn, upwardIn, downwardIn, numbersGood, bytesGood, notAbove, differs, badPoint}
@@ -126,11 +126,11 @@ category-few calendar e d = go (ltb d (length calendar)) refl
     go false p = rw (List·getD-eq-default calendar 0 (ltb-false d (length calendar) p)) (omega arith)
 
 -- a register row's largest watts
-limited-row : (days : ℕ) (register : List ℕ) (i : ℕ) → badPoint days register i ≡ false → Limited (pointAt register i)
+limited-row : (version days : ℕ) (register : List ℕ) (i : ℕ) → badPoint version days register i ≡ false → Limited (pointAt register i)
 unfolding badPoint numbersGood
-limited-row days register i e =
+limited-row version days register i e =
     let row = registerRow register i in
-    let good = both (numbersGood days row) (bytesGood row) (not-false _ (neither (not (numbersGood days row && bytesGood row)) (notAbove register i || anyBelow (differs register i) i) e .0)) .0 in
+    let good = both (numbersGood days row) (bytesGood version row) (not-false _ (neither (not (numbersGood days row && bytesGood version row)) (notAbove register i || anyBelow (differs register i) i) e .0)) .0 in
     let w = leb (upwardIn row) (10 ^ 9) && leb (downwardIn row) (10 ^ 9) in
     let m = ltb (maskIn row) (2 ^ days) && w in
     let f = ltb (fspIn row) (10 ^ 10) && m in
@@ -185,7 +185,7 @@ pub record PassedBook (bytes : List ℕ) : Type 0 where
   pub layout : layoutGood bytes ≡ true
   pub calendar : calendarGood (calendarSection bytes) ≡ true
   pub table : tableGood (tableSection bytes) ≡ true
-  pub points : first (badPoint (daysOf (calendarOf bytes)) (registerSection bytes)) 0 (pointCount bytes) ≡ none
+  pub points : first (badPoint (versionOf bytes) (daysOf (calendarOf bytes)) (registerSection bytes)) 0 (pointCount bytes) ≡ none
   pub readings : first (badReading (readingSection bytes)) 0 (quartersOf (calendarOf bytes) * pointCount bytes) ≡ none
   pub engagements : first (badEngagement (calendarOf bytes) (pointCount bytes) (engagementSection bytes)) 0 (engagementCount bytes) ≡ none
 
@@ -195,12 +195,12 @@ passes bytes e =
     let c = calendarOf bytes in
     let n₇ = unlessFound (first (badEngagement c (pointCount bytes) (engagementSection bytes)) 0 (engagementCount bytes)) 7 none in
     let n₆ = unlessFound (firstBadReading c (readingSection bytes) (pointCount bytes)) 6 n₇ in
-    let n₅ = unlessFound (first (badPoint (daysOf c) (registerSection bytes)) 0 (pointCount bytes)) 5 n₆ in
+    let n₅ = unlessFound (first (badPoint (versionOf bytes) (daysOf c) (registerSection bytes)) 0 (pointCount bytes)) 5 n₆ in
     let n₄ = unless (calendarGood (calendarSection bytes) && tableGood (tableSection bytes)) 4 n₅ in
     let e₁ = not-refused (headerGood bytes) 1 (unless (layoutGood bytes) 2 n₄) e in
     let e₂ = not-refused (layoutGood bytes) 2 n₄ (e₁ .1) in
     let e₄ = not-refused (calendarGood (calendarSection bytes) && tableGood (tableSection bytes)) 4 n₅ (e₂ .1) in
-    let e₅ = not-found (first (badPoint (daysOf c) (registerSection bytes)) 0 (pointCount bytes)) 5 n₆ (e₄ .1) in
+    let e₅ = not-found (first (badPoint (versionOf bytes) (daysOf c) (registerSection bytes)) 0 (pointCount bytes)) 5 n₆ (e₄ .1) in
     let e₆ = not-found (firstBadReading c (readingSection bytes) (pointCount bytes)) 6 n₇ (e₅ .1) in
     let e₇ = not-found (first (badEngagement c (pointCount bytes) (engagementSection bytes)) 0 (engagementCount bytes)) 7 none (e₆ .1) in
     let tables = both (calendarGood (calendarSection bytes)) (tableGood (tableSection bytes)) (e₄ .0) in
@@ -244,10 +244,10 @@ sound bytes e =
       few = rw (length-map, length-range) (h .rows);
     }
   where
-    at-point : {point : Point} → first (badPoint (daysOf (calendarOf bytes)) (registerSection bytes)) 0 (pointCount bytes) ≡ none → (i : ℕ) × List·Memᴰ i (range 0 (pointCount bytes)) × (pointAt (registerSection bytes) i ≡ point) → Limited point
+    at-point : {point : Point} → first (badPoint (versionOf bytes) (daysOf (calendarOf bytes)) (registerSection bytes)) 0 (pointCount bytes) ≡ none → (i : ℕ) × List·Memᴰ i (range 0 (pointCount bytes)) × (pointAt (registerSection bytes) i ≡ point) → Limited point
     at-point f (i, m, q) =
         let r = mem-range 0 (pointCount bytes) i m in
-        rw (← q) (limited-row (daysOf (calendarOf bytes)) (registerSection bytes) i (first-none _ 0 (pointCount bytes) f i (r .0) (r .1)))
+        rw (← q) (limited-row (versionOf bytes) (daysOf (calendarOf bytes)) (registerSection bytes) i (first-none _ 0 (pointCount bytes) f i (r .0) (r .1)))
 
     at-row : {g : Engagement} → first (badEngagement (calendarOf bytes) (pointCount bytes) (engagementSection bytes)) 0 (engagementCount bytes) ≡ none → (i : ℕ) × List·Memᴰ i (range 0 (engagementCount bytes)) × (engagementAt (engagementSection bytes) i ≡ g) → Placed (calendarOf bytes) (pointCount bytes) g × OnTerms g
     at-row f (i, m, q) =

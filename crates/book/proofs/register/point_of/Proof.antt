@@ -53,22 +53,26 @@ u16-at-requires c κs = search needs
 u16-at-requires-2 : tie.Need-u16-at-requires-2
 u16-at-requires-2 c κs = search needs
 
+u16-at-requires-3 : tie.Need-u16-at-requires-3
+u16-at-requires-3 c κs = search needs
+
 returns : tie.Need-returns
 returns c = λ i.
-    let method = c .before .before .before .before .before .before .before .before .before in
+    let method = c .before .before .before .before .before .before .before .before .before .before in
     let supply = method .before .before in
     let takers = supply .before .before in
     let byte = takers .before .before in
     record {
-      delivery = c .before .before .before .before .before .before .before .before .u64-at .ensures i;
-      access = c .before .before .before .before .before .before .before .u64-at2 .ensures i;
-      supplier = c .before .before .before .before .before .before .u64-at3 .ensures i;
-      fsp = c .before .before .before .before .before .u64-at4 .ensures i;
-      mask = c .before .before .before .before .u64-at5 .ensures i;
-      upward = c .before .before .before .u32-at .ensures i;
-      downward = c .before .before .u32-at2 .ensures i;
-      sourceparty = c .before .u16-at .ensures i;
-      fspparty = c .u16-at2 .ensures i;
+      delivery = c .before .before .before .before .before .before .before .before .before .u64-at .ensures i;
+      access = c .before .before .before .before .before .before .before .before .u64-at2 .ensures i;
+      supplier = c .before .before .before .before .before .before .before .u64-at3 .ensures i;
+      fsp = c .before .before .before .before .before .before .u64-at4 .ensures i;
+      mask = c .before .before .before .before .before .u64-at5 .ensures i;
+      upward = c .before .before .before .before .u32-at .ensures i;
+      downward = c .before .before .before .u32-at2 .ensures i;
+      sourceparty = c .before .before .u16-at .ensures i;
+      fspparty = c .before .u16-at2 .ensures i;
+      injectionparty = c .u16-at3 .ensures i;
       situation = (takers .before .situation-of .ensures ∙ ap situationOf (byte .u8-at .ensures)) i;
       takers = (takers .takers-of .ensures ∙ ap takersOf (byte .u8-at .ensures)) i;
       supply = (supply .supply-of .ensures ∙ ap supplyOf (supply .before .u8-at2 .ensures)) i;
@@ -95,4 +99,5 @@ point-of-spec =
     u32-at-requires-2
     u16-at-requires
     u16-at-requires-2
+    u16-at-requires-3
     returns)

@@ -21,10 +21,10 @@ days-small : (c : tie.After-days-of) → c .days-of .result ≤ 64
 days-small c = let s = c .before .before .before .before in omega (arith, days-few (s .args .c) (s .pre .0), c .days-of .ensures)
 
 -- what the search of the register found, of the days that there are
-points-found : (c : tie.After-judge-register) → first (badPoint (daysOf (c .before .before .before .before .before .args .c)) (c .before .before .before .before .before .args .register .now)) 0 (c .before .before .before .before .before .args .points) ≡ foundAt (c .judge-register .result)
+points-found : (c : tie.After-judge-register) → first (badPoint (c .before .before .before .before .before .args .version) (daysOf (c .before .before .before .before .before .args .c)) (c .before .before .before .before .before .args .register .now)) 0 (c .before .before .before .before .before .args .points) ≡ foundAt (c .judge-register .result)
 points-found c =
     let s = c .before .before .before .before .before .args in
-    ap (λ (d : ℕ). first (badPoint d (s .register .now)) 0 (s .points)) (sym (c .before .days-of .ensures)) ∙ sym (c .judge-register .ensures)
+    ap (λ (d : ℕ). first (badPoint (s .version) d (s .register .now)) 0 (s .points)) (sym (c .before .days-of .ensures)) ∙ sym (c .judge-register .ensures)
 
 readings-found : (c : tie.After-judge-readings) → firstBadReading (c .before .before .before .before .before .before .before .before .before .args .c) (c .before .before .before .before .before .before .before .before .before .args .readings .now) (c .before .before .before .before .before .before .before .before .before .args .points) ≡ pointOfReading (c .before .quarters-of .result) (foundAt (c .judge-readings .result))
 unfolding firstBadReading

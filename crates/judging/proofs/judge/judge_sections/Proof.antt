@@ -59,7 +59,7 @@ returns-2 c =
     let w = c .before .before in
     let a = w .before .before .before .before .before .before .before .before .args in
     rw (sym (tables w) ∙ not-false _ (c .before .if1 .left))
-    (c .judge-rows .ensures ∙ (λ i. rowsRefusal (a .c) (a .points) (a .rows) (w .before .before .before .before .section3 .ensures i) (w .before .before .before .section4 .ensures i) (w .before .before .section5 .ensures i)))
+    (c .judge-rows .ensures ∙ (λ i. rowsRefusal (a .version) (a .c) (a .points) (a .rows) (w .before .before .before .before .section3 .ensures i) (w .before .before .before .section4 .ensures i) (w .before .before .section5 .ensures i)))
 
 pub judge-sections-spec : {M : Type 1} → statement M
 judge-sections-spec =

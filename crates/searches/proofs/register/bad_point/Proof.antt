@@ -39,7 +39,7 @@ unfolding badPoint
 returns c = let s = c .before .before .before .before .before .before .args in
     let row = row-part 64 (s .register .now) (s .i) in
     let numbers = c .before .before .before .numbers-good .ensures ∙ ap (numbersGood (s .days)) row in
-    let bytes = c .before .before .bytes-good .ensures ∙ ap bytesGood row in
+    let bytes = c .before .before .bytes-good .ensures ∙ ap (bytesGood (s .version)) row in
     ap₂ (λ (g o : Bool). not g || o) (ap₂ _&&_ numbers bytes) (ap₂ _||_ (c .before .not-above .ensures) (c .differs-below .ensures))
 
 pub bad-point-spec : {M : Type 1} → statement M

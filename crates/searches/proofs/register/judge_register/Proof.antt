@@ -13,10 +13,10 @@ use Rattle.searches.proofs.register.judge_register.Tie as tie
 use Rattle.integers.specs.FirstLaws.{first-here, first-later, first-end}
 
 abbrev Inv-loop : tie.InvT-loop
-Inv-loop register n days top₀ i₀ top i = (i ≤ n) × (first (badPoint days register) 0 n ≡ first (badPoint days register) i (n - i)) × Topped register i top
+Inv-loop version register n days top₀ i₀ top i = (i ≤ n) × (first (badPoint version days register) 0 n ≡ first (badPoint version days register) i (n - i)) × Topped register i top
 
 abbrev μ-loop : tie.MeasureT-loop
-μ-loop register n days top₀ i₀ top i = n - i
+μ-loop version register n days top₀ i₀ top i = n - i
 
 loop-holds : tie.Need-loop-holds Inv-loop μ-loop
 loop-holds c = (search needs, rw (sub-zero (c .before .args .n)), λ j h. absurd (omega arith))
@@ -29,7 +29,7 @@ returns c = let l = c .before .before .before in
     let s = l .before .before .args in
     sym
     (l .loop .inv .1
-    ∙ first-here (badPoint (s .days) (s .register .now)) (s .n) (l .loop .i) (search needs) (sym (c .before .bad-point .ensures) ∙ c .if1 .taken))
+    ∙ first-here (badPoint (s .version) (s .days) (s .register .now)) (s .n) (l .loop .i) (search needs) (sym (c .before .bad-point .ensures) ∙ c .if1 .taken))
 
 access-at-requires : tie.Need-access-at-requires Inv-loop μ-loop
 access-at-requires c κs = search needs
@@ -50,14 +50,14 @@ loop-again c = let l = c .before .before .before .before .before in
     let top = c .larger .ensures in (
       search needs,
       l .loop .inv .1
-          ∙ first-later (badPoint (s .days) (s .register .now)) (s .n) (l .loop .i) (search needs) (sym (c .before .before .before .bad-point .ensures) ∙ c .before .before .if1 .left),
+          ∙ first-later (badPoint (s .version) (s .days) (s .register .now)) (s .n) (l .loop .i) (search needs) (sym (c .before .before .before .bad-point .ensures) ∙ c .before .before .if1 .left),
       below-more (λ (j : ℕ). accessIn (registerRow (s .register .now) j) ≤ c .larger .result) (l .loop .i) (λ j h. omega (arith, top, l .loop .inv .2 j h)) (omega (arith, top, access)),
     )
 
 returns-2 : tie.Need-returns-2 Inv-loop μ-loop
 returns-2 c = let l = c .before in
     let s = l .before .before .args in
-    sym (l .loop .inv .1 ∙ first-end (badPoint (s .days) (s .register .now)) (s .n) (l .loop .i) (c .loop-test .left))
+    sym (l .loop .inv .1 ∙ first-end (badPoint (s .version) (s .days) (s .register .now)) (s .n) (l .loop .i) (c .loop-test .left))
 
 pub judge-register-spec : {M : Type 1} → statement M
 judge-register-spec =
