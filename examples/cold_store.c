@@ -143,10 +143,10 @@ int main(void)
     uint64_t count = toe_settle(book, END, rows, TOE_ROWS_LARGEST);
     if (count >= TOE_REFUSED)
         return refused("toe_settle", count);
-    printf("baseline, delivered, source and FSP correction, in kilowatts\n");
+    printf("baseline, delivered, source, FSP and injection correction, in kilowatts\n");
     for (uint64_t row = 0; row < count; row++)
-        for (int column = 0; column < 4; column++)
-            printf("%.3f%s", rows[4 * row + column] / (1000.0 * TOE_GRAINS_PER_WATT), column < 3 ? " " : "\n");
+        for (int column = 0; column < 5; column++)
+            printf("%.3f%s", rows[5 * row + column] / (1000.0 * TOE_GRAINS_PER_WATT), column < 4 ? " " : "\n");
 
     const char *id = "COLD-STORE-1", *moment = "2021-08-02T09:00:00.000+02:00";
     for (uint8_t kind = 1; kind <= 3; kind++) {

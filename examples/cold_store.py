@@ -15,7 +15,7 @@ LIBRARY = os.path.join(os.path.dirname(__file__), "../target/staticlib/libtoe.so
 
 GRAINS_PER_WATT = 30_240
 # Long enough for any book.
-ROWS_LARGEST = 204_800
+ROWS_LARGEST = 256_000
 FILE_LARGEST = 4_856_366
 
 LEAD_DAYS = 1
@@ -86,9 +86,9 @@ def main():
     toe, book = load(), make_book()
     rows = (ctypes.c_int64 * ROWS_LARGEST)()
     file = ctypes.create_string_buffer(FILE_LARGEST)
-    print("baseline, delivered, source and FSP correction, in kilowatts")
+    print("baseline, delivered, source, FSP and injection correction, in kilowatts")
     for row in range(count(toe.toe_settle(book, len(book), rows, len(rows)))):
-        print(*(f"{grains / (1000 * GRAINS_PER_WATT):.3f}" for grains in rows[4 * row:4 * row + 4]))
+        print(*(f"{grains / (1000 * GRAINS_PER_WATT):.3f}" for grains in rows[5 * row:5 * row + 5]))
     identity, moment = b"COLD-STORE-1", b"2021-08-02T09:00:00.000+02:00"
     for kind, receiver in [(1, FSP), (2, SUPPLIER), (3, SUPPLIER)]:
         length = count(toe.toe_file(book, len(book), kind, receiver, identity, len(identity), moment, len(moment), rows, len(rows),

@@ -24,7 +24,7 @@ extern "C" {
 #define TOE_GRAINS_PER_WATT 30240
 
 /* Long enough for any book: numbers of settlement rows, numbers of a sheet, bytes of a file. */
-#define TOE_ROWS_LARGEST 204800
+#define TOE_ROWS_LARGEST 256000
 #define TOE_SHEET_LARGEST 2980
 #define TOE_FILE_LARGEST 4856366
 
@@ -44,8 +44,9 @@ extern "C" {
 #define TOE_DELIVERY_UP 0
 #define TOE_DELIVERY_DOWN 1
 
-/* Settles a book: the number of rows. Each engagement quarter-hour gives four numbers, in grains: baseline,
- * delivered volume, source and FSP correction. `rows_length` counts numbers. Refusals 1, 2, 4 to 9, 10 item 0. */
+/* Settles a book: the number of rows. Each engagement quarter-hour gives five numbers, in grains: baseline,
+ * delivered volume, source, FSP and injection correction, the last 0 in a book of version 1. `rows_length` counts numbers.
+ * Refusals 1, 2, 4 to 9, 10 item 0. */
 uint64_t toe_settle(const uint8_t *book, size_t book_length, int64_t *rows, size_t rows_length);
 
 /* Fills a balance party's sheet, in grains: a number for each quarter-hour of the month; how many. `sums_length` counts numbers.
@@ -54,7 +55,7 @@ uint64_t toe_sheet(const uint8_t *book, size_t book_length, uint16_t party, int6
 
 /* Writes a receiver's file of a book, and fills the book's settlement rows: the number of bytes. Kind 1 to 3; the
  * receiver is an FSP for kind 1, else a supplier. `moment` is as 2021-08-02T09:00:00.000+02:00, `id` 1 to 36 letters, digits and
- * hyphens; neither needs a zero byte behind it. Lengths count numbers and bytes. It needs 1.0 MB of stack, the other calls under 8 KB.
+ * hyphens; neither needs a zero byte behind it. Lengths count numbers and bytes. It needs 1.0 MB of stack, the other calls under 10 KB.
  * Refusals 1, 2, 4 to 9, 12 for the kind, 11, 12 for ID or moment, 10 item 0 for the rows, 10 item 1 for the file. */
 uint64_t toe_file(const uint8_t *book, size_t book_length, uint8_t kind, uint64_t receiver, const uint8_t *id,
                   size_t id_length, const uint8_t *moment, size_t moment_length, int64_t *rows, size_t rows_length,

@@ -31,9 +31,13 @@ engagementCount book = numberAt book 8 2
 abbrev pub between : ℕ → ℕ → ℕ → Bool
 between least most n = leb least n && leb n most
 
--- "version u16 = 1"
+-- "version u16 = 1"; 02, C-14: "Refusal 1 accepts versions 1 and 2."
 abbrev pub versionTaken : ℕ → Bool
-versionTaken v = eqb v 1
+versionTaken v = between 1 2 v
+
+-- 02, C-14: "one source party for off-take and one for injection", "From version 2 on": a book of this version has both
+abbrev pub splits : ℕ → Bool
+splits v = leb 2 v
 
 -- "year u16, 2018 to 2099; month u8; lead days L u8, 1 to 33; points P u16, 1 to 256; engagements E u16, 0 to 512; six zero bytes"
 unfoldable pub headerFields : List ℕ → Bool

@@ -1,11 +1,11 @@
 -- Document 01, "The book", section 3: the register of delivery points.
-use mathlib.Core.Bool.{Bool, false, not, _&&_, _||_}
+use mathlib.Core.Bool.{Bool, false, cond, not, _&&_, _||_}
 use mathlib.Core.List.{List}
 use Prim.Native.Nat.{ℕ, zero, suc, _/_, _%_, _^_}
 use lib.Dec.{eqb, leb, ltb}
 use Rattle.integers.specs.First.{anyBelow}
 use Rattle.wire.specs.Numbers.{numberAt}
-use Rattle.book.specs.Header.{pointWidth, rowAt}
+use Rattle.book.specs.Header.{splits, pointWidth, rowAt}
 use Rattle.book.specs.declared.Situation.{Situation}
 use Rattle.book.specs.declared.Situation.the-variants.{Transfer, PassThrough, OptOut, NetInjector}
 use Rattle.book.specs.declared.Supply.{Supply}
@@ -71,7 +71,7 @@ sourcePartyIn row = numberAt row 48 2
 abbrev pub fspPartyIn : List ℕ → ℕ
 fspPartyIn row = numberAt row 50 2
 
--- 02, C-14: "the injection party in bytes 56 and 57 of the register row", which are zero in version 1
+-- 02, C-14: "the injection party in bytes 56 and 57 of the register row"; in version 1 they are zero, and no party
 abbrev pub injectionPartyIn : List ℕ → ℕ
 injectionPartyIn row = numberAt row 56 2
 
@@ -125,9 +125,12 @@ numbersGood days row =
     && (ltb (maskIn row) (2 ^ days)
     && (leb (upwardIn row) (10 ^ 9) && leb (downwardIn row) (10 ^ 9))))))
 
--- the bytes that a book of a version has no column for: "nine zero bytes"
+-- the bytes that are no column: "nine zero bytes"; 02, C-14: in version 2 "bytes 55 and 58 to 63 remain zero"
 unfoldable pub restGood : ℕ → List ℕ → Bool
-restGood version row = eqb (numberAt row 55 9) 0
+restGood version row =
+    cond (splits version)
+    (eqb (numberAt row 55 1) 0 && eqb (numberAt row 58 6) 0)
+    (eqb (numberAt row 55 9) 0)
 
 -- the bytes: a situation, a supply direction and a method that there are, and the rest
 unfoldable pub bytesGood : ℕ → List ℕ → Bool

@@ -4,7 +4,7 @@ ghost use mathlib.Core.Path.{_≡_};
 ghost use mathlib.Core.Bool.{true};
 ghost use Prim.Native.Nat.{_≤_};
 ghost use lib.ListN.{length};
-ghost use Rattle.book.specs.Header.{versionOf, calendarOf, pointCount, engagementCount, headerGood};
+ghost use Rattle.book.specs.Header.{versionOf, splits, calendarOf, pointCount, engagementCount, headerGood};
 
 pub fn calendar_of(book: &[u8]) -> Calendar
     requires { ⌜ headerGood (now book) ≡ true ⌝ }
@@ -27,6 +27,13 @@ pub fn version_of(book: &[u8]) -> u16
     ensures { λ r. ⌜ r ≡ versionOf (now (book .entry)) ⌝ }
 {
     wire::u16_at(book, 0)
+}
+
+// Whether a book of this version has a source party for off-take and one for injection.
+pub fn splits(version: u16) -> bool
+    ensures { λ r. ⌜ r ≡ splits version ⌝ }
+{
+    2 <= version
 }
 
 pub fn point_count(book: &[u8]) -> usize

@@ -30,14 +30,14 @@ pub fn signed(z: i64) {
 
 // The numbers of a row are parted by spaces, and a line feed ends it.
 fn end_number(i: usize) {
-    if i % 4 == 3 {
+    if i % 5 == 4 {
         io::write_all(1, b"\n");
     } else {
         io::write_all(1, b" ");
     }
 }
 
-// Settlement rows, four numbers each.
+// Settlement rows, five numbers each.
 pub fn rows(numbers: &[i64]) {
     let mut i = 0;
     while i < numbers.len() {

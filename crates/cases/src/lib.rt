@@ -20,10 +20,10 @@ pub enum Step {
 }
 
 // Room for the text of all cases of a program, and for a largest book: 256 points, 29 days, 512 engagements.
-pub fn text_buffer() -> [u8; 600000]
-    ensures { λ r. ⌜ 600000 ≡ length r ⌝ }
+pub fn text_buffer() -> [u8; 700000]
+    ensures { λ r. ⌜ 700000 ≡ length r ⌝ }
 {
-    [0; 600000]
+    [0; 700000]
 }
 
 pub fn book_buffer() -> [u8; 3000000]

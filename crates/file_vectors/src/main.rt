@@ -5,6 +5,7 @@ use reports::FileAnswer;
 use text::Number;
 ghost use Prim.Native.Nat.{_*_, _≤_};
 ghost use lib.ListN.{length};
+ghost use Rattle.volumes.specs.Settlement.{rowWidth};
 ghost use Rattle.file_vectors.specs.FitsInner.{FieldWithin, FileFits};
 
 // What a line says at a place, and where its next word starts.
@@ -23,14 +24,14 @@ pub struct Case {
 
 // The number of rows and bytes, the rows, and the file; what stands behind both is to be kept.
 fn answer_file(rows: &[i64], file: &[u8], count: usize, n: usize)
-    requires { ⌜ (4 * count ≤ length (now rows)) × (n ≤ length (now file)) ⌝ }
+    requires { ⌜ (rowWidth * count ≤ length (now rows)) × (n ≤ length (now file)) ⌝ }
 {
     cases::answers::text(b"file ");
     cases::answers::number(count as u64);
     cases::answers::text(b" ");
     cases::answers::number(n as u64);
     cases::answers::text(b"\n");
-    let end = 4 * count;
+    let end = settlement::rows::ROW_WIDTH * count;
     cases::answers::rows(&rows[..end]);
     cases::answers::text(&file[..n]);
     cases::answers::text(b"\n");

@@ -8,7 +8,7 @@ use lib.IntN.{ℤ}
 use lib.ListN.{length, drop}
 use borrow.Author.Tests.{le-leb, lt-leb}
 use Rattle.refusals.specs.Refusals.{Refusal, orElse}
-use Rattle.book.specs.Header.{registerSection}
+use Rattle.book.specs.Header.{versionOf, registerSection}
 use Rattle.book.specs.Book.{bookOf}
 use Rattle.book.specs.Judged.{refusalOf}
 use Rattle.volumes.specs.Settlement.{bookRefusal}
@@ -22,7 +22,7 @@ use Rattle.reports.specs.Calls.{stands, sheetRefusal, sheetSays, sheetAnswer, S
 use Rattle.quarters.specs.Quarters.{monthQuarters}
 
 -- a party of the register is one of the book
-pub stands-in : (bytes : List ℕ) (party : ℕ) → refusalOf bytes ≡ none → stands party (partiesIn (registerSection bytes)) ≡ stands party (parties (bookOf bytes))
+pub stands-in : (bytes : List ℕ) (party : ℕ) → refusalOf bytes ≡ none → stands party (partiesIn (versionOf bytes) (registerSection bytes)) ≡ stands party (parties (bookOf bytes))
 stands-in bytes party h = ap (stands party) (parties-are bytes h)
 
 module _ (bytes : List ℕ) (party : ℕ) (lent : List ℤ) where

@@ -11,8 +11,9 @@ pub fn sheet(book: &[u8], party: u16, sums: &mut [i64]) -> SheetAnswer
     if let Verdict::Refused(number, item) = verdict {
         return SheetAnswer::Refused(number, item);
     }
+    let version = book::header::version_of(book);
     let register = settlement::sections::section(book, 2);
-    if !sheets::parties::is_party(register, party) {
+    if !sheets::parties::is_party(version, register, party) {
         return SheetAnswer::Refused(11, 0);
     }
     let count = sheets::fill::sheet_length(book);

@@ -19,7 +19,7 @@ fn header_fields(book: &[u8]) -> bool
     let points = wire::u16_at(book, 6);
     let engagements = wire::u16_at(book, 8);
     let zeros = (wire::u16_at(book, 10) == 0) & (wire::u32_at(book, 12) == 0);
-    (version == 1)
+    ((1 <= version) & (version <= 2))
         & (((2018 <= year) & (year <= 2099))
             & (((1 <= month) & (month <= 12))
                 & (((1 <= lead) & (lead <= 33))

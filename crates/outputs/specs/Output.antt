@@ -17,7 +17,7 @@ use Rattle.refusals.specs.Buffers.{over, afterwards}
 use Rattle.reports.specs.Calls.{textOf, fileRefusal}
 use Rattle.kinds.specs.Numbers.{kindNumbered}
 
--- "at most 65,536 bytes in all", "The program's rows buffer has 8,192 numbers, its file buffer 65,536 bytes."
+-- "at most 65,536 bytes in all"; 02, C-14: "the program's rows buffer has 10,240 numbers"; "its file buffer 65,536 bytes"
 abbrev pub inputMost : ℕ
 inputMost = 65536
 
@@ -26,7 +26,7 @@ abbrev pub inputRead : ℕ
 inputRead = 65537
 
 abbrev pub rowsLent : ℕ
-rowsLent = 8192
+rowsLent = 10240
 
 abbrev pub fileLent : ℕ
 fileLent = 65536

@@ -48,7 +48,7 @@ fn put_file(input: &[u8], asked: Asked, rows: &mut [i64], out: &mut [u8]) -> usi
 }
 
 // The output, in front of `out`; answers how many bytes.
-pub fn answer(input: &[u8], rows: &mut [i64; 8192], out: &mut [u8; 65536]) -> usize
+pub fn answer(input: &[u8], rows: &mut [i64; 10240], out: &mut [u8; 65536]) -> usize
     ensures { λ r. ⌜ Printed (now (input .entry)) (now (rows .entry)) (now (rows .exit)) (now (out .entry)) (now (out .exit)) r ⌝ }
 {
     let request = requests::read_request(input);

@@ -49,7 +49,7 @@ fn print(said: &[u8]) {
 // Reads, answers and prints.
 pub fn run() {
     let mut input = input_buffer();
-    let mut rows = [0i64; 8192];
+    let mut rows = [0i64; 10240];
     let mut out = [0u8; 65536];
     let n = read_input(&mut input);
     let count = outputs::answer(&input[..n], &mut rows, &mut out);

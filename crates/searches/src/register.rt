@@ -51,12 +51,16 @@ fn numbers_good(row: &[u8], days: u32) -> bool
                     & (mask & ((upward <= 1000000000) & (downward <= 1000000000))))))
 }
 
-// The bytes that a book of a version has no column for are zero.
+// The bytes that are no column are zero.
 fn rest_good(version: u16, row: &[u8]) -> bool
     requires { ⌜ 64 ≤ length (now row) ⌝ }
     ensures { λ r. ⌜ r ≡ restGood version (now (row .entry)) ⌝ }
 {
-    (wire::u8_at(row, 55) == 0) & (wire::u64_at(row, 56) == 0)
+    let first = wire::u8_at(row, 55) == 0;
+    if book::header::splits(version) {
+        return first & ((wire::u16_at(row, 58) == 0) & (wire::u32_at(row, 60) == 0));
+    }
+    first & (wire::u64_at(row, 56) == 0)
 }
 
 fn bytes_good(version: u16, row: &[u8]) -> bool

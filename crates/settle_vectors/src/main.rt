@@ -5,16 +5,17 @@ use settlement::settle::Settled;
 use text::Number;
 ghost use Prim.Native.Nat.{_*_, _≤_};
 ghost use lib.ListN.{length};
+ghost use Rattle.volumes.specs.Settlement.{rowWidth};
 ghost use Rattle.settle_vectors.specs.FitsInner.{RowsFit};
 
 // The number of rows, and the rows; the numbers behind them are to be kept.
 fn answer_rows(rows: &[i64], count: usize)
-    requires { ⌜ 4 * count ≤ length (now rows) ⌝ }
+    requires { ⌜ rowWidth * count ≤ length (now rows) ⌝ }
 {
     cases::answers::text(b"rows ");
     cases::answers::number(count as u64);
     cases::answers::text(b"\n");
-    let end = 4 * count;
+    let end = settlement::rows::ROW_WIDTH * count;
     cases::answers::rows(&rows[..end]);
     cases::lent::kept(&rows[end..]);
 }
@@ -80,7 +81,7 @@ fn run(text: &[u8], book: &mut [u8], rows: &mut [i64]) {
 fn main() {
     let mut text = cases::text_buffer();
     let mut book = cases::book_buffer();
-    let mut rows = [0; 2048];
+    let mut rows = [0; 2560];
     let n = io::read_full(0, &mut text);
     run(&text[..n], &mut book, &mut rows);
 }

@@ -47,6 +47,10 @@ pub is-watts : {w : ℤ} {raised : ℕ} → Over raise w raised → w ≡ wattsO
 unfolding wattsOf
 is-watts h = is-sub h
 
+-- in grains it has the bias of a level, two raises giving it what it lacks
+pub over-grains : (raised : ℕ) → Over bias (grainsZ (wattsOf raised)) (grains (raised + 2 * raise))
+over-grains raised = record { law = omega (arith, over-watts raised, mul (wattsOf raised) perWatt) }
+
 -- what the baseline is above the reading, and the reading above the baseline, two raises giving the reading the level's bias
 pub above-up : (level raised : ℕ) → up (baselineOf level -ℤ grainsZ (wattsOf raised)) ≡ level - grains (raised + 2 * raise)
 above-up level raised =

@@ -14,14 +14,16 @@ use Rattle.quarters.specs.declared.Calendar.{Calendar}
 use Rattle.quarters.specs.Quarters.{originOf}
 use Rattle.volumes.specs.Quarters.{quarterHours, start}
 use Rattle.volumes.specs.Baseline.{watts}
-use Rattle.volumes.specs.Settlement.{deliveredBy, signed}
+use Rattle.volumes.specs.Settlement.{deliveredBy, sourceBy, injectionBy, signed}
 use Rattle.settlement.specs.RaisedInner.{baselineOf}
 
--- "four signed numbers: baseline, delivered, source and FSP correction", of the requested volume and the baseline, in grains, and the reading, in watts
-unfoldable pub rowFrom : Direction → Point → ℕ → ℤ → ℤ → List ℤ
-rowFrom direction point requested baseline read =
-    let volume : ℤ = pos (deliveredBy direction point baseline (grainsZ read)) in
-    baseline ∷ volume ∷ signed direction volume ∷ signed direction (pos requested -ℤ volume) ∷ []
+-- the five numbers of a row: baseline, delivered, source, FSP and injection correction, of the requested volume and the baseline, in grains, and the reading, in watts
+unfoldable pub rowFrom : ℕ → Direction → Point → ℕ → ℤ → ℤ → List ℤ
+rowFrom version direction point requested baseline read =
+    let volume : ℕ = deliveredBy direction point baseline (grainsZ read) in
+    let source : ℕ = sourceBy version direction baseline (grainsZ read) volume in
+    let injection : ℕ = injectionBy version direction baseline (grainsZ read) volume in
+    baseline ∷ pos volume ∷ signed direction (pos source) ∷ signed direction (pos requested -ℤ pos volume) ∷ signed direction (pos injection) ∷ []
 
 -- "the register's largest watts" in a direction
 unfoldable pub largest : Direction → Point → ℕ
@@ -37,13 +39,13 @@ abbrev pub readingsFrom : Engagement → List ℕ → ℕ → List Reading
 readingsFrom e readings first = map (λ k. readingAt readings (first + k)) (quarterHours e)
 
 -- the row of quarter-hour k, of raised baselines, the requested watts and such readings
-abbrev pub rowAt : Direction → Point → ℕ → List ℕ → List ℕ → ℕ → ℕ → List ℤ
-rowAt direction point requested levels readings first k =
-    rowFrom direction point (grains requested) (baselineOf (getD levels k 0)) (watts (readingAt readings (first + k)))
+abbrev pub rowAt : ℕ → Direction → Point → ℕ → List ℕ → List ℕ → ℕ → ℕ → List ℤ
+rowAt version direction point requested levels readings first k =
+    rowFrom version direction point (grains requested) (baselineOf (getD levels k 0)) (watts (readingAt readings (first + k)))
 
 -- "Each engagement quarter-hour, in order"
-unfoldable pub rowsFrom : Engagement → Point → List ℕ → List ℕ → ℕ → List ℤ
-rowsFrom e point levels readings first = flatMap (rowAt (e .direction) point (e .requested) levels readings first) (quarterHours e)
+unfoldable pub rowsFrom : ℕ → Engagement → Point → List ℕ → List ℕ → ℕ → List ℤ
+rowsFrom version e point levels readings first = flatMap (rowAt version (e .direction) point (e .requested) levels readings first) (quarterHours e)
 
 -- none of the list's first n numbers is greater
 pub record AllAtMost (top n : ℕ) (l : List ℕ) : Type 0 where

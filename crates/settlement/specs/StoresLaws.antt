@@ -16,8 +16,11 @@ module _ {ℓ} {A : Type ℓ} where
   sets-append l at [] b = rw add-zero
   sets-append l at (x ∷ a) b = rw (add-suc, ← suc-add) (sets-append (set l at x) (suc at) a b)
 
-  pub four-sets : (l : List A) (at : ℕ) (a b c d : A) → set (set (set (set l at a) (at + 1) b) (at + 2) c) (at + 3) d ≡ sets l at (a ∷ b ∷ c ∷ d ∷ [])
-  four-sets l at a b c d = let e : at + 3 ≡ suc (suc (suc at)) = omega arith in rw (add-one, add-two, e)
+  pub five-sets : (l : List A) (at : ℕ) (a b c d e : A) → set (set (set (set (set l at a) (at + 1) b) (at + 2) c) (at + 3) d) (at + 4) e ≡ sets l at (a ∷ b ∷ c ∷ d ∷ e ∷ [])
+  five-sets l at a b c d e =
+      let three : at + 3 ≡ suc (suc (suc at)) = omega arith in
+      let four : at + 4 ≡ suc (suc (suc (suc at))) = omega arith in
+      rw (add-one, add-two, three, four)
 
   -- one more part of `width` elements
   pub sets-next : (width : ℕ) (l : List A) (at : ℕ) (f : ℕ → List A) (k : ℕ) → ((i : ℕ) → length (f i) ≡ width)

@@ -8,10 +8,17 @@ ghost use Rattle.book.specs.Book.{Book};
 ghost use Rattle.volumes.specs.Settlement.{rowWidth, rowsOf};
 ghost use Rattle.baseline.specs.FilledInner.{Unrefused, Accepts};
 
-// Fills the rows of an engagement that is not refused, from place `at` on.
-pub fn settle_engagement(shown: Shown, calendar: &[u8], readings: &[u8], out: &mut [i64], at: usize)
+// Fills the rows of an engagement that is not refused, of a book of this version, from place `at` on.
+pub fn settle_engagement(
+    version: u16,
+    shown: Shown,
+    calendar: &[u8],
+    readings: &[u8],
+    out: &mut [i64],
+    at: usize,
+)
     requires { ⌜ Accepts shown (now calendar) (now readings) × (at + rowWidth * shown .e .count ≤ length (now out)) ⌝ }
-    ensures { λ r. ⌜ ((b : Book) → Unrefused shown (now (calendar .entry)) (now (readings .entry)) b → now (out .exit) ≡ sets (now (out .entry)) at (rowsOf b (shown .e))) ⌝ }
+    ensures { λ r. ⌜ ((b : Book) → b .version ≡ version → Unrefused shown (now (calendar .entry)) (now (readings .entry)) b → now (out .exit) ≡ sets (now (out .entry)) at (rowsOf b (shown .e))) ⌝ }
 {
     let c = shown.c;
     let e = shown.e;
@@ -19,5 +26,5 @@ pub fn settle_engagement(shown: Shown, calendar: &[u8], readings: &[u8], out: &m
     let mut levels = [0u64; quarters::LONGEST_DAY];
     baseline::fill::fill_levels(shown, calendar, readings, &mut levels);
     let first = quarters::origin_of(c, e.point) + quarters::in_calendar(c, e.day, e.first);
-    crate::rows::write_rows(out, at, e, point, &levels, readings, first);
+    crate::rows::write_rows(out, at, version, e, point, &levels, readings, first);
 }

@@ -60,9 +60,10 @@ pub fn settle_engagement_at(
     ensures { λ r. ⌜ (r ≡ at + rowWidth * engagementAt (now (engagements .entry)) i .count) × (now (out .exit) ≡ sets (now (out .entry)) at (rowsOf (bookWith (now (book .entry)) (now (engagements .entry))) (engagementAt (now (engagements .entry)) i))) ⌝ }
 {
     let shown = crate::sections::shown_at(c, book, engagements, engaged, i);
+    let version = book::header::version_of(book);
     let calendar = crate::sections::section(book, 0);
     let readings = crate::sections::section(book, 3);
-    crate::fill::settle_engagement(shown, calendar, readings, out, at);
+    crate::fill::settle_engagement(version, shown, calendar, readings, out, at);
     at + ROW_WIDTH * (shown.e.count as usize)
 }
 

@@ -11,7 +11,7 @@ use Rattle.book.specs.declared.Engagement.{Engagement}
 use Rattle.book.specs.declared.Point.{Point}
 use Rattle.quarters.specs.Quarters.{monthQuarters}
 use Rattle.quarters.specs.QuartersLaws.{days-few, quarters-most}
-use Rattle.book.specs.Header.{calendarOf, registerSection}
+use Rattle.book.specs.Header.{versionOf, calendarOf, registerSection}
 use Rattle.book.specs.Register.{pointAt}
 use Rattle.book.specs.Engagements.{engagementAt}
 use Rattle.volumes.specs.Settlement.{rowWidth, rowsOf}
@@ -19,8 +19,8 @@ use Rattle.volumes.specs.Sheets.{sheet}
 use Rattle.settlement.specs.SectionsInner.{engagementCountIn, bookWith, Opened}
 use Rattle.settlement.specs.DrawnLaws.{member, row-count, row-named, owner, engagement-placed}
 use Rattle.sheets.specs.AddsInner.{adds, Addable}
-use Rattle.sheets.specs.SharesInner.{getsOf, Both, correctionsFor, firstCell}
-use Rattle.sheets.specs.RowsLaws.{rows-get, rows-both}
+use Rattle.sheets.specs.SharesInner.{getsOf, RowsSmall, correctionsFor, firstCell}
+use Rattle.sheets.specs.RowsLaws.{rows-get, rows-small}
 use Rattle.sheets.specs.PartsInner.{sheetTo}
 use Rattle.sheets.specs.SheetLaws.{sheet-none, sheet-all, sheet-more, sheet-addable}
 use Rattle.quarters.specs.QuartersInner.{Ranged, longestDay}
@@ -31,16 +31,17 @@ module _ {bytes engagements : List ℕ} (s : Opened bytes engagements) (i : ℕ)
     enough : rowWidth * engagementAt engagements i .count ≤ length l
     enough = omega (arith, engagement-placed s i h .few)
 
-    pub engagement-gets : (party : ℕ) → getsOf party point rows (e .count) ≡ correctionsFor (bookWith bytes engagements) party (engagementAt engagements i)
+    pub engagement-gets : (party : ℕ) → getsOf (versionOf bytes) party point rows (e .count) ≡ correctionsFor (bookWith bytes engagements) party (engagementAt engagements i)
+    unfolding bookWith
     engagement-gets party =
         rw (at, cut, is, filled, ← owner s i h)
         (rows-get (bookWith bytes engagements) (engagementAt engagements i) l enough party)
 
-    pub engagement-both : Both rows (e .count)
-    engagement-both =
+    pub engagement-small : RowsSmall rows (e .count)
+    engagement-small =
         let book = bookWith bytes engagements in
         let f = engagementAt engagements i in
-        rw (is, filled) (rows-both book f l enough (s .sound) (s .sound .terms f (member s i h)))
+        rw (is, filled) (rows-small book f l enough (s .sound) (s .sound .terms f (member s i h)))
 
   -- one engagement more
   module _ {c : Calendar} (k : c ≡ calendarOf bytes) (party : ℕ) (rest : List ℤ) where

@@ -6,10 +6,10 @@ use Rattle.book.specs.Register.{pointAt}
 use Rattle.volumes.specs.Sheets.{partiesOf}
 use Rattle.settlement.specs.SectionsInner.{pointCountIn}
 
--- the parties of the first n rows
-unfoldable pub partiesTo : List ℕ → ℕ → List ℕ
-partiesTo register n = flatMap partiesOf (map (pointAt register) (range 0 n))
+-- the parties of the first n rows, by the columns that a version has
+unfoldable pub partiesTo : ℕ → List ℕ → ℕ → List ℕ
+partiesTo version register n = flatMap (partiesOf version) (map (pointAt register) (range 0 n))
 
 -- "all parties in the register"
-abbrev pub partiesIn : List ℕ → List ℕ
-partiesIn register = partiesTo register (pointCountIn register)
+abbrev pub partiesIn : ℕ → List ℕ → List ℕ
+partiesIn version register = partiesTo version register (pointCountIn register)

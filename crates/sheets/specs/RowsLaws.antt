@@ -12,13 +12,13 @@ use Rattle.book.specs.declared.Engagement.{Engagement}
 use Rattle.book.specs.Book.{Book}
 use Rattle.volumes.specs.Quarters.{quarterHours}
 use Rattle.volumes.specs.Baseline.{pointOf}
-use Rattle.volumes.specs.Settlement.{rowWidth, sourceCorrection, fspCorrection, corrections, row, rowsOf}
+use Rattle.volumes.specs.Settlement.{rowWidth, sourceCorrection, fspCorrection, injectionCorrection, corrections, row, rowsOf}
 use Rattle.volumes.specs.SettlementLaws.{row-length, rowsOf-length}
 use Rattle.volumes.specs.Sheets.{startPosition, correctionAt}
 use Rattle.volumes.specs.SheetsLaws.{correction-inside}
 use Rattle.volumes.specs.SoundInner.{OnTerms, Sound}
-use Rattle.volumes.specs.WidthsLaws.{bounded-add, bounded-fits, source-bounded, fsp-bounded}
-use Rattle.sheets.specs.SharesInner.{gets, sourceIn, fspIn, getsOf, Both, correctionsFor}
+use Rattle.volumes.specs.WidthsLaws.{bounded-more, source-bounded, fsp-bounded, injection-bounded}
+use Rattle.sheets.specs.SharesInner.{gets, sourceIn, fspIn, injectionIn, getsAt, getsOf, RowsSmall, correctionsFor}
 use Rattle.integers.specs.RangesLaws.{map-range-cong}
 
 -- the j-th of the k-th part, where all parts have one width
@@ -56,17 +56,26 @@ module _ (book : Book) (e : Engagement) (l : List ℤ) (room : rowWidth * e .cou
   unfolding row corrections
   fsp-read k p = number k 3 p (omega arith)
 
-  pub rows-get : (party : ℕ) → getsOf party (pointOf book e) (sets l 0 (rowsOf book e)) (e .count) ≡ correctionsFor book party e
+  injection-read : (k : ℕ) → k < e .count → injectionIn (sets l 0 (rowsOf book e)) k ≡ injectionCorrection book e k
+  unfolding row corrections
+  injection-read k p = number k 4 p (omega arith)
+
+  pub rows-get : (party : ℕ) → getsOf (book .version) party (pointOf book e) (sets l 0 (rowsOf book e)) (e .count) ≡ correctionsFor book party e
   unfolding getsOf gets correctionsFor quarterHours corrections
   rows-get party =
       let rows = sets l 0 (rowsOf book e) in
       map-range-cong
-      (λ k. gets party (pointOf book e) (sourceIn rows k) (fspIn rows k))
+      (getsAt (book .version) party (pointOf book e) rows)
       (λ k. correctionAt book party (startPosition (book .calendar) e + k) e)
       0
       (e .count)
-      (λ k _ h. let q : k < e .count = omega arith in rw (source-read k q, fsp-read k q) (sym (correction-inside book party e k q)))
+      (λ k _ h. let q : k < e .count = omega arith in rw (source-read k q, fsp-read k q, injection-read k q) (sym (correction-inside book party e k q)))
 
-  -- which add up without wrapping
-  pub rows-both : Sound book → OnTerms e → Both (sets l 0 (rowsOf book e)) (e .count)
-  rows-both s t = record { fit = λ k h. rw (source-read k h, fsp-read k h) (bounded-fits (bounded-add (source-bounded book s e k) (fsp-bounded book s e t k)) (omega arith)) }
+  -- which are small enough to add up
+  pub rows-small : Sound book → OnTerms e → RowsSmall (sets l 0 (rowsOf book e)) (e .count)
+  rows-small s t =
+      record {
+        source = λ k h. rw (source-read k h) (bounded-more (source-bounded book s e k) (omega arith));
+        fsp = λ k h. rw (fsp-read k h) (bounded-more (fsp-bounded book s e t k) (omega arith));
+        injection = λ k h. rw (injection-read k h) (bounded-more (injection-bounded book s e k) (omega arith));
+      }

@@ -1,10 +1,8 @@
 -- What a party gets of settlement rows (document 01, "Delivered volume, corrections, series").
 use mathlib.Core.List.{List, [], _∷_, map, zip}
-use Prim.Native.Nat.{ℕ, _+_, _*_, _<_}
-use lib.IntN.{ℤ, pos, _+ℤ_}
+use Prim.Native.Nat.{ℕ, _+_, _*_, _^_, _<_}
+use lib.IntN.{ℤ, pos}
 use lib.ListN.{getD}
-use mir.Syntax.{w64}
-use mir.Val.{SFits}
 use Rattle.integers.specs.Ranges.{range}
 use Rattle.quarters.specs.declared.Calendar.{Calendar}
 use Rattle.book.specs.declared.Point.{Point}
@@ -13,26 +11,38 @@ use Rattle.book.specs.Book.{Book}
 use Rattle.volumes.specs.Quarters.{quarterHours}
 use Rattle.volumes.specs.Settlement.{rowWidth}
 use Rattle.volumes.specs.Sheets.{startPosition, partiesOf, shareOf, correctionAt}
+use Rattle.volumes.specs.SoundInner.{Bounded}
 use Rattle.quarters.specs.QuartersInner.{cellOf}
 
--- "One party in both columns gets both.": of a quarter-hour's two corrections
-unfoldable pub gets : ℕ → Point → ℤ → ℤ → ℤ
-gets party point source fsp = shareOf party (zip (partiesOf point) (source ∷ fsp ∷ []))
+-- "One party in both columns gets both.": of a quarter-hour's three corrections, by the columns that a version has
+unfoldable pub gets : ℕ → ℕ → Point → ℤ → ℤ → ℤ → ℤ
+gets version party point source fsp injection = shareOf party (zip (partiesOf version point) (source ∷ fsp ∷ injection ∷ []))
 
--- the corrections that stand third and fourth in row k
+-- the corrections that stand third, fourth and fifth in row k
 abbrev pub sourceIn : List ℤ → ℕ → ℤ
 sourceIn rows k = getD rows (rowWidth * k + 2) (pos 0)
 
 abbrev pub fspIn : List ℤ → ℕ → ℤ
 fspIn rows k = getD rows (rowWidth * k + 3) (pos 0)
 
--- of `count` rows, one after the other
-unfoldable pub getsOf : ℕ → Point → List ℤ → ℕ → List ℤ
-getsOf party point rows count = map (λ k. gets party point (sourceIn rows k) (fspIn rows k)) (range 0 count)
+abbrev pub injectionIn : List ℤ → ℕ → ℤ
+injectionIn rows k = getD rows (rowWidth * k + 4) (pos 0)
 
--- the two corrections of each of them add up without wrapping
-pub record Both (rows : List ℤ) (count : ℕ) : Type 0 where
-  pub fit : (k : ℕ) → k < count → SFits w64 (sourceIn rows k +ℤ fspIn rows k)
+-- of row k, and of `count` rows, one after the other
+abbrev pub getsAt : ℕ → ℕ → Point → List ℤ → ℕ → ℤ
+getsAt version party point rows k = gets version party point (sourceIn rows k) (fspIn rows k) (injectionIn rows k)
+
+unfoldable pub getsOf : ℕ → ℕ → Point → List ℤ → ℕ → List ℤ
+getsOf version party point rows count = map (getsAt version party point rows) (range 0 count)
+
+-- a correction so small that three add up without wrapping; and those of `count` rows all are
+abbrev pub correctionMost : ℕ
+correctionMost = 2 ^ 61
+
+pub record RowsSmall (rows : List ℤ) (count : ℕ) : Type 0 where
+  pub source : (k : ℕ) → k < count → Bounded correctionMost (sourceIn rows k)
+  pub fsp : (k : ℕ) → k < count → Bounded correctionMost (fspIn rows k)
+  pub injection : (k : ℕ) → k < count → Bounded correctionMost (injectionIn rows k)
 
 -- a party's corrections of an engagement, one after the other
 unfoldable pub correctionsFor : Book → ℕ → Engagement → List ℤ

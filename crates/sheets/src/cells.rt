@@ -10,8 +10,9 @@ ghost use lib.ListN.{length, getD, drop, replicate};
 ghost use mir.Syntax.{w64};
 ghost use mir.Val.{SFits};
 ghost use Rattle.volumes.specs.Settlement.{rowWidth};
+ghost use Rattle.volumes.specs.SoundInner.{Bounded};
 ghost use Rattle.sheets.specs.AddsInner.{addAt, adds, Addable};
-ghost use Rattle.sheets.specs.SharesInner.{gets, getsOf, Both};
+ghost use Rattle.sheets.specs.SharesInner.{correctionMost, gets, getsOf, RowsSmall};
 
 // The first n cells of a sheet are 0.
 pub fn clear(sums: &mut [i64], n: usize)
@@ -43,25 +44,38 @@ fn amount(column: u16, party: u16, correction: i64) -> i64
     0
 }
 
-// What a party gets of the two corrections of a quarter-hour: "One party in both columns gets both."
-fn share(party: u16, point: Point, source: i64, fsp: i64) -> i64
-    requires { ⌜ SFits w64 (source +ℤ fsp) ⌝ }
-    ensures { λ r. ⌜ r ≡ gets party point source fsp ⌝ }
+// What a party gets of the three corrections of a quarter-hour: all whose columns it stands in; there is an injection column from version 2 on.
+fn share(version: u16, party: u16, point: Point, source: i64, fsp: i64, injection: i64) -> i64
+    requires { ⌜ Bounded correctionMost source × Bounded correctionMost fsp × Bounded correctionMost injection ⌝ }
+    ensures { λ r. ⌜ r ≡ gets version party point source fsp injection ⌝ }
 {
-    amount(point.sourceparty, party, source) + amount(point.fspparty, party, fsp)
+    let two = amount(point.sourceparty, party, source) + amount(point.fspparty, party, fsp);
+    if !book::header::splits(version) {
+        return two;
+    }
+    two + amount(point.injectionparty, party, injection)
 }
 
 // Adds what a party gets of `count` rows, from cell `at` on.
-pub fn add_rows(sums: &mut [i64], at: usize, party: u16, point: Point, rows: &[i64], count: usize)
-    requires { ⌜ (rowWidth * count ≤ length (now rows)) × Both (now rows) count × Addable (now sums) at (getsOf party point (now rows) count) ⌝ }
-    ensures { λ r. ⌜ now (sums .exit) ≡ adds (now (sums .entry)) at (getsOf party point (now (rows .entry)) count) ⌝ }
+pub fn add_rows(
+    sums: &mut [i64],
+    at: usize,
+    version: u16,
+    party: u16,
+    point: Point,
+    rows: &[i64],
+    count: usize,
+)
+    requires { ⌜ (rowWidth * count ≤ length (now rows)) × RowsSmall (now rows) count × Addable (now sums) at (getsOf version party point (now rows) count) ⌝ }
+    ensures { λ r. ⌜ now (sums .exit) ≡ adds (now (sums .entry)) at (getsOf version party point (now (rows .entry)) count) ⌝ }
 {
     let mut k = 0;
     while k < count {
         let row = settlement::rows::ROW_WIDTH * k;
         let source = rows[row + 2];
         let fsp = rows[row + 3];
-        let correction = share(party, point, source, fsp);
+        let injection = rows[row + 4];
+        let correction = share(version, party, point, source, fsp, injection);
         add_at(sums, at + k, correction);
         k += 1;
     }

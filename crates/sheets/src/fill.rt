@@ -30,13 +30,14 @@ fn add_engagement(
     requires { ⌜ Opened (now book) (now engagements) × (c ≡ calendarOf (now book)) × (i < engagementCountIn (now engagements)) × (refusalNumber (bookWith (now book) (now engagements)) (engagementAt (now engagements) i) ≡ none) × Addable (now sums) (firstCell c (engagementAt (now engagements) i)) (correctionsFor (bookWith (now book) (now engagements)) party (engagementAt (now engagements) i)) × Gathered (now engagements) (now engaged) ⌝ }
     ensures { λ r. ⌜ now (sums .exit) ≡ adds (now (sums .entry)) (firstCell c (engagementAt (now (engagements .entry)) i)) (correctionsFor (bookWith (now (book .entry)) (now (engagements .entry))) party (engagementAt (now (engagements .entry)) i)) ⌝ }
 {
+    let version = book::header::version_of(book);
     let register = settlement::sections::section(book, 2);
     let e = book::engagements::engagement_at(engagements, i);
     let point = book::register::point_at(register, e.point as usize);
     let at = quarters::cell_of(c, e.day, e.first);
     let mut rows = [0i64; settlement::rows::ROW_WIDTH * quarters::LONGEST_DAY];
     settlement::settle::settle_engagement_at(c, book, engagements, engaged, i, &mut rows, 0);
-    crate::cells::add_rows(sums, at, party, point, &rows, e.count as usize);
+    crate::cells::add_rows(sums, at, version, party, point, &rows, e.count as usize);
 }
 
 // Fills the sheet of a party, of a book that is not refused.

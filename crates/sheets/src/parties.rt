@@ -5,9 +5,9 @@ ghost use Rattle.volumes.specs.Sheets.{partiesOf};
 ghost use Rattle.integers.specs.Counts.{stands};
 ghost use Rattle.sheets.specs.PartiesInner.{partiesIn};
 
-// It is a point's source balance party or its FSP balance party.
-fn in_columns(point: Point, party: u16) -> bool
-    ensures { λ r. ⌜ r ≡ stands party (partiesOf point) ⌝ }
+// It is a point's source balance party, its FSP balance party or, from version 2 on, its injection party.
+fn in_columns(version: u16, point: Point, party: u16) -> bool
+    ensures { λ r. ⌜ r ≡ stands party (partiesOf version point) ⌝ }
 {
     if point.sourceparty == party {
         return true;
@@ -15,18 +15,18 @@ fn in_columns(point: Point, party: u16) -> bool
     if point.fspparty == party {
         return true;
     }
-    false
+    book::header::splits(version) & (point.injectionparty == party)
 }
 
-// It is one of some point of the register.
-pub fn is_party(register: &[u8], party: u16) -> bool
-    ensures { λ r. ⌜ r ≡ stands party (partiesIn (now (register .entry))) ⌝ }
+// It is one of some point of the register of a book of this version.
+pub fn is_party(version: u16, register: &[u8], party: u16) -> bool
+    ensures { λ r. ⌜ r ≡ stands party (partiesIn version (now (register .entry))) ⌝ }
 {
     let n = register.len() / 64;
     let mut i = 0;
     while i < n {
         let point = book::register::point_at(register, i);
-        if in_columns(point, party) {
+        if in_columns(version, point, party) {
             return true;
         }
         i += 1;

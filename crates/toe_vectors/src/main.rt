@@ -19,7 +19,7 @@ fn print(said: &[u8]) {
 }
 
 fn answer(input: &[u8]) {
-    let mut rows = [0i64; 8192];
+    let mut rows = [0i64; 10240];
     let mut out = [0u8; 65536];
     let count = outputs::answer(input, &mut rows, &mut out);
     print(&out[..count]);

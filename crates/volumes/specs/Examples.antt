@@ -33,8 +33,8 @@ unfoldable pub june : Calendar
 june = record { year = 2021; month = 6; lead = 3; clock = Same }
 
 -- "one point (supplier 3, FSP 7, off-take, transfer, .., mask 0": its parties, EAN, method and largest watts each way
-unfoldable pub pointFor : ℕ → ℕ → ℕ → Method → ℕ → Point
-pointFor source fsp ean method most =
+unfoldable pub pointFor : ℕ → ℕ → ℕ → ℕ → Method → ℕ → Point
+pointFor source fsp injection ean method most =
     record {
       delivery = ean;
       access = 2;
@@ -45,7 +45,7 @@ pointFor source fsp ean method most =
       downward = most;
       sourceparty = source;
       fspparty = fsp;
-      injectionparty = 0;
+      injectionparty = injection;
       situation = Transfer;
       takers = Aggregated;
       supply = OffTake;
@@ -53,18 +53,18 @@ pointFor source fsp ean method most =
     }
 
 unfoldable pub point : ℕ → Method → ℕ → Point
-point = pointFor 10 20
+point = pointFor 10 20 0
 
 -- an engagement of a point on "day 3 from quarter-hour 0": count, direction, requested watts
 unfoldable pub engagement : ℕ → ℕ → Direction → ℕ → Engagement
 engagement p count direction requested =
     record { point = p; day = 3; first = 0; count = count; direction = direction; notice = 0; requested = requested }
 
--- a book of June with these categories, X and Y of them all, points, readings by day and quarter-hour, and engagements
-unfoldable pub book : (ℕ → ℕ) → ℕ → ℕ → List Point → (ℕ → ℕ → Reading) → List Engagement → Book
-book categories x y points reading engagements =
+-- a book of a version, of June, with these categories, X and Y of them all, points, readings by day and quarter-hour, and engagements
+unfoldable pub book : ℕ → (ℕ → ℕ) → ℕ → ℕ → List Point → (ℕ → ℕ → Reading) → List Engagement → Book
+book version categories x y points reading engagements =
     record {
-      version = 1;
+      version = version;
       calendar = june;
       category = categories;
       x = λ c. x;
@@ -74,9 +74,9 @@ book categories x y points reading engagements =
       engagements = engagements;
     }
 
--- "all categories 0"
+-- "all categories 0", in version 1
 unfoldable pub plain : ℕ → ℕ → List Point → (ℕ → ℕ → Reading) → List Engagement → Book
-plain = book (λ d. 0)
+plain = book 1 (λ d. 0)
 
 -- the same watts the whole day, from day 0 on
 unfoldable pub byDay : List ℕ → ℕ → ℕ → Reading
@@ -155,9 +155,9 @@ pub record Checked : Type 0 where
   pub p6 : map (λ e. delivered halves e 0) (halves .engagements) ≡ 15120 ∷ 15120 ∷ []
   pub p6-written : seriesWatts halves Toe01 7 series 1 ≡ 1
   -- "P7 down, 5000 to 5600, limit 400, requested 500: -400 and -100."
-  pub p7 : rows (risen Down) ≡ plus 5000 ∷ plus 400 ∷ minus 400 ∷ minus 100 ∷ []
+  pub p7 : rows (risen Down) ≡ plus 5000 ∷ plus 400 ∷ minus 400 ∷ minus 100 ∷ pos 0 ∷ []
   -- "P8 up, reading above baseline: 0, all to the FSP."
-  pub p8 : rows (risen Up) ≡ plus 5000 ∷ pos 0 ∷ pos 0 ∷ plus 500 ∷ []
+  pub p8 : rows (risen Up) ≡ plus 5000 ∷ pos 0 ∷ pos 0 ∷ plus 500 ∷ pos 0 ∷ []
   -- "P9 sums 7, 7, 5 with X 1: the later 7."
   pub p9 : map (daySum equalSums (engagement 0 2 Up 100)) (0 ∷ 1 ∷ 2 ∷ []) ≡ pos 7 ∷ pos 7 ∷ pos 5 ∷ []
   pub p9-taken : taken equalSums (engagement 0 2 Up 100) ≡ 1 ∷ []

@@ -17,7 +17,9 @@ pub mod DaysLaws
 pub mod BaselineLaws
 pub mod SettlementLaws
 pub mod UsedLaws
+pub mod SplitLaws
 pub mod SheetsLaws
+pub mod VersionLaws
 pub mod SeriesLaws
 pub mod OwnPointLaws
 pub mod LargestLaws

@@ -21,7 +21,7 @@ use Rattle.book.specs.Book.{Book}
 use Rattle.volumes.specs.Quarters.{quarterHours, start, reference}
 use Rattle.volumes.specs.Ranking.{ranked}
 use Rattle.volumes.specs.Baseline.{pointOf, watts, known, complete, mean, readingBefore, window, ownReading, dayReading, dayReadings, ownWindow, dayWindow, windowed, allowed, suits, isOn, engaged, regular, eligible, before, eligibleDays, xOf, yOf, latest, daySum, taken, high, addend, lastReading, baselineBy, baseline}
-use Rattle.volumes.specs.Settlement.{neededBy, needed, tooFew, refusalNumber, deliveredBy, delivered, requestedAt, sourceCorrection, fspCorrection, corrections, signed, row}
+use Rattle.volumes.specs.Settlement.{neededBy, needed, tooFew, refusalNumber, deliveredBy, delivered, requestedAt, sourceBy, injectionBy, sourceCorrection, fspCorrection, injectionCorrection, corrections, signed, row}
 
 -- an engagement as one of point 0
 unfoldable pub alone : Engagement → Engagement
@@ -99,8 +99,13 @@ module _ (book : Book) (e : Engagement) where
   delivered-only k = ap (λ z. deliveredBy (e .direction) (pointOf book e) z (grainsZ (watts (ownReading book e k)))) (baseline-only k)
 
   pub row-only : (k : ℕ) → row book e k ≡ row (only book e) (alone e) k
-  unfolding only alone row corrections sourceCorrection fspCorrection requestedAt
-  row-only k = ap₂ (λ z v. z ∷ pos v ∷ signed (e .direction) (pos v) ∷ signed (e .direction) (pos (requestedAt e k) -ℤ pos v) ∷ []) (baseline-only k) (delivered-only k)
+  unfolding only alone row corrections sourceCorrection fspCorrection injectionCorrection requestedAt ownReading start
+  row-only k =
+      let read = grainsZ (watts (ownReading book e k)) in
+      ap₂
+      (λ z v. z ∷ pos v ∷ signed (e .direction) (pos (sourceBy (book .version) (e .direction) z read v)) ∷ signed (e .direction) (pos (requestedAt e k) -ℤ pos v) ∷ signed (e .direction) (pos (injectionBy (book .version) (e .direction) z read v)) ∷ [])
+      (baseline-only k)
+      (delivered-only k)
 
   needed-only : (m : Method) → neededBy m book e ≡ neededBy m (only book e) (alone e)
   unfolding only alone start readingBefore window ownWindow lastReading neededBy

@@ -3,7 +3,7 @@ use mathlib.Core.Path.{_≡_}
 use mathlib.Core.Bool.{Bool, false, cond}
 use mathlib.Core.List.{List, [], _∷_, _++_, map, flatMap}
 use mathlib.Core.Option.{Option, none, some}
-use Prim.Native.Nat.{ℕ, suc, _*_, min}
+use Prim.Native.Nat.{ℕ, suc, _-_, _*_, min}
 use lib.Dec.{ltb}
 use lib.IntN.{ℤ, pos, negsuc, negℤ, _-ℤ_}
 use lib.ListN.{length}
@@ -18,6 +18,7 @@ use Rattle.book.specs.declared.Point.{Point}
 use Rattle.book.specs.declared.Engagement.{Engagement}
 use Rattle.refusals.specs.Refusals.{Refusal, refused, orElse, short}
 use Rattle.book.specs.Book.{Book, bookOf}
+use Rattle.book.specs.Header.{splits}
 use Rattle.book.specs.Judged.{refusalOf}
 use Rattle.volumes.specs.Quarters.{quarterHours}
 use Rattle.volumes.specs.Baseline.{pointOf, watts, complete, ownReading, ownWindow, lastReading, eligibleDays, yOf, baseline}
@@ -75,25 +76,55 @@ deliveredBy Down point base read = limited (read -ℤ base) (point .downward)
 unfoldable pub delivered : Book → Engagement → ℕ → ℕ
 delivered book e k = deliveredBy (e .direction) (pointOf book e) (baseline book e k) (grainsZ (watts (ownReading book e k)))
 
--- "both negated downward"
+-- 02, C-14: "raise baseline and reading each to at least 0": what they are of off-take
+unfoldable pub offTakeOf : ℤ → ℕ
+offTakeOf (pos n) = n
+offTakeOf (negsuc n) = 0
+
+-- "and take the first less the second upward, the second less the first downward, a negative difference counting 0"
+unfoldable pub offTakeDifference : Direction → ℤ → ℤ → ℕ
+offTakeDifference Up base read = offTakeOf base - offTakeOf read
+offTakeDifference Down base read = offTakeOf read - offTakeOf base
+
+-- "The off-take party gets the lesser of this and the delivered volume. The injection party gets the rest."
+unfoldable pub offTakeShare : Direction → ℤ → ℤ → ℕ → ℕ
+offTakeShare direction base read volume = min (offTakeDifference direction base read) volume
+
+unfoldable pub injectionShare : Direction → ℤ → ℤ → ℕ → ℕ
+injectionShare direction base read volume = volume - offTakeShare direction base read volume
+
+-- of a delivered volume, by version: the source party's, which is the off-take party's from version 2 on, and the injection party's.
+-- "A version 1 row keeps its four numbers, and its fifth is 0."
+unfoldable pub sourceBy : ℕ → Direction → ℤ → ℤ → ℕ → ℕ
+sourceBy version direction base read volume = cond (splits version) (offTakeShare direction base read volume) volume
+
+unfoldable pub injectionBy : ℕ → Direction → ℤ → ℤ → ℕ → ℕ
+injectionBy version direction base read volume = cond (splits version) (injectionShare direction base read volume) 0
+
+-- "both negated downward"; 02, C-14: "Down negates both."
 unfoldable pub signed : Direction → ℤ → ℤ
 signed Up z = z
 signed Down z = negℤ z
 
--- "The source party's correction is the delivered volume, the FSP party's is requested less delivered"
+-- "The source party's correction is the delivered volume, the FSP party's is requested less delivered", with C-14's split
 unfoldable pub sourceCorrection : Book → Engagement → ℕ → ℤ
-sourceCorrection book e k = signed (e .direction) (pos (delivered book e k))
+sourceCorrection book e k =
+    signed (e .direction) (pos (sourceBy (book .version) (e .direction) (baseline book e k) (grainsZ (watts (ownReading book e k))) (delivered book e k)))
 
 unfoldable pub fspCorrection : Book → Engagement → ℕ → ℤ
 fspCorrection book e k = signed (e .direction) (pos (requestedAt e k) -ℤ pos (delivered book e k))
 
+unfoldable pub injectionCorrection : Book → Engagement → ℕ → ℤ
+injectionCorrection book e k =
+    signed (e .direction) (pos (injectionBy (book .version) (e .direction) (baseline book e k) (grainsZ (watts (ownReading book e k))) (delivered book e k)))
+
 -- the corrections of a quarter-hour, one a column of parties
 unfoldable pub corrections : Book → Engagement → ℕ → List ℤ
-corrections book e k = sourceCorrection book e k ∷ fspCorrection book e k ∷ []
+corrections book e k = sourceCorrection book e k ∷ fspCorrection book e k ∷ injectionCorrection book e k ∷ []
 
--- "four signed numbers: baseline, delivered, source and FSP correction"
+-- "four signed numbers: baseline, delivered, source and FSP correction"; 02, C-14: "a fifth number, the injection correction"
 abbrev pub rowWidth : ℕ
-rowWidth = 4
+rowWidth = 5
 
 unfoldable pub row : Book → Engagement → ℕ → List ℤ
 row book e k = baseline book e k ∷ pos (delivered book e k) ∷ corrections book e k

@@ -9,6 +9,7 @@ use Rattle.integers.specs.Sums.{sumZ}
 use Rattle.quarters.specs.declared.Calendar.{Calendar}
 use Rattle.book.specs.declared.Point.{Point}
 use Rattle.book.specs.declared.Engagement.{Engagement}
+use Rattle.book.specs.Header.{splits}
 use Rattle.book.specs.Book.{Book}
 use Rattle.quarters.specs.Quarters.{position, monthQuarters}
 use Rattle.volumes.specs.Baseline.{pointOf}
@@ -24,13 +25,13 @@ covers c e p = leb (startPosition c e) p && ltb p (startPosition c e + e .count)
 unfoldable pub quarterAt : Calendar → Engagement → ℕ → ℕ
 quarterAt c e p = p - startPosition c e
 
--- the columns of balance parties in the register: source and FSP
-unfoldable pub partiesOf : Point → List ℕ
-partiesOf point = point .sourceparty ∷ point .fspparty ∷ []
+-- the columns of balance parties in the register: source and FSP; 02, C-14: "From version 2 on, sheets and refusal 11 read the new column as well."
+unfoldable pub partiesOf : ℕ → Point → List ℕ
+partiesOf version point = point .sourceparty ∷ point .fspparty ∷ cond (splits version) (point .injectionparty ∷ []) []
 
 -- "all parties in the register"
 unfoldable pub parties : Book → List ℕ
-parties book = flatMap partiesOf (book .points)
+parties book = flatMap (partiesOf (book .version)) (book .points)
 
 -- what a party gets of these amounts, each with its party: "One party in both columns gets both."
 unfoldable pub shareOf : ℕ → List (ℕ × ℤ) → ℤ
@@ -39,7 +40,7 @@ shareOf party amounts = sumZ (λ a. cond (eqb (a .0) party) (a .1) (pos 0)) amou
 -- a party's corrections of one engagement at a position
 unfoldable pub correctionAt : Book → ℕ → ℕ → Engagement → ℤ
 correctionAt book party p e =
-    let share : ℤ = shareOf party (zip (partiesOf (pointOf book e)) (corrections book e (quarterAt (book .calendar) e p))) in
+    let share : ℤ = shareOf party (zip (partiesOf (book .version) (pointOf book e)) (corrections book e (quarterAt (book .calendar) e p))) in
     cond (covers (book .calendar) e p) share (pos 0)
 
 -- "A party's sheet has the sum of its corrections for each quarter-hour of the month"

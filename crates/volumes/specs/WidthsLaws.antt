@@ -1,5 +1,5 @@
 -- Every number of a sound book fits its width: readings, limits and requests are at most 10^9 watts, and at most three of them add up to a number
--- of a row, and two for each engagement to one of a sheet.
+-- of a row, and three corrections for each engagement to one of a sheet.
 use mathlib.Core.Path.{_≡_, refl}
 use mathlib.Core.Logic.{⊎-elim}
 use mathlib.Core.Bool.{Bool, true, false, cond}
@@ -24,11 +24,13 @@ use Rattle.book.specs.declared.Direction.{Direction}
 use Rattle.book.specs.declared.Direction.the-variants.{Up, Down}
 use Rattle.book.specs.declared.Point.{Point}
 use Rattle.book.specs.declared.Engagement.{Engagement}
+use Rattle.book.specs.Header.{splits}
 use Rattle.book.specs.Book.{Book}
 use Rattle.volumes.specs.Quarters.{start, reference}
 use Rattle.volumes.specs.Baseline.{noPoint, pointOf, watts, mean, readingBefore, window, dayReading, ownReading, ownWindow, dayWindow, taken, high, addend, lastReading, baselineBy, baseline}
-use Rattle.volumes.specs.Settlement.{requestedAt, limited, deliveredBy, delivered, signed, sourceCorrection, fspCorrection, corrections}
+use Rattle.volumes.specs.Settlement.{requestedAt, limited, deliveredBy, delivered, signed, sourceCorrection, fspCorrection, injectionCorrection, corrections}
 use Rattle.volumes.specs.Sheets.{covers, quarterAt, partiesOf, shareOf, correctionAt, sheetAt}
+use Rattle.volumes.specs.SplitLaws.{source-most, injection-most}
 use Rattle.volumes.specs.SoundInner.{Bounded, Limited, OnTerms, Sound}
 
 -- bounds of sums, differences and multiples
@@ -144,7 +146,17 @@ module _ (book : Book) (s : Sound book) (e : Engagement) where
   -- the corrections
   pub source-bounded : (k : ℕ) → Bounded most (sourceCorrection book e k)
   unfolding sourceCorrection
-  source-bounded k = signed-bounded (e .direction) most (pos (delivered book e k)) (record { above = delivered-most k; below = omega arith })
+  source-bounded k =
+      let base = baseline book e k in
+      let read = grainsZ (watts (ownReading book e k)) in
+      signed-bounded (e .direction) most _ (record { above = omega (arith, source-most (book .version) (e .direction) base read (delivered book e k), delivered-most k); below = omega arith })
+
+  pub injection-bounded : (k : ℕ) → Bounded most (injectionCorrection book e k)
+  unfolding injectionCorrection
+  injection-bounded k =
+      let base = baseline book e k in
+      let read = grainsZ (watts (ownReading book e k)) in
+      signed-bounded (e .direction) most _ (record { above = omega (arith, injection-most (book .version) (e .direction) base read (delivered book e k), delivered-most k); below = omega arith })
 
   pub fsp-bounded : OnTerms e → (k : ℕ) → Bounded most (fspCorrection book e k)
   unfolding fspCorrection requestedAt
@@ -153,31 +165,38 @@ module _ (book : Book) (s : Sound book) (e : Engagement) where
       apart : (m n : ℕ) → m ≤ most → n ≤ most → Bounded most (pos m -ℤ pos n)
       apart m n h k = record { above = omega (arith, dif (pos m) (pos n)); below = omega (arith, dif (pos m) (pos n)) }
 
-  -- the four numbers of a row
-  pub row-fits : OnTerms e → (k : ℕ) → SFits w64 (baseline book e k) × SFits w64 (pos (delivered book e k)) × SFits w64 (sourceCorrection book e k) × SFits w64 (fspCorrection book e k)
+  -- the five numbers of a row
+  pub row-fits : OnTerms e → (k : ℕ) → SFits w64 (baseline book e k) × SFits w64 (pos (delivered book e k)) × SFits w64 (sourceCorrection book e k) × SFits w64 (fspCorrection book e k) × SFits w64 (injectionCorrection book e k)
   row-fits t k =
-      (bounded-fits (baseline-bounded k) (omega arith), bounded-fits {n = most} (record { above = delivered-most k; below = omega arith }) (omega arith), bounded-fits (source-bounded k) (omega arith), bounded-fits (fsp-bounded t k) (omega arith))
+      (bounded-fits (baseline-bounded k) (omega arith), bounded-fits {n = most} (record { above = delivered-most k; below = omega arith }) (omega arith), bounded-fits (source-bounded k) (omega arith), bounded-fits (fsp-bounded t k) (omega arith), bounded-fits (injection-bounded k) (omega arith))
 
   -- what one engagement adds to a sheet
-  pub correction-bounded : OnTerms e → (party p : ℕ) → Bounded (2 * most) (correctionAt book party p e)
+  pub correction-bounded : OnTerms e → (party p : ℕ) → Bounded (3 * most) (correctionAt book party p e)
   unfolding correctionAt shareOf partiesOf corrections zip zipWith sumBy
-  correction-bounded t party p = covered (covers (book .calendar) e p) (both (quarterAt (book .calendar) e p))
+  correction-bounded t party p = covered (covers (book .calendar) e p) (all (splits (book .version)) (quarterAt (book .calendar) e p))
     where
       one : (b : Bool) (z : ℤ) → Bounded most z → Bounded most (cond b z (pos 0))
       one true z h = h
       one false z h = bounded-zero
 
-      both : (k : ℕ) → Bounded (2 * most) (cond (eqb (pointOf book e .sourceparty) party) (sourceCorrection book e k) (pos 0) +ℤ (cond (eqb (pointOf book e .fspparty) party) (fspCorrection book e k) (pos 0) +ℤ pos 0))
-      both k =
-          bounded-more (bounded-add (one (eqb (pointOf book e .sourceparty) party) (sourceCorrection book e k) (source-bounded k)) (bounded-add (one (eqb (pointOf book e .fspparty) party) (fspCorrection book e k) (fsp-bounded t k)) (bounded-zero {n = 0}))) (omega arith)
+      all : (b : Bool) (k : ℕ) → Bounded (3 * most) (shareOf party (zip (pointOf book e .sourceparty ∷ pointOf book e .fspparty ∷ cond b (pointOf book e .injectionparty ∷ []) []) (corrections book e k)))
+      all true k =
+          bounded-more
+          (bounded-add (one (eqb (pointOf book e .sourceparty) party) (sourceCorrection book e k) (source-bounded k))
+          (bounded-add (one (eqb (pointOf book e .fspparty) party) (fspCorrection book e k) (fsp-bounded t k))
+          (bounded-add (one (eqb (pointOf book e .injectionparty) party) (injectionCorrection book e k) (injection-bounded k)) (bounded-zero {n = 0})))) (omega arith)
+      all false k =
+          bounded-more
+          (bounded-add (one (eqb (pointOf book e .sourceparty) party) (sourceCorrection book e k) (source-bounded k))
+          (bounded-add (one (eqb (pointOf book e .fspparty) party) (fspCorrection book e k) (fsp-bounded t k)) (bounded-zero {n = 0}))) (omega arith)
 
-      covered : (b : Bool) {z : ℤ} → Bounded (2 * most) z → Bounded (2 * most) (cond b z (pos 0))
+      covered : (b : Bool) {z : ℤ} → Bounded (3 * most) z → Bounded (3 * most) (cond b z (pos 0))
       covered true h = h
       covered false h = bounded-zero
 
 -- a number of a sheet, and what some of the engagements make of it
 pub sheet-part-fits : (book : Book) → Sound book → (l : List Engagement) → ((e : Engagement) → List·Memᴰ e l → OnTerms e) → length l ≤ 512 → (party p : ℕ) → SFits w64 (sumZ (correctionAt book party p) l)
-sheet-part-fits book s l h few party p = bounded-fits (bounded-more (bounded-sum (2 * most) (correctionAt book party p) l (λ e m. correction-bounded book s e (h e m) party p)) (mul-le-mul-left (2 * most) few)) (omega arith)
+sheet-part-fits book s l h few party p = bounded-fits (bounded-more (bounded-sum (3 * most) (correctionAt book party p) l (λ e m. correction-bounded book s e (h e m) party p)) (mul-le-mul-left (3 * most) few)) (omega arith)
 
 pub sheet-fits : (book : Book) → Sound book → (party p : ℕ) → SFits w64 (sheetAt book party p)
 unfolding sheetAt

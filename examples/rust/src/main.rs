@@ -128,8 +128,8 @@ fn book() -> Vec<u8> {
 
 fn main() -> Result<(), toe::Refused> {
     let book = book();
-    println!("baseline, delivered, source and FSP correction, in kilowatts");
-    for row in toe::settle(&book)?.chunks(4) {
+    println!("baseline, delivered, source, FSP and injection correction, in kilowatts");
+    for row in toe::settle(&book)?.chunks(5) {
         let kilowatts = |grains: &i64| format!("{:.3}", *grains as f64 / (1000 * toe::GRAINS_PER_WATT) as f64);
         println!("{}", row.iter().map(kilowatts).collect::<Vec<_>>().join(" "));
     }

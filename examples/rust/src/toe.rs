@@ -22,7 +22,7 @@ unsafe extern "C" {
 
 pub const GRAINS_PER_WATT: i64 = 30_240;
 /// Long enough for any book.
-pub const ROWS_LARGEST: usize = 204_800;
+pub const ROWS_LARGEST: usize = 256_000;
 pub const FILE_LARGEST: usize = 4_856_366;
 
 /// A refusal: its number and item; docs/BOOK.md says what they mean.
@@ -45,16 +45,16 @@ fn count(answer: u64) -> Result<usize, Refused> {
     Err(Refused { number: (answer >> 32) as u32 & 0x7fff_ffff, item: answer as u32 })
 }
 
-/// Settles a book: the rows, four numbers of grains for each engagement quarter-hour.
+/// Settles a book: the rows, five numbers of grains for each engagement quarter-hour.
 pub fn settle(book: &[u8]) -> Result<Vec<i64>, Refused> {
     let mut rows = vec![0; ROWS_LARGEST];
     // SAFETY: the call reads `book` and writes `rows`, which are live for their lengths and apart.
     let answer = unsafe { toe_settle(book.as_ptr(), book.len(), rows.as_mut_ptr(), rows.len()) };
-    rows.truncate(4 * count(answer)?);
+    rows.truncate(5 * count(answer)?);
     Ok(rows)
 }
 
-/// The file of a kind for a receiver. It needs 1.6 MB of stack.
+/// The file of a kind for a receiver. It needs 1.0 MB of stack.
 pub fn file(book: &[u8], kind: u8, receiver: u64, id: &str, moment: &str) -> Result<Vec<u8>, Refused> {
     let (mut rows, mut file) = (vec![0; ROWS_LARGEST], vec![0; FILE_LARGEST]);
     // SAFETY: the call reads `book`, `id` and `moment` and writes `rows` and `file`, all live for their lengths and apart.

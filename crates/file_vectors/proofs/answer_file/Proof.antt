@@ -3,6 +3,7 @@ use mathlib.Core.Path.{sym}
 use Prim.Native.Nat.{_*_}
 use lib.Seq.{length-take-le}
 use borrow.Author.Needs.{needs}
+use Rattle.volumes.specs.Settlement.{rowWidth}
 use Rattle.file_vectors.proofs.answer_file.Statement.{statement}
 use Rattle.file_vectors.proofs.answer_file.Tie as tie
 
@@ -34,7 +35,7 @@ mul-end : tie.Need-mul-end
 mul-end c = search needs
 
 slice-aggregate-rows : tie.Need-slice-aggregate-rows
-slice-aggregate-rows c = let a = c .before .before .before .before .before .before .before .before .before .before .args in sym (length-take-le (4 * a .count) (a .rows .now) (search needs))
+slice-aggregate-rows c = let a = c .before .before .before .before .before .before .before .before .before .before .args in sym (length-take-le (rowWidth * a .count) (a .rows .now) (search needs))
 
 rows-requires : tie.Need-rows-requires
 rows-requires c κs = search needs

@@ -3,6 +3,7 @@ use mathlib.Core.Path.{sym}
 use Prim.Native.Nat.{_*_}
 use lib.Seq.{length-take-le}
 use borrow.Author.Needs.{needs}
+use Rattle.volumes.specs.Settlement.{rowWidth}
 use Rattle.settle_vectors.proofs.answer_rows.Statement.{statement}
 use Rattle.settle_vectors.proofs.answer_rows.Tie as tie
 
@@ -25,7 +26,7 @@ mul-end : tie.Need-mul-end
 mul-end c = search needs
 
 slice-aggregate-rows : tie.Need-slice-aggregate-rows
-slice-aggregate-rows c = sym (length-take-le (4 * c .before .before .before .before .before .before .args .count) (c .before .before .before .before .before .before .args .rows .now) (search needs))
+slice-aggregate-rows c = sym (length-take-le (rowWidth * c .before .before .before .before .before .before .args .count) (c .before .before .before .before .before .before .args .rows .now) (search needs))
 
 rows-requires : tie.Need-rows-requires
 rows-requires c κs = search needs

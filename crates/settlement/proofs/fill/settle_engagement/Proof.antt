@@ -4,6 +4,7 @@ use Prim.Native.Nat.{_+_}
 use lib.Seq.{sets}
 use Rattle.volumes.specs.QuartersLaws.{start-is}
 use Rattle.baseline.specs.ShownLaws.{stands}
+use Rattle.settlement.specs.RowsInner.{rowsFrom}
 use Rattle.settlement.specs.FillLaws.{own-whole, rows-are}
 use native.Mathlib.Omega.{arith}
 use borrow.Author.Needs.{needs}
@@ -50,10 +51,12 @@ same-length : tie.Need-same-length
 same-length c = search needs
 
 returns : tie.Need-returns
-returns c = λ b settled.
+returns c = λ b same settled.
     let s = c .before .before .before .before .before .before .before .before .before .before .before .before .before .before .args in
     let first = ap₂ _+_ (c .before .before .before .before .before .origin-of .ensures) (c .before .before .before .before .in-calendar .ensures ∙ sym (start-is (s .shown .c) (s .shown .e))) in
-    c .before .write-rows .ensures ∙ ap (sets (s .out .now) (s .at)) (rows-are settled (c .before .before .before .before .before .before .before .fill-levels .last .1 .1 .1 .0) (c .before .before .before .before .before .origin-of .result + c .before .before .before .before .in-calendar .result) (c .before .before .before .before .before .before .before .fill-levels .ensures) first)
+    let levels = c .before .before .before .before .before .before .before .fill-levels .last .1 .1 .1 .0 in
+    let place = c .before .before .before .before .before .origin-of .result + c .before .before .before .before .in-calendar .result in
+    c .before .write-rows .ensures ∙ ap (sets (s .out .now) (s .at)) (ap (λ v. rowsFrom v (s .shown .e) (s .shown .point) levels (s .readings .now) place) (sym same) ∙ rows-are settled levels place (c .before .before .before .before .before .before .before .fill-levels .ensures) first)
 
 pub settle-engagement-spec : {M : Type 1} → statement M
 settle-engagement-spec =

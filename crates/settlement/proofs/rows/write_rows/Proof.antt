@@ -33,11 +33,11 @@ filled-next {out₀} {at} {f} {count} {out} {out′} {k} w h l e =
     record { inside = omega arith; list = e ∙ ap (λ o. sets o (at + rowWidth * k) (f k)) (h .list) ∙ sets-next rowWidth out₀ at f k w }
 
 abbrev Inv-loop : tie.InvT-loop
-Inv-loop out₀ at point levels readings first count direction requested k₀ out k =
-    RowsFilled out₀ at (rowAt direction point requested levels readings first) count out k
+Inv-loop out₀ at version point levels readings first count direction requested k₀ out k =
+    RowsFilled out₀ at (rowAt version direction point requested levels readings first) count out k
 
 abbrev μ-loop : tie.MeasureT-loop
-μ-loop out₀ at point levels readings first count direction requested k₀ out k = count - k
+μ-loop out₀ at version point levels readings first count direction requested k₀ out k = count - k
 
 cast-count : tie.Need-cast-count Inv-loop μ-loop
 cast-count c = search needs
@@ -85,7 +85,7 @@ loop-again c =
     let there : known (readingAt (a .readings .now) (a .first + k)) ≡ true =
     known-at (λ i. readingAt (a .readings .now) (a .first + i)) 0 (a .e .count) k (s .pre .4) (omega arith) (omega arith) in
     filled-next
-    (λ i. from-length _ _ _ _ _)
+    (λ i. from-length _ _ _ _ _ _)
     (l .loop .inv)
     (omega arith)
     (rw (← raised-watts (c .before .before .before .before .raised-at .ensures) there) (c .before .write-row .ensures))

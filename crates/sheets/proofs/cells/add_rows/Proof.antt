@@ -2,23 +2,23 @@
 use borrow.Author.Needs.{needs}
 use native.Mathlib.Omega.{arith}
 use mathlib.Core.Path.{_≡_, refl, ap, _∙_}
-use Prim.Native.Nat.{_+_, _-_, _≤_}
+use Prim.Native.Nat.{_+_, _-_, _≤_, _<_}
 use lib.ListN.{length}
 use mir.Syntax.{w64}
 use mir.Val.{toZ, ofZ}
 use Rattle.integers.specs.Ranges.{range}
 use Rattle.sheets.specs.AddsInner.{adds}
 use Rattle.sheets.specs.AddsLaws.{length-adds}
-use Rattle.sheets.specs.SharesInner.{gets, sourceIn, fspIn, getsOf}
+use Rattle.sheets.specs.SharesInner.{sourceIn, fspIn, injectionIn, getsAt, getsOf}
 use Rattle.sheets.specs.SharesLaws.{gets-length, gets-next, gets-fits}
 use Rattle.sheets.proofs.cells.add_rows.Statement.{statement}
 use Rattle.sheets.proofs.cells.add_rows.Tie as tie
 
 abbrev Inv-loop : tie.InvT-loop
-Inv-loop sums₀ at party point rows count k₀ sums k = (k ≤ count) × (sums ≡ adds sums₀ at (getsOf party point rows k))
+Inv-loop sums₀ at version party point rows count k₀ sums k = (k ≤ count) × (sums ≡ adds sums₀ at (getsOf version party point rows k))
 
 abbrev μ-loop : tie.MeasureT-loop
-μ-loop sums₀ at party point rows count k₀ sums k = count - k
+μ-loop sums₀ at version party point rows count k₀ sums k = count - k
 
 loop-holds : tie.Need-loop-holds Inv-loop μ-loop
 unfolding getsOf range
@@ -27,10 +27,10 @@ loop-holds c = (search needs, refl)
 -- the cells stay as many, and those of the rows are among them
 long : (c : tie.At-loop Inv-loop μ-loop) → length (c .loop .sums) ≡ length (c .before .args .sums .now)
 long c = let a = c .before .args .sums .now in
-    ap length (c .loop .inv .1) ∙ length-adds a (c .before .args .at) (getsOf (c .before .args .party) (c .before .args .point) (c .before .args .rows .now) (c .loop .k))
+    ap length (c .loop .inv .1) ∙ length-adds a (c .before .args .at) (getsOf (c .before .args .version) (c .before .args .party) (c .before .args .point) (c .before .args .rows .now) (c .loop .k))
 
 room : (c : tie.At-loop Inv-loop μ-loop) → c .before .args .at + c .before .args .count ≤ length (c .loop .sums)
-room c = let a = c .before .args in omega (arith, long c, c .before .pre .2 .room, gets-length (a .party) (a .point) (a .rows .now) (a .count))
+room c = let a = c .before .args in omega (arith, long c, c .before .pre .2 .room, gets-length (a .version) (a .party) (a .point) (a .rows .now) (a .count))
 
 mul-row : tie.Need-mul-row Inv-loop μ-loop
 mul-row c = search needs
@@ -53,35 +53,48 @@ mul-fsp c = search needs
 shared-slice-copy-out-fsp : tie.Need-shared-slice-copy-out-fsp Inv-loop μ-loop
 shared-slice-copy-out-fsp c = search needs
 
+add-injection : tie.Need-add-injection Inv-loop μ-loop
+add-injection c = search needs
+
+mul-injection : tie.Need-mul-injection Inv-loop μ-loop
+mul-injection c = search needs
+
+shared-slice-copy-out-injection : tie.Need-shared-slice-copy-out-injection Inv-loop μ-loop
+shared-slice-copy-out-injection c = search needs
+
 share-requires : tie.Need-share-requires Inv-loop μ-loop
 share-requires c κs =
-    let l = c .before .before .before in
+    let l = c .before .before .before .before in
     let rows = l .before .args .rows .now in
     let k = l .loop .k in
     let x : toZ w64 (ofZ w64 (sourceIn rows k)) ≡ sourceIn rows k = search needs in
     let y : toZ w64 (ofZ w64 (fspIn rows k)) ≡ fspIn rows k = search needs in
-    rw (x, y) (l .before .pre .1 .fit k (omega arith))
+    let z : toZ w64 (ofZ w64 (injectionIn rows k)) ≡ injectionIn rows k = search needs in
+    let small = l .before .pre .1 in
+    let h : k < l .before .args .count = omega arith in
+    rw (x, y, z) (small .source k h, small .fsp k h, small .injection k h)
 
 -- what the party gets of row k
-got : (c : tie.After-share Inv-loop μ-loop) → let l = c .before .before .before .before in
+got : (c : tie.After-share Inv-loop μ-loop) → let l = c .before .before .before .before .before in
     let a = l .before .args in
-    toZ w64 (ofZ w64 (c .share .result)) ≡ gets (a .party) (a .point) (sourceIn (a .rows .now) (l .loop .k)) (fspIn (a .rows .now) (l .loop .k))
+    toZ w64 (ofZ w64 (c .share .result)) ≡ getsAt (a .version) (a .party) (a .point) (a .rows .now) (l .loop .k)
 got c =
-    let l = c .before .before .before .before in
+    let l = c .before .before .before .before .before in
     let a = l .before .args in
     let x : toZ w64 (ofZ w64 (sourceIn (a .rows .now) (l .loop .k))) ≡ sourceIn (a .rows .now) (l .loop .k) = search needs in
     let y : toZ w64 (ofZ w64 (fspIn (a .rows .now) (l .loop .k))) ≡ fspIn (a .rows .now) (l .loop .k) = search needs in
-    let z : toZ w64 (ofZ w64 (c .share .result)) ≡ c .share .result = search needs in
-    z ∙ c .share .ensures ∙ rw (x, y)
+    let z : toZ w64 (ofZ w64 (injectionIn (a .rows .now) (l .loop .k))) ≡ injectionIn (a .rows .now) (l .loop .k) = search needs in
+    let w : toZ w64 (ofZ w64 (c .share .result)) ≡ c .share .result = search needs in
+    w ∙ c .share .ensures ∙ rw (x, y, z)
 
 add-add-at : tie.Need-add-add-at Inv-loop μ-loop
-add-add-at c = let l = c .before .before .before .before .before in omega (arith, room l, l .before .good)
+add-add-at c = let l = c .before .before .before .before .before .before in omega (arith, room l, l .before .good)
 
 add-at-requires : tie.Need-add-at-requires Inv-loop μ-loop
 add-at-requires c κs =
-    let l = c .before .before .before .before .before in
+    let l = c .before .before .before .before .before .before in
     let a = l .before .args in
-    let fits = gets-fits (a .party) (a .point) (a .rows .now) (a .sums .now) (a .at) (a .count) (l .loop .k) (l .before .pre .2) (omega arith) in
+    let fits = gets-fits (a .version) (a .party) (a .point) (a .rows .now) (a .sums .now) (a .at) (a .count) (l .loop .k) (l .before .pre .2) (omega arith) in
     (omega (arith, room l), rw (got (c .before), l .loop .inv .1) fits)
 
 add-k : tie.Need-add-k Inv-loop μ-loop
@@ -93,9 +106,9 @@ loop-less c = search needs
 loop-again : tie.Need-loop-again Inv-loop μ-loop
 loop-again c =
     let g = c .before .before .before in
-    let l = g .before .before .before .before in
+    let l = g .before .before .before .before .before in
     let a = l .before .args in
-    (search needs, c .before .add-at .ensures ∙ rw (got g, l .loop .inv .1) (gets-next (a .party) (a .point) (a .rows .now) (a .sums .now) (a .at) (l .loop .k)))
+    (search needs, c .before .add-at .ensures ∙ rw (got g, l .loop .inv .1) (gets-next (a .version) (a .party) (a .point) (a .rows .now) (a .sums .now) (a .at) (l .loop .k)))
 
 same-length : tie.Need-same-length Inv-loop μ-loop
 same-length c = long (c .before)
@@ -117,6 +130,9 @@ add-rows-spec =
     add-fsp
     mul-fsp
     shared-slice-copy-out-fsp
+    add-injection
+    mul-injection
+    shared-slice-copy-out-injection
     share-requires
     add-add-at
     add-at-requires
