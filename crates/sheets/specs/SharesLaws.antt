@@ -22,6 +22,7 @@ use Rattle.sheets.specs.AddsLaws.{adds-next, adds-behind}
 use Rattle.sheets.specs.SharesInner.{gets, getsAt, getsOf}
 use Rattle.integers.specs.RangesLaws.{length-range, getD-made}
 
+-- three summands and 0, regrouped
 thrice : (a b c : ℤ) → a +ℤ (b +ℤ (c +ℤ pos 0)) ≡ a +ℤ b +ℤ c
 thrice a b c = eqZ _ _ (omega (arith, sum c (pos 0) .law, sum b (c +ℤ pos 0) .law, sum a (b +ℤ (c +ℤ pos 0)) .law, sum a b .law, sum (a +ℤ b) c .law))
 

@@ -35,7 +35,6 @@ three : (d : Direction) (r v : ℤ) (s i : ℕ) → pos (s + i) ≡ v → signed
 unfolding signed
 three Up r v s i h =
     let rest = pos i +ℤ pos 0 in
-    let both = (r -ℤ v) +ℤ rest in
     rw (← h) (eqZ _ _ (omega (arith, dif r (pos (s + i)) .law, sum (pos i) (pos 0) .law, sum (r -ℤ pos (s + i)) rest .law, sum (pos s) ((r -ℤ pos (s + i)) +ℤ rest) .law)))
 three Down r v s i h =
     let rest = negℤ (pos i) +ℤ pos 0 in
