@@ -29,7 +29,6 @@ ROOTS = [
     ("reports/src/lib.rt", "such_calls_exist"),
     ("reports/src/lib.rt", "small_book_has_watts"),
     ("reports/src/lib.rt", "march_book_has_watts"),
-    ("reports/src/lib.rt", "requests_are_constant_lists"),
     ("reports/src/lib.rt", "pool_files_have_watts"),
     ("filing/src/lib.rt", "no_call_sends_back_three"),
     ("toe_c/src/lib.rt", "toe_settle"),
@@ -41,7 +40,7 @@ ROOTS = [
 
 CRATES = Path("crates")
 NAME = r"[^\s(){}\[\],;:.=λ]+"
-DECLARED = re.compile(rf"^\s*(?:(unfoldable|abbrev)\s+)?(pub\s+)?(record\s+|data\s+)?({NAME})\s*[:({{]")
+DECLARED = re.compile(rf"^\s*(?:(unfoldable|abbrev)\s+)?(pub\s+)?(record\s+)?({NAME})\s*[:({{]")
 
 
 def words(text):

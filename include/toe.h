@@ -7,7 +7,7 @@
  * overlap other lent memory; a buffer of length 0 needs an aligned pointer that is not null.
  *
  * An answer below TOE_REFUSED is a count (of toe_write: where fewer bytes than 2^63 are lent). Any other is a refusal:
- * TOE_NUMBER and TOE_ITEM are its number and its item, as docs/BOOK.md lists them under "What is sent back". A refusal changes no
+ * TOE_NUMBER and TOE_ITEM are its number and its item in document 01, "What is sent back". A refusal changes no
  * buffer; an acceptance changes only the places of its answer.
  */
 #ifndef TOE_H
@@ -45,19 +45,18 @@ extern "C" {
 #define TOE_DELIVERY_DOWN 1
 
 /* Settles a book: the number of rows. Each engagement quarter-hour gives five numbers, in grains: baseline,
- * delivered volume, source, FSP and injection correction, the last 0 in a book of version 1. Books of versions 1, 2 and 3
- * are taken, here and below. `rows_length` counts numbers.
- * Refusals 1, 2, 4 to 7, 14, 15, 8, 9, 10 item 0. */
+ * delivered volume, source, FSP and injection correction, the last 0 in a book of version 1. `rows_length` counts numbers.
+ * Refusals 1, 2, 4 to 9, 10 item 0. */
 uint64_t toe_settle(const uint8_t *book, size_t book_length, int64_t *rows, size_t rows_length);
 
 /* Fills a balance party's sheet, in grains: a number for each quarter-hour of the month; how many. `sums_length` counts numbers.
- * Refusals 1, 2, 4 to 7, 14, 15, 8, 9, 11, 10 item 0. */
+ * Refusals 1, 2, 4 to 9, 11, 10 item 0. */
 uint64_t toe_sheet(const uint8_t *book, size_t book_length, uint16_t party, int64_t *sums, size_t sums_length);
 
 /* Writes a receiver's file of a book, and fills the book's settlement rows: the number of bytes. Kind 1 to 3; the
  * receiver is an FSP for kind 1, else a supplier. `moment` is as 2021-08-02T09:00:00.000+02:00, `id` 1 to 36 letters, digits and
  * hyphens; neither needs a zero byte behind it. Lengths count numbers and bytes. It needs 1.0 MB of stack, the other calls under 10 KB.
- * Refusals 1, 2, 4 to 7, 14, 15, 8, 9, 12 for the kind, 11, 12 for ID or moment, 10 item 0 for the rows, 10 item 1 for the file. */
+ * Refusals 1, 2, 4 to 9, 12 for the kind, 11, 12 for ID or moment, 10 item 0 for the rows, 10 item 1 for the file. */
 uint64_t toe_file(const uint8_t *book, size_t book_length, uint8_t kind, uint64_t receiver, const uint8_t *id,
                   size_t id_length, const uint8_t *moment, size_t moment_length, int64_t *rows, size_t rows_length,
                   uint8_t *file, size_t file_length);

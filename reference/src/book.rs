@@ -1,10 +1,11 @@
-//! The month's book: its fields, its bytes, refusals 1 to 7, of which C-12 leaves no 3, and C-15's 14 and 15.
+//! The month's book: its fields, its bytes, and refusals 1 to 7, of which C-12 leaves no 3.
 //! The comments in quotation marks are sentences of document 01, or of document 02's request that they name.
 
 use crate::calendar::{book_days, day_length, month_length};
 use crate::refusal::{Refusal, refused};
 
 pub const MISSING: i32 = i32::MIN;
+pub const HEADER_LENGTH: usize = 56;
 const MOST_WATTS: i64 = 1_000_000_000;
 
 /// All fields of a book as they stand in its bytes; nothing here says that they are good.
@@ -17,16 +18,13 @@ pub struct Book {
     pub points: u16,
     pub engagement_count: u16,
     pub zeros: [u8; 6],
-    /// Five, or from version 3 on six.
-    pub pairs: Vec<(u32, u32)>,
+    pub pairs: [(u32, u32); 5],
     pub calendar: Vec<u8>,
     pub choices: Vec<Choice>,
     pub register: Vec<RegisterRow>,
     /// By point; each day's quarter-hours behind those of the day before.
     pub readings: Vec<Vec<i32>>,
     pub engagements: Vec<Engagement>,
-    /// C-15: "a section of u32 watts"; empty in versions 1 and 2.
-    pub volumes: Vec<u32>,
     /// How many quarter-hours each day of the calendar has, which year, month and lead days tell.
     pub day_lengths: Vec<usize>,
 }
@@ -73,10 +71,8 @@ pub struct Engagement {
     pub direction: u8,
     pub notice: u8,
     pub zero: u8,
-    /// Zero from version 3 on.
     pub requested: u32,
-    /// Its last four bytes: the place of its first volume from version 3 on, zero before.
-    pub place: u32,
+    pub zeros: u32,
 }
 
 impl Book {
@@ -93,13 +89,12 @@ impl Book {
             points,
             engagement_count: 0,
             zeros: [0; 6],
-            pairs: vec![(0, 0); 5],
+            pairs: [(0, 0); 5],
             calendar: vec![0; day_lengths.len()],
             choices: vec![Choice { x: 1, y: 1 }; 4],
             register: (0..points).map(row).collect(),
             readings: vec![vec![0; day_lengths.iter().sum()]; points as usize],
             engagements: Vec::new(),
-            volumes: Vec::new(),
             day_lengths,
         };
         book.lay_out();
@@ -109,21 +104,6 @@ impl Book {
     /// C-14: "Version 2 of the book puts the injection party in bytes 56 and 57 of the register row."
     pub fn has_injection_parties(&self) -> bool {
         self.version >= 2
-    }
-
-    /// C-15: "Version 3 is version 2 with a sixth pair, which names a section of u32 watts."
-    pub fn has_volumes(&self) -> bool {
-        self.version >= 3
-    }
-
-    /// The watts requested in one of an engagement's quarter-hours. C-15: "The engagement's last four bytes give the place,
-    /// counted in volumes from 0, of its first volume"; "Versions 1 and 2 behave as a constant list."
-    pub fn requested(&self, engagement: &Engagement, quarter: usize) -> u32 {
-        let volumes = match self.has_volumes() {
-            true => &self.volumes[engagement.place as usize..],
-            false => &vec![engagement.requested; engagement.count as usize],
-        };
-        volumes[quarter - engagement.first as usize]
     }
 
     /// N, the days of the calendar.
@@ -171,7 +151,7 @@ impl Book {
         }
     }
 
-    /// Sets the counts and the pairs of the header, as many as there are, from the lists that the book has.
+    /// Sets the counts and the pairs of the header from the lists that the book has.
     pub fn lay_out(&mut self) {
         self.points = self.register.len() as u16;
         self.engagement_count = self.engagements.len() as u16;
@@ -182,9 +162,8 @@ impl Book {
             64 * self.register.len(),
             4 * readings,
             16 * self.engagements.len(),
-            4 * self.volumes.len(),
         ];
-        let mut offset = header_length(self.pairs.len());
+        let mut offset = HEADER_LENGTH;
         for (pair, length) in self.pairs.iter_mut().zip(lengths) {
             *pair = (offset as u32, length as u32);
             offset += length;
@@ -209,11 +188,11 @@ impl Book {
         bytes.extend(self.points.to_le_bytes());
         bytes.extend(self.engagement_count.to_le_bytes());
         bytes.extend(self.zeros);
-        for (offset, length) in &self.pairs {
+        for (offset, length) in self.pairs {
             bytes.extend(offset.to_le_bytes());
             bytes.extend(length.to_le_bytes());
         }
-        assert_eq!(bytes.len(), header_length(self.pairs.len()));
+        assert_eq!(bytes.len(), HEADER_LENGTH);
         bytes.extend(&self.calendar);
         for choice in &self.choices {
             bytes.push(choice.x);
@@ -229,9 +208,6 @@ impl Book {
         }
         for engagement in &self.engagements {
             bytes.extend(engagement.encode());
-        }
-        for watts in &self.volumes {
-            bytes.extend(watts.to_le_bytes());
         }
         bytes
     }
@@ -290,7 +266,7 @@ impl Engagement {
         bytes.extend(self.point.to_le_bytes());
         bytes.extend([self.day, self.first, self.count, self.direction, self.notice, self.zero]);
         bytes.extend(self.requested.to_le_bytes());
-        bytes.extend(self.place.to_le_bytes());
+        bytes.extend(self.zeros.to_le_bytes());
         assert_eq!(bytes.len(), 16);
         bytes
     }
@@ -305,7 +281,7 @@ impl Engagement {
             notice: bytes[6],
             zero: bytes[7],
             requested: u32_at(bytes, 8),
-            place: u32_at(bytes, 12),
+            zeros: u32_at(bytes, 12),
         }
     }
 }
@@ -322,12 +298,7 @@ fn u64_at(bytes: &[u8], place: usize) -> u64 {
     u64::from_le_bytes(bytes[place..place + 8].try_into().unwrap())
 }
 
-/// Where the first section starts. C-15: in version 3, which has six pairs, "sections start at 64".
-fn header_length(pairs: usize) -> usize {
-    16 + 8 * pairs
-}
-
-/// The book of these bytes, or the first of refusals 1 to 7, 14 and 15.
+/// The book of these bytes, or the first of refusals 1 to 7.
 pub fn decode(bytes: &[u8]) -> Result<Book, Refusal> {
     let mut book = judge_header(bytes)?;
     judge_layout(bytes, &book)?;
@@ -336,45 +307,37 @@ pub fn decode(bytes: &[u8]) -> Result<Book, Refusal> {
     judge_register(&book)?;
     judge_readings(&book)?;
     judge_engagements(&book)?;
-    judge_places(&book)?;
-    judge_volumes(&book)?;
     Ok(book)
 }
 
-/// The refusal of 1 to 7, 14 and 15, as number and item, or none.
+/// The refusal of 1 to 7, as number and item, or none.
 pub fn judge(bytes: &[u8]) -> Option<(u8, u32)> {
     decode(bytes).err().map(|refusal| (refusal.number, refusal.item))
 }
 
-/// 1: "under 56 bytes, header out of range"; C-14: "Refusal 1 accepts versions 1 and 2"; C-15: "Refusal 1 covers a version 3
-/// book under 64 bytes." Gives the header's fields and the days' lengths, the sections still empty.
+/// 1: "under 56 bytes, header out of range"; C-14: "Refusal 1 accepts versions 1 and 2." Gives the header's fields and
+/// the days' lengths, the sections still empty.
 fn judge_header(bytes: &[u8]) -> Result<Book, Refusal> {
-    if bytes.len() < header_length(5) {
-        return refused(1, 0);
-    }
-    let version = u16_at(bytes, 0);
-    let pairs = if version == 3 { 6 } else { 5 };
-    if bytes.len() < header_length(pairs) {
+    if bytes.len() < HEADER_LENGTH {
         return refused(1, 0);
     }
     let mut book = Book {
-        version,
+        version: u16_at(bytes, 0),
         year: u16_at(bytes, 2),
         month: bytes[4],
         lead_days: bytes[5],
         points: u16_at(bytes, 6),
         engagement_count: u16_at(bytes, 8),
         zeros: bytes[10..16].try_into().unwrap(),
-        pairs: (0..pairs).map(|i| (u32_at(bytes, 16 + 8 * i), u32_at(bytes, 20 + 8 * i))).collect(),
+        pairs: std::array::from_fn(|i| (u32_at(bytes, 16 + 8 * i), u32_at(bytes, 20 + 8 * i))),
         calendar: Vec::new(),
         choices: Vec::new(),
         register: Vec::new(),
         readings: Vec::new(),
         engagements: Vec::new(),
-        volumes: Vec::new(),
         day_lengths: Vec::new(),
     };
-    let good = (1..=3).contains(&book.version)
+    let good = (1..=2).contains(&book.version)
         && (2018..=2099).contains(&book.year)
         && (1..=12).contains(&book.month)
         && (1..=33).contains(&book.lead_days)
@@ -388,25 +351,16 @@ fn judge_header(bytes: &[u8]) -> Result<Book, Refusal> {
     Ok(book)
 }
 
-/// The lengths of the sections. C-12: 92 or 100 readings "in the book's fourth section too". That of the volumes is the
-/// sixth pair's own.
-fn section_lengths(book: &Book) -> Vec<usize> {
+/// The lengths of the five sections. C-12: 92 or 100 readings "in the book's fourth section too".
+fn section_lengths(book: &Book) -> [usize; 5] {
     let points = book.points as usize;
-    let mut lengths =
-        vec![book.days(), 8, 64 * points, 4 * book.quarters() * points, 16 * book.engagement_count as usize];
-    if book.has_volumes() {
-        lengths.push(book.pairs[5].1 as usize);
-    }
-    lengths
+    [book.days(), 8, 64 * points, 4 * book.quarters() * points, 16 * book.engagement_count as usize]
 }
 
 /// 2: "a pair or the book's length is wrong". "The first section starts at 56, each next where the
-/// last ended, the last ends with the book." C-15: also "a section length that isn't a multiple of 4".
+/// last ended, the last ends with the book."
 fn judge_layout(bytes: &[u8], book: &Book) -> Result<(), Refusal> {
-    if book.has_volumes() && book.pairs[5].1 % 4 != 0 {
-        return refused(2, 0);
-    }
-    let mut offset = header_length(book.pairs.len());
+    let mut offset = HEADER_LENGTH;
     for (pair, length) in book.pairs.iter().zip(section_lengths(book)) {
         if pair.0 as usize != offset || pair.1 as usize != length {
             return refused(2, 0);
@@ -428,16 +382,11 @@ fn read_sections(bytes: &[u8], book: &mut Book) {
     let watts = |four: &[u8]| i32::from_le_bytes(four.try_into().unwrap());
     let readings = section(3).chunks(point_bytes).map(|point| point.chunks(4).map(watts).collect()).collect();
     let engagements = section(4).chunks(16).map(Engagement::decode).collect();
-    let volumes = match book.has_volumes() {
-        true => section(5).chunks(4).map(|four| u32_at(four, 0)).collect(),
-        false => Vec::new(),
-    };
     book.calendar = calendar;
     book.choices = choices;
     book.register = register;
     book.readings = readings;
     book.engagements = engagements;
-    book.volumes = volumes;
 }
 
 /// 4: "each day's category, 0 to 3"; "X 1 to 10, Y from X to 20".
@@ -517,16 +466,8 @@ fn good_engagement(row: &Engagement, book: &Book) -> bool {
         && row.direction <= 1
         && row.notice <= 96
         && row.zero == 0
-        && good_request(row, book)
-}
-
-/// "requested watts u32 (1 to 10^9), zero u32"; C-15: from version 3 on the last four bytes are a place and the "former
-/// requested field must be zero".
-fn good_request(row: &Engagement, book: &Book) -> bool {
-    match book.has_volumes() {
-        true => row.requested == 0,
-        false => (1..=MOST_WATTS).contains(&(row.requested as i64)) && row.place == 0,
-    }
+        && (1..=MOST_WATTS).contains(&(row.requested as i64))
+        && row.zeros == 0
 }
 
 /// "Rows rise by point, day, first; rows of one point and day don't overlap."
@@ -535,19 +476,4 @@ fn may_follow(last: &Engagement, row: &Engagement) -> bool {
     let same_day = (last.point, last.day) == (row.point, row.day);
     let overlaps = same_day && (row.first as usize) < last.first as usize + last.count as usize;
     rises && !overlaps
-}
-
-/// 14: "the row of the first engagement whose place plus count passes the section's end".
-fn judge_places(book: &Book) -> Result<(), Refusal> {
-    let passes = |row: &Engagement| row.place as usize + row.count as usize > book.volumes.len();
-    match book.engagements.iter().position(|row| book.has_volumes() && passes(row)) {
-        Some(index) => refused(14, index),
-        None => Ok(()),
-    }
-}
-
-/// 15: "a volume is out of range": "u32 watts, each 0 to 10^9", all of the section.
-fn judge_volumes(book: &Book) -> Result<(), Refusal> {
-    let good = |watts: &u32| *watts as i64 <= MOST_WATTS;
-    if book.volumes.iter().all(good) { Ok(()) } else { refused(15, 0) }
 }

@@ -1,4 +1,4 @@
-//! Books at both sides of each edge of refusals 1 to 7, in the order of document 01, and random ones; of 14 and 15 see volume_cases.rs.
+//! Books at both sides of each edge of refusals 1 to 7, in the order of document 01, and random ones.
 
 use crate::book::{Book, Choice, Engagement, MISSING, RegisterRow, judge};
 use crate::calendar::{MONTHS, last_sunday};
@@ -30,7 +30,6 @@ pub fn cases() -> Vec<Case> {
     cases.clock_change_engagements();
     cases.0.extend(random_cases(10, 40, &MONTHS));
     cases.versions();
-    cases.version_3();
     cases.0
 }
 
@@ -95,7 +94,7 @@ impl Cases {
     }
 
     /// The book with a change and the layout made anew.
-    pub fn laid_out(&mut self, what: impl Into<String>, book: &Book, change: impl FnOnce(&mut Book)) {
+    fn laid_out(&mut self, what: impl Into<String>, book: &Book, change: impl FnOnce(&mut Book)) {
         let mut book = book.clone();
         change(&mut book);
         book.lay_out();
@@ -197,7 +196,7 @@ impl Cases {
         }
         self.changed("sections 1 and 2 swapped", &base, |book| book.pairs.swap(0, 1));
         self.changed("sections from 57 on", &base, |book| book.pairs.iter_mut().for_each(|pair| pair.0 += 1));
-        self.changed("all pairs zero", &base, |book| book.pairs = vec![(0, 0); 5]);
+        self.changed("all pairs zero", &base, |book| book.pairs = [(0, 0); 5]);
         self.book("the good book that these come from", &base);
 
         let good = base.encode();
@@ -577,9 +576,9 @@ impl Cases {
             self.engagement(format!("requested {requested}"), |row| row.requested = requested);
         }
         for shift in [0, 8, 16, 24] {
-            self.engagement(format!("the zero u32 is {}", 1u32 << shift), |row| row.place = 1 << shift);
+            self.engagement(format!("the zero u32 is {}", 1u32 << shift), |row| row.zeros = 1 << shift);
         }
-        self.engagement("the zero u32 is all ones", |row| row.place = u32::MAX);
+        self.engagement("the zero u32 is all ones", |row| row.zeros = u32::MAX);
     }
 
     fn engagement_order(&mut self) {
@@ -877,7 +876,7 @@ pub fn random_book(random: &mut Random, months: &[u8]) -> Book {
                 notice: random.range(0, 96) as u8,
                 zero: 0,
                 requested: random.range(1, 255) as u32,
-                place: 0,
+                zeros: 0,
             });
             day += random.range(1, 9);
         }

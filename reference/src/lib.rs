@@ -17,4 +17,3 @@ pub mod settle;
 pub mod settle_cases;
 pub mod sheet;
 pub mod split_cases;
-pub mod volume_cases;

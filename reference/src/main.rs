@@ -72,7 +72,7 @@ fn index() -> String {
     let files = report_cases::file_cases().into_iter().map(|case| case.what);
     let programs = report_cases::program_cases().into_iter().map(|case| case.what);
     let sections = [
-        case_text::index("book-cases: refusals 1 to 7, 14 and 15", books),
+        case_text::index("book-cases: refusals 1 to 7", books),
         case_text::index("settle-cases: the settling call", settlings),
         case_text::index("write-cases: writing from rows", writings),
         case_text::index("read-cases: the reader", readings),

@@ -1,4 +1,4 @@
-//! A refusal: a number of document 01's table "What is sent back", or C-15's 14 or 15, and its item.
+//! A refusal: a number of document 01's table "What is sent back" and its item.
 
 #[derive(Clone, Copy, Debug, PartialEq, Eq)]
 pub struct Refusal {

@@ -12,7 +12,6 @@ use crate::settle::ROW_WIDTH;
 use crate::settle_cases::{random_book, random_plain_book, rows_text};
 use crate::sheet::sheet;
 use crate::split_cases;
-use crate::volume_cases;
 
 const FILE_LONG_ENOUGH: usize = 65_536;
 const ROWS_LONG_ENOUGH: usize = 8_192;
@@ -220,7 +219,7 @@ pub fn sheet_cases() -> Vec<SheetCase> {
     let mut bad = case_f();
     bad.pairs[4].0 += 1;
     add("2 before 11", 99, 0, &bad);
-    let bad = changed(&case_f(), &|book| book.version = 4);
+    let bad = changed(&case_f(), &|book| book.version = 3);
     add("1 before 11", 99, 0, &bad);
     add("October passes", 0, 3000, &Book::plain(2021, 10, 1, 1));
     for party in [1, 2] {
@@ -263,7 +262,6 @@ pub fn sheet_cases() -> Vec<SheetCase> {
         add("random book of any month", party, book.month_quarters(), &book);
     }
     cases.extend(split_cases::sheet_cases());
-    cases.extend(volume_cases::sheet_cases());
     cases
 }
 
@@ -432,7 +430,6 @@ pub fn file_cases() -> Vec<FileCase> {
     }
     clock_change_files(&mut cases);
     split_cases::file_cases(&mut cases);
-    volume_cases::file_cases(&mut cases);
     cases.0
 }
 
@@ -601,7 +598,6 @@ pub fn program_cases() -> Vec<ProgramCase> {
         add(format!("{}, 96 readings a day", change.name()), LINE.as_bytes(), &book.encode());
     }
     split_cases::program_cases(&mut add);
-    volume_cases::program_cases(&mut add);
     cases
 }
 

@@ -83,7 +83,7 @@ pub struct Filed {
     pub file: Vec<u8>,
 }
 
-/// The file call. Its refusals in order: 1 to 7, 14, 15, 8 and 9, 12 for the kind, 11, 12 for ID or moment, 10 with item 0,
+/// The file call. Its refusals in order: 1 to 9, 12 for the kind, 11, 12 for ID or moment, 10 with item 0,
 /// 10 with item 1. "File calls take the book and fill the rows too."
 pub fn file_call(
     bytes: &[u8],

@@ -44,7 +44,7 @@ pub fn rows(quarters: &[Quarter]) -> Vec<i64> {
     quarters.iter().flat_map(row).map(|grains| i64::try_from(grains).unwrap()).collect()
 }
 
-/// All engagement quarter-hours of a book that `decode` gives; "by engagement, 8 before 9".
+/// All engagement quarter-hours of a book that passed 1 to 7; "by engagement, 8 before 9".
 pub fn settle_book(book: &Book) -> Result<Vec<Quarter>, Refusal> {
     let mut quarters = Vec::new();
     for (index, engagement) in book.engagements.iter().enumerate() {
@@ -227,8 +227,7 @@ fn off_take_volume(baseline: i128, reading: i128, downward: bool, delivered: i12
 /// "Upward: baseline less reading; downward: reading less baseline; limited to 0 below and the register's
 /// largest watts above. The source party's correction is the delivered volume, the FSP party's is requested
 /// less delivered, both negated downward." From version 2 on the source party is the off-take party, and "the injection
-/// party gets the rest. Down negates both"; "a version 1 row keeps its four numbers, and its fifth is 0". C-15: "Every
-/// correction [...] uses its quarter-hour's volume."
+/// party gets the rest. Down negates both"; "a version 1 row keeps its four numbers, and its fifth is 0".
 fn settle_quarter(book: &Book, engagement: &Engagement, quarter: usize, baseline: i128) -> Quarter {
     let point = engagement.point as usize;
     let day = engagement.day as usize;
@@ -238,7 +237,7 @@ fn settle_quarter(book: &Book, engagement: &Engagement, quarter: usize, baseline
     let (volume, largest) =
         if downward { (reading - baseline, row.largest_down) } else { (baseline - reading, row.largest_up) };
     let delivered = volume.max(0).min(largest as i128 * GRAINS_PER_WATT);
-    let requested = book.requested(engagement, quarter) as i128 * GRAINS_PER_WATT;
+    let requested = engagement.requested as i128 * GRAINS_PER_WATT;
     let source = match book.has_injection_parties() {
         true => off_take_volume(baseline, reading, downward, delivered),
         false => delivered,

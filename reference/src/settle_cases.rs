@@ -36,7 +36,6 @@ pub fn cases() -> Vec<SettleCase> {
     cases.clock_changes();
     cases.0.extend(random_cases(11, 14, random_book));
     cases.splits();
-    cases.volumes_by_quarter_hour();
     cases.0
 }
 
@@ -112,7 +111,7 @@ impl Cases {
     /// Settling refuses what 1 to 7 refuse, whatever is lent.
     fn refused_books(&mut self) {
         let base = case_f();
-        self.changed("1: version 4", &base, |book| book.version = 4);
+        self.changed("1: version 3", &base, |book| book.version = 3);
         self.changed("5: method 3", &base, |book| book.register[0].method = 3);
         self.changed("6: a reading of 2^31 - 1", &base, |book| book.readings[0][100] = i32::MAX);
         self.changed("7: nothing requested", &base, |book| book.engagements[0].requested = 0);

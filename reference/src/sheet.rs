@@ -4,7 +4,7 @@ use crate::book::{Book, RegisterRow, decode};
 use crate::refusal::{Refusal, refused};
 use crate::settle::{Quarter, settle_book};
 
-/// The sheet call: a number for each quarter-hour of the month, or 1 to 9, 14 and 15 behind 7, 11, 10 with item 0.
+/// The sheet call: a number for each quarter-hour of the month, or 1 to 9, 11, 10 with item 0.
 pub fn sheet(bytes: &[u8], party: u16, sheet_length: usize) -> Result<Vec<i64>, Refusal> {
     let book = decode(bytes)?;
     let quarters = settle_book(&book)?;
@@ -58,7 +58,7 @@ pub fn position(book: &Book, quarter: &Quarter) -> usize {
 }
 
 /// "The requested volume of a quarter-hour sums the requested watts, in grains, of the engagements that
-/// cover it, up less down." C-15: "the requested volume of demand 3, uses its quarter-hour's volume".
+/// cover it, up less down."
 pub fn requested_volume(book: &Book, quarters: &[Quarter]) -> Vec<i128> {
     let mut volume = vec![0; book.month_quarters()];
     for quarter in quarters {

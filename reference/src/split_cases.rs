@@ -13,7 +13,7 @@ use crate::sheet::parties;
 const BILLION: i32 = 1_000_000_000;
 
 /// The book as one of this version; of version 1 it has no injection parties.
-pub fn of_version(version: u16, book: &Book) -> Book {
+fn of_version(version: u16, book: &Book) -> Book {
     let mut book = book.clone();
     book.version = version;
     if version == 1 {
@@ -25,7 +25,7 @@ pub fn of_version(version: u16, book: &Book) -> Book {
 }
 
 /// The book with one byte of a register row changed.
-pub fn with_row_byte(book: &Book, row: usize, byte: usize, value: u8) -> Book {
+fn with_row_byte(book: &Book, row: usize, byte: usize, value: u8) -> Book {
     let mut book = book.clone();
     book.register[row] = with_byte(&book.register[row], byte, value);
     book
@@ -44,14 +44,14 @@ pub fn random_split_book(random: &mut Random) -> Book {
 }
 
 /// The same of a month that has no clock change in its calendar.
-pub fn random_plain_split_book(random: &mut Random) -> Book {
+fn random_plain_split_book(random: &mut Random) -> Book {
     let mut book = random_plain_book(random);
     split(random, &mut book);
     book
 }
 
 /// Makes a book one of version 2 and lowers what it has of small readings; some parties stand in other columns too.
-pub fn split(random: &mut Random, book: &mut Book) {
+fn split(random: &mut Random, book: &mut Book) {
     book.version = 2;
     for (row, readings) in book.register.iter_mut().zip(&mut book.readings) {
         row.injection_party = random.pick(&[0, 1, 2, 3, 4, 258, 513]);
@@ -89,8 +89,8 @@ impl book_cases::Cases {
                 }
             });
         }
-        self.changed("version 4, bad in every way from 2 on", &base, |book| {
-            book.version = 4;
+        self.changed("version 3, bad in every way from 2 on", &base, |book| {
+            book.version = 3;
             for (_, change) in &spoils()[1..] {
                 change(book);
             }
@@ -182,7 +182,7 @@ impl book_cases::Cases {
 }
 
 /// Every pair of these as baseline and reading, upward on day 1 and downward on day 2, limited to so many watts.
-pub fn all_signs(limit: u32) -> Book {
+fn all_signs(limit: u32) -> Book {
     let signs = [-9, -3, 0, 3, 9];
     let pairs = || signs.into_iter().flat_map(|baseline| signs.map(|reading| (baseline, reading)));
     let (baselines, readings): (Vec<i32>, Vec<i32>) = pairs().unzip();
@@ -197,7 +197,7 @@ pub fn all_signs(limit: u32) -> Book {
 }
 
 /// Two points of other limits, methods and parties, with engagements up and down on several days.
-pub fn two_points() -> Book {
+fn two_points() -> Book {
     let mut book = june(1, 2, 1, 1);
     for (point, (up, down, method)) in [(10, 7, 1), (4, 1000, 0)].into_iter().enumerate() {
         let row = &mut book.register[point];
@@ -363,7 +363,7 @@ impl settle_cases::Cases {
 
     fn refused_versions(&mut self) {
         let base = one_quarter_hour(2, 0, 9, -3, 10, 20);
-        for version in [0, 4, 258, 512] {
+        for version in [0, 3, 258, 512] {
             self.changed(format!("1: version {version}"), &base, |book| book.version = version);
         }
         for (version, byte) in [1, 2].into_iter().flat_map(|version| [55, 56, 57, 58, 63].map(|byte| (version, byte))) {
@@ -392,7 +392,7 @@ impl settle_cases::Cases {
 }
 
 /// One quarter-hour up with off-take 9, FSP 20 and injection 1, of these parties.
-pub fn one_row(source: u16, fsp: u16, injection: u16) -> Book {
+fn one_row(source: u16, fsp: u16, injection: u16) -> Book {
     let mut book = one_quarter_hour(2, 0, 9, -3, 10, 30);
     let row = &mut book.register[0];
     (row.source_party, row.fsp_party, row.injection_party) = (source, fsp, injection);
@@ -400,7 +400,7 @@ pub fn one_row(source: u16, fsp: u16, injection: u16) -> Book {
 }
 
 /// The same with another point of these parties, which in that quarter-hour and the next has off-take -3, FSP -30 and injection -7.
-pub fn two_rows(first: [u16; 3], second: [u16; 3]) -> Book {
+fn two_rows(first: [u16; 3], second: [u16; 3]) -> Book {
     let mut book = june(1, 2, 1, 1);
     book.version = 2;
     for (row, parties) in book.register.iter_mut().zip([first, second]) {
@@ -417,7 +417,7 @@ pub fn two_rows(first: [u16; 3], second: [u16; 3]) -> Book {
 }
 
 /// As many numbers as June has.
-pub const JUNE: usize = 2880;
+const JUNE: usize = 2880;
 
 pub fn sheet_cases() -> Vec<SheetCase> {
     let mut cases = Vec::new();
@@ -517,9 +517,9 @@ fn sheets_of_version_2(add: &mut impl FnMut(String, u16, usize, &Book)) {
     let f = case_f_2();
     add("version 2, byte 58: 5 before 11".into(), 99, 0, &with_row_byte(&f, 0, 58, 1));
     add("version 1, 9 in byte 56, party 9: 5".into(), 9, JUNE, &with_row_byte(&case_f(), 0, 56, 9));
-    add("version 4, party 9".into(), 9, JUNE, &{
+    add("version 3, party 9".into(), 9, JUNE, &{
         let mut book = with_row_byte(&f, 0, 56, 9);
-        book.version = 4;
+        book.version = 3;
         book
     });
     let mut missing = f.clone();
@@ -536,7 +536,7 @@ fn sheets_of_version_2(add: &mut impl FnMut(String, u16, usize, &Book)) {
 }
 
 /// A transfer point and a pass-through point of one access point, both with off-take and injection to share.
-pub fn two_situations() -> Book {
+fn two_situations() -> Book {
     let mut book = two_rows([1, 2, 3], [1, 2, 4]);
     book.register[1].access_ean = book.register[0].access_ean;
     book.register[1].situation = 1;
@@ -544,12 +544,12 @@ pub fn two_situations() -> Book {
 }
 
 /// A kind and a receiver in its role.
-pub fn random_role(random: &mut Random, book: &Book) -> (u8, u64) {
+fn random_role(random: &mut Random, book: &Book) -> (u8, u64) {
     let (kind, row) = (random.range(1, 3) as u8, random.pick(&book.register));
     (kind, if kind == 1 { row.fsp } else { row.supplier })
 }
 
-pub const KINDS: [(u8, u64); 3] = [(1, 7), (2, 3), (3, 3)];
+const KINDS: [(u8, u64); 3] = [(1, 7), (2, 3), (3, 3)];
 
 /// Files are the same in both versions; the rows that their calls fill too have the split.
 pub fn file_cases(cases: &mut FileCases) {
@@ -596,9 +596,9 @@ pub fn file_cases(cases: &mut FileCases) {
             cases.add(&format!("version {version}, byte {byte} of the row is 1"), 1, 7, &book);
         }
     }
-    let mut fourth = case_f();
-    fourth.version = 4;
-    cases.add("version 4", 1, 7, &fourth);
+    let mut third = case_f();
+    third.version = 3;
+    cases.add("version 3", 1, 7, &third);
     let mut random = Random::new(20);
     for number in 1..=6 {
         let book = random_plain_split_book(&mut random);
@@ -615,9 +615,9 @@ pub fn program_cases(add: &mut impl FnMut(String, &[u8], &[u8])) {
         let what = format!("version 2, two points, kind {kind}");
         add(what, line(kind, receiver).as_bytes(), &two_situations().encode());
     }
-    let mut fourth = case_f();
-    fourth.version = 4;
-    add("version 4".into(), LINE.as_bytes(), &fourth.encode());
+    let mut third = case_f();
+    third.version = 3;
+    add("version 3".into(), LINE.as_bytes(), &third.encode());
     for (version, byte) in [(1, 56), (1, 57), (2, 55), (2, 56), (2, 57), (2, 58), (2, 63)] {
         let book = with_row_byte(&of_version(version, &case_f()), 0, byte, 1);
         add(format!("version {version}, byte {byte} of the row is 1"), LINE.as_bytes(), &book.encode());

@@ -10,7 +10,6 @@ use reference::series::file_call;
 use reference::settle::settle;
 use reference::settle_cases::random_book;
 use reference::sheet::sheet;
-use reference::volume_cases::twin;
 use std::collections::BTreeSet;
 
 const LARGEST_BOOK: usize = 6_320_256;
@@ -64,10 +63,9 @@ fn largest_files() {
 
 #[test]
 fn largest_rows_and_sheet() {
-    let mut second = largest(1);
-    second.version = 2;
-    let third = twin(&second);
-    for book in [largest(1), second, third] {
+    for version in [1, 2] {
+        let mut book = largest(1);
+        book.version = version;
         let bytes = book.encode();
         assert_eq!(settle(&bytes, LARGEST_ROWS).unwrap().len(), LARGEST_ROWS);
         assert_eq!(sheet(&bytes, 0, LARGEST_SHEET).unwrap().len(), LARGEST_SHEET);

@@ -3,16 +3,15 @@ use Rattle.std.specs.Prelude.{List, map, ℕ}
 use Rattle.integers.specs.Ranges.{range}
 use Rattle.wire.specs.declared.Reading.{Reading}
 use Rattle.quarters.specs.declared.Calendar.{Calendar}
-use Rattle.book.specs.Header.{version_of, calendar_of, point_count, engagement_count, calendar_section, table_section, register_section, reading_section, engagement_section, volume_section}
+use Rattle.book.specs.Header.{version_of, calendar_of, point_count, engagement_count, calendar_section, table_section, register_section, reading_section, engagement_section}
 use Rattle.book.specs.Tables.{category_at, x_at, y_at}
 use Rattle.book.specs.Register.{point_at}
 use Rattle.book.specs.Metering.{meter_at}
 use Rattle.book.specs.Engagements.{engagement_at}
-use Rattle.book.specs.Volumes.{volumes_in}
 use Rattle.book.specs.declared.Point.{Point}
 use Rattle.book.specs.declared.Engagement.{Engagement}
 
--- which version it is of; categories by day, X and Y by category, readings by point and quarter-hour of the calendar; volumes in watts, by place
+-- which version it is of; categories by day, X and Y by category, readings by point and quarter-hour of the calendar
 pub record Book : Type 0 where
   pub version : ℕ
   pub calendar : Calendar
@@ -22,7 +21,6 @@ pub record Book : Type 0 where
   pub points : List Point
   pub reading : ℕ → ℕ → Reading
   pub engagements : List Engagement
-  pub volumes : List ℕ
 
 -- what the bytes say
 unfoldable pub book_of : List ℕ → Book
@@ -36,5 +34,4 @@ book_of bytes =
       points = map (point_at (register_section bytes)) (range 0 (point_count bytes));
       reading = meter_at (calendar_of bytes) (reading_section bytes);
       engagements = map (engagement_at (engagement_section bytes)) (range 0 (engagement_count bytes));
-      volumes = volumes_in (volume_section (version_of bytes) bytes);
     }

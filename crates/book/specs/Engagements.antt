@@ -1,9 +1,9 @@
 -- Document 01, "The book", section 5: the engagements.
-use Rattle.std.specs.Prelude.{Bool, false, cond, not, ◌&&◌, ◌||◌, List, ℕ, zero, suc, ◌+◌, ◌^◌, eqb, leb, ltb}
+use Rattle.std.specs.Prelude.{Bool, false, not, ◌&&◌, ◌||◌, List, ℕ, zero, suc, ◌+◌, ◌^◌, eqb, leb, ltb}
 use Rattle.wire.specs.Numbers.{number_at}
 use Rattle.quarters.specs.declared.Calendar.{Calendar}
 use Rattle.quarters.specs.Quarters.{days_of, quarters}
-use Rattle.book.specs.Header.{between, lists_volumes, engagement_width, row_at}
+use Rattle.book.specs.Header.{between, engagement_width, row_at}
 use Rattle.book.specs.declared.Direction.{Direction}
 use Rattle.book.specs.declared.Direction.TheVariants.{Up, Down}
 use Rattle.book.specs.declared.Engagement.{Engagement}
@@ -36,10 +36,6 @@ notice_in row = number_at row 6 1
 abbrev pub requested_in : List ℕ → ℕ
 requested_in row = number_at row 8 4
 
--- 02, C-15: "The engagement's last four bytes give the place, counted in volumes from 0, of its first volume"
-abbrev pub place_in : List ℕ → ℕ
-place_in row = number_at row 12 4
-
 -- the engagement that a row describes
 abbrev pub engagement_of : List ℕ → Engagement
 engagement_of row =
@@ -51,7 +47,6 @@ engagement_of row =
       direction = direction_of (direction_in row);
       notice = notice_in row;
       requested = requested_in row;
-      place = place_in row;
     }
 
 abbrev pub engagement_row : List ℕ → ℕ → List ℕ
@@ -62,28 +57,21 @@ engagement_at engagements i = engagement_of (engagement_row engagements i)
 
 -- "point index u16 (below P)", "Days are settled days.", "count (1 or more ..)"; by the day's number of quarter-hours "first is below that number, and first + count
 -- at most it"
-unfoldable pub quarters_good : Calendar → ℕ → List ℕ → Bool
-quarters_good c points row =
+unfoldable pub place_good : Calendar → ℕ → List ℕ → Bool
+place_good c points row =
     ltb (point_in row) points
     && (leb c.lead (day_in row)
     && (ltb (day_in row) (days_of c)
     && (ltb (first_in row) (quarters c (day_in row))
     && (leb 1 (count_in row) && leb (first_in row + count_in row) (quarters c (day_in row))))))
 
--- "requested watts u32 (1 to 10^9), zero u32"; 02, C-15: in version 3 the last four bytes are a place, and "its former requested field must be zero"
-unfoldable pub request_good : ℕ → List ℕ → Bool
-request_good version row =
-    cond (lists_volumes version)
-    (eqb (requested_in row) 0)
-    (between 1 (10 ^ 9) (requested_in row) && eqb (place_in row) 0)
-
--- "direction (0 up, 1 down), notice (0 to 96), zero (each u8)", and the request
-unfoldable pub terms_good : ℕ → List ℕ → Bool
-terms_good version row =
+-- "direction (0 up, 1 down), notice (0 to 96), zero (each u8), requested watts u32 (1 to 10^9), zero u32"
+unfoldable pub terms_good : List ℕ → Bool
+terms_good row =
     leb (direction_in row) 1
     && (leb (notice_in row) 96
     && (eqb (number_at row 7 1) 0
-    && request_good version row))
+    && (between 1 (10 ^ 9) (requested_in row) && eqb (number_at row 12 4) 0)))
 
 -- "Rows rise by point, day, first": b is above a
 abbrev pub rises : List ℕ → List ℕ → Bool
@@ -103,6 +91,6 @@ out_of_order engagements (suc i) =
     not (rises (engagement_row engagements i) (engagement_row engagements (suc i))) || overlaps (engagement_row engagements i) (engagement_row engagements (suc i))
 
 -- "first bad engagement (of two, the later)": by its own fields, or by the row before it
-unfoldable pub bad_engagement : ℕ → Calendar → ℕ → List ℕ → ℕ → Bool
-bad_engagement version c points engagements i =
-    not (quarters_good c points (engagement_row engagements i) && terms_good version (engagement_row engagements i)) || out_of_order engagements i
+unfoldable pub bad_engagement : Calendar → ℕ → List ℕ → ℕ → Bool
+bad_engagement c points engagements i =
+    not (place_good c points (engagement_row engagements i) && terms_good (engagement_row engagements i)) || out_of_order engagements i

@@ -1,5 +1,5 @@
--- Document 01, "The book": the header, the extents, and the sections as parts of the book.
-use Rattle.std.specs.Prelude.{Bool, true, cond, ◌&&◌, List, [], ◌∷◌, ℕ, suc, ◌+◌, ◌*◌, ◌%◌, eqb, leb, length, take, drop}
+-- Document 01, "The book": the header, the five extents, and the sections as parts of the book.
+use Rattle.std.specs.Prelude.{Bool, ◌&&◌, List, [], ◌∷◌, ℕ, suc, ◌+◌, ◌*◌, eqb, leb, length, take, drop}
 use Rattle.wire.specs.Numbers.{number_at}
 use Rattle.calendar.specs.Clocks.{clock_of}
 use Rattle.quarters.specs.declared.Calendar.{Calendar}
@@ -27,21 +27,13 @@ engagement_count book = number_at book 8 2
 abbrev pub between : ℕ → ℕ → ℕ → Bool
 between least most n = leb least n && leb n most
 
--- "version u16 = 1"; 02, C-14 and C-15 bring versions 2 and 3
+-- "version u16 = 1"; 02, C-14: "Refusal 1 accepts versions 1 and 2."
 abbrev pub version_taken : ℕ → Bool
-version_taken v = between 1 3 v
+version_taken v = between 1 2 v
 
 -- 02, C-14: "one source party for off-take and one for injection", "From version 2 on": a book of this version has both
 abbrev pub splits : ℕ → Bool
 splits v = leb 2 v
-
--- 02, C-15: "Version 3 is version 2 with a sixth pair, which names a section of u32 watts": a book of this version lists volumes
-abbrev pub lists_volumes : ℕ → Bool
-lists_volumes v = leb 3 v
-
--- "The first section starts at 56"; 02, C-15: with a sixth pair "sections start at 64"
-abbrev pub header_length : ℕ → ℕ
-header_length v = cond (lists_volumes v) 64 56
 
 -- "year u16, 2018 to 2099; month u8; lead days L u8, 1 to 33; points P u16, 1 to 256; engagements E u16, 0 to 512; six zero bytes"
 unfoldable pub header_fields : List ℕ → Bool
@@ -54,11 +46,11 @@ header_fields book =
     && (leb (engagement_count book) 512
     && eqb (number_at book 10 6) 0)))))
 
--- "under 56 bytes, header out of range"; 02, C-15: "Refusal 1 covers a version 3 book under 64 bytes"
+-- "under 56 bytes, header out of range"
 unfoldable pub header_good : List ℕ → Bool
-header_good book = leb (header_length (version_of book)) (length book) && header_fields book
+header_good book = leb 56 (length book) && header_fields book
 
--- "At byte 16 stand five pairs of offset u32 and length u32.", in version 3 six: such a pair is an extent, here extent k, counted from 0
+-- "At byte 16 stand five pairs of offset u32 and length u32.": such a pair is an extent, here extent k, counted from 0
 abbrev pub offset_of : List ℕ → ℕ → ℕ
 offset_of book k = number_at book (16 + 8 * k) 4
 
@@ -69,43 +61,26 @@ length_of book k = number_at book (20 + 8 * k) 4
 abbrev pub is_extent : List ℕ → ℕ → ℕ → ℕ → Bool
 is_extent book k offset size = eqb (offset_of book k) offset && eqb (length_of book k) size
 
--- a register row, an engagement and a volume, in bytes
+-- a register row, and an engagement, in bytes
 abbrev pub point_width : ℕ
 point_width = 64
 
 abbrev pub engagement_width : ℕ
 engagement_width = 16
 
-abbrev pub volume_width : ℕ
-volume_width = 4
-
--- the sections' lengths: calendar, table of X and Y, register, readings, engagements; in version 3 volumes, of so many bytes as their pair says
-abbrev pub sizes : ℕ → Calendar → ℕ → ℕ → ℕ → List ℕ
-sizes version c points rows volumes =
-    days_of c
-    ∷ 8
-    ∷ point_width * points
-    ∷ 4 * quarters_of c * points
-    ∷ engagement_width * rows
-    ∷ cond (lists_volumes version) (volumes ∷ []) []
+-- the sections' lengths: calendar, table of X and Y, register, readings, engagements
+abbrev pub sizes : Calendar → ℕ → ℕ → List ℕ
+sizes c points rows =
+    days_of c ∷ 8 ∷ point_width * points ∷ 4 * quarters_of c * points ∷ engagement_width * rows ∷ []
 
 -- the extents from k on name sections of these sizes, each where the last ended, and the last ends with the book
 abbrev pub adjoining : List ℕ → ℕ → ℕ → List ℕ → Bool
 adjoining book k at [] = eqb (length book) at
 adjoining book k at (n ∷ ns) = is_extent book k at n && adjoining book (suc k) (at + n) ns
 
--- 02, C-15: "refusal 2 a section length that isn't a multiple of 4"
-abbrev pub whole_volumes : ℕ → ℕ → Bool
-whole_volumes version size = cond (lists_volumes version) (eqb (size % volume_width) 0) true
-
--- "The first section starts at 56, each next where the last ended, the last ends with the book.": of a book of a version, with such a calendar, so many
--- points and so many engagements; C-15's section is as long as its own pair says
-abbrev pub layout_for : List ℕ → ℕ → Calendar → ℕ → ℕ → Bool
-layout_for book version c points rows =
-    whole_volumes version (length_of book 5) && adjoining book 0 (header_length version) (sizes version c points rows (length_of book 5))
-
+-- "The first section starts at 56, each next where the last ended, the last ends with the book."
 unfoldable pub layout_good : List ℕ → Bool
-layout_good book = layout_for book (version_of book) (calendar_of book) (point_count book) (engagement_count book)
+layout_good book = adjoining book 0 56 (sizes (calendar_of book) (point_count book) (engagement_count book))
 
 -- "Each section is a part of the book and is read as such."
 abbrev pub section_of : List ℕ → ℕ → List ℕ
@@ -125,10 +100,6 @@ reading_section book = section_of book 3
 
 abbrev pub engagement_section : List ℕ → List ℕ
 engagement_section book = section_of book 4
-
--- the volumes' section, of a book of a version: "Versions 1 and 2" have none
-abbrev pub volume_section : ℕ → List ℕ → List ℕ
-volume_section version book = cond (lists_volumes version) (section_of book 5) []
 
 -- row i of a section whose rows have w bytes
 abbrev pub row_at : ℕ → List ℕ → ℕ → List ℕ

@@ -1,13 +1,12 @@
 -- Rows as parts of a section, and sections as parts of the book.
-use Rattle.std.specs.Prelude.{◌≡◌, refl, Bool, true, false, cond, ◌&&◌, List, [], ◌∷◌, ℕ, zero, suc, ◌+◌, ◌-◌, ◌*◌, ◌≤◌, eqb, leb, length, take, drop}
+use Rattle.std.specs.Prelude.{◌≡◌, refl, true, ◌&&◌, List, [], ◌∷◌, ℕ, zero, suc, ◌+◌, ◌-◌, ◌*◌, ◌≤◌, eqb, leb, length, take, drop}
 use Rattle.std.proofs.Common.{sym, ap, ◌∙◌, mul-suc, add-zero, arith, length-take, length-drop, eqb-true, leb-true}
-use Rattle.std.proofs.lemmas.Bool.{false≢true}
 use Rattle.integers.specs.TestsLaws.{both}
 use Rattle.wire.specs.Numbers.{number_at}
 use Rattle.wire.specs.NumbersLaws.{in-part}
 use Rattle.quarters.specs.declared.Calendar.{Calendar}
 use Rattle.quarters.specs.Quarters.{days_of, quarters_of}
-use Rattle.book.specs.Header.{version_of, calendar_of, point_count, engagement_count, between, version_taken, header_fields, lists_volumes, header_length, header_good, point_width, engagement_width, row_at, offset_of, length_of, is_extent, sizes, adjoining, whole_volumes, layout_for, section_of}
+use Rattle.book.specs.Header.{version_of, calendar_of, point_count, engagement_count, between, version_taken, header_fields, header_good, point_width, engagement_width, row_at, offset_of, length_of, is_extent, sizes, adjoining, section_of}
 use Rattle.quarters.specs.QuartersInner.{Ranged}
 
 -- the part that ends a row later is the row
@@ -46,77 +45,39 @@ held book k at n e h =
     let l = eqb-true (length_of book k) n extent.1 in
     record { inside = omega arith; size = simp (length-take, length-drop) (omega arith) }
 
--- no header is shorter than that of version 1, none longer than one with a sixth extent
-pub header-range : (version : ℕ) → (56 ≤ header_length version) × (header_length version ≤ 64)
-header-range version = go (lists_volumes version)
-  where
-    go : (b : Bool) → (56 ≤ cond b 64 56) × (cond b 64 56 ≤ 64)
-    go true = (omega arith, omega arith)
-    go false = (omega arith, omega arith)
-
-pub header-listed : (version : ℕ) → lists_volumes version ≡ true → header_length version ≡ 64
-header-listed version e = rw e
-
--- the sixth extent stands in the header, and names a part of the book
-pub record VolumesHeld (book : List ℕ) : Type 0 where
-  pub long : 64 ≤ length book
-  pub held : Held book 5 (length_of book 5)
-
--- behind the engagements, which end at `at`, the book ends, or the volumes stand
-behind : (book : List ℕ) (version at : ℕ)
-    → adjoining book 5 at (cond (lists_volumes version) (length_of book 5 ∷ []) []) ≡ true
-    → header_length version ≤ at
-    → (at ≤ length book) × (lists_volumes version ≡ true → VolumesHeld book)
-behind book version at e h = go (lists_volumes version) e h
-  where
-    go : (b : Bool) → adjoining book 5 at (cond b (length_of book 5 ∷ []) []) ≡ true → cond b 64 56 ≤ at → (at ≤ length book) × (b ≡ true → VolumesHeld book)
-    go true e h =
-        let n = length_of book 5 in
-        let r = adjoins book 5 at n [] e in
-        let ends = eqb-true (length book) (at + n) r.1 in
-        (omega arith, λ t. record { long = omega arith; held = held book 5 at n r.0 (omega arith) })
-    go false e h = let ends = eqb-true (length book) at e in (omega arith, λ t. absurd (false≢true t))
-
--- the sections of a book that is laid out for a version, a calendar, so many points and so many engagements
-pub record LaidOut (book : List ℕ) (version : ℕ) (c : Calendar) (points rows : ℕ) : Type 0 where
+-- the sections of a book that is laid out for a calendar, so many points and so many engagements
+pub record LaidOut (book : List ℕ) (c : Calendar) (points rows : ℕ) : Type 0 where
   pub long : 56 ≤ length book
   pub calendar : Held book 0 (days_of c)
   pub table : Held book 1 8
   pub register : Held book 2 (point_width * points)
   pub readings : Held book 3 (4 * quarters_of c * points)
   pub engagements : Held book 4 (engagement_width * rows)
-  pub volumes : lists_volumes version ≡ true → VolumesHeld book
 
-pub laid : (book : List ℕ) (version : ℕ) (c : Calendar) (points rows : ℕ) → layout_for book version c points rows ≡ true → LaidOut book version c points rows
-laid book version c points rows e =
-    let h = header_length version in
-    let least = header-range version in
+pub laid : (book : List ℕ) (c : Calendar) (points rows : ℕ) → adjoining book 0 56 (sizes c points rows) ≡ true → LaidOut book c points rows
+laid book c points rows e =
     let days = days_of c in
     let reg = point_width * points in
     let met = 4 * quarters_of c * points in
     let eng = engagement_width * rows in
-    let vol = cond (lists_volumes version) (length_of book 5 ∷ []) [] in
-    let good = both (whole_volumes version (length_of book 5)) (adjoining book 0 h (sizes version c points rows (length_of book 5))) e in
-    let r₀ = adjoins book 0 h days (8 ∷ reg ∷ met ∷ eng ∷ vol) good.1 in
-    let r₁ = adjoins book 1 (h + days) 8 (reg ∷ met ∷ eng ∷ vol) r₀.1 in
-    let r₂ = adjoins book 2 (h + days + 8) reg (met ∷ eng ∷ vol) r₁.1 in
-    let r₃ = adjoins book 3 (h + days + 8 + reg) met (eng ∷ vol) r₂.1 in
-    let r₄ = adjoins book 4 (h + days + 8 + reg + met) eng vol r₃.1 in
-    let end = behind book version (h + days + 8 + reg + met + eng) r₄.1 (omega arith) in
+    let r₀ = adjoins book 0 56 days (8 ∷ reg ∷ met ∷ eng ∷ []) e in
+    let r₁ = adjoins book 1 (56 + days) 8 (reg ∷ met ∷ eng ∷ []) r₀.1 in
+    let r₂ = adjoins book 2 (56 + days + 8) reg (met ∷ eng ∷ []) r₁.1 in
+    let r₃ = adjoins book 3 (56 + days + 8 + reg) met (eng ∷ []) r₂.1 in
+    let r₄ = adjoins book 4 (56 + days + 8 + reg + met) eng [] r₃.1 in
+    let whole = eqb-true (length book) (56 + days + 8 + reg + met + eng) r₄.1 in
     record {
-      long = omega (arith, end.0);
-      calendar = held book 0 h days r₀.0 (omega (arith, end.0));
-      table = held book 1 (h + days) 8 r₁.0 (omega (arith, end.0));
-      register = held book 2 (h + days + 8) reg r₂.0 (omega (arith, end.0));
-      readings = held book 3 (h + days + 8 + reg) met r₃.0 (omega (arith, end.0));
-      engagements = held book 4 (h + days + 8 + reg + met) eng r₄.0 (omega (arith, end.0));
-      volumes = end.1;
+      long = omega arith;
+      calendar = held book 0 56 days r₀.0 (omega arith);
+      table = held book 1 (56 + days) 8 r₁.0 (omega arith);
+      register = held book 2 (56 + days + 8) reg r₂.0 (omega arith);
+      readings = held book 3 (56 + days + 8 + reg) met r₃.0 (omega arith);
+      engagements = held book 4 (56 + days + 8 + reg + met) eng r₄.0 (omega arith);
     }
 
 -- what a good header says
 pub record Headed (book : List ℕ) : Type 0 where
   pub long : 56 ≤ length book
-  pub whole : header_length (version_of book) ≤ length book
   pub ranged : Ranged (calendar_of book)
   pub points : point_count book ≤ 256
   pub some : 1 ≤ point_count book
@@ -132,7 +93,7 @@ headed book e =
     let e₄ = between 1 33 c.lead && e₅ in
     let e₃ = between 1 12 c.month && e₄ in
     let e₂ = between 2018 2099 c.year && e₃ in
-    let f₁ = both (leb (header_length (version_of book)) (length book)) (version_taken (version_of book) && e₂) e in
+    let f₁ = both (leb 56 (length book)) (version_taken (version_of book) && e₂) e in
     let f₂ = both (version_taken (version_of book)) e₂ f₁.1 in
     let f₃ = both (between 2018 2099 c.year) e₃ f₂.1 in
     let f₄ = both (between 1 12 c.month) e₄ f₃.1 in
@@ -143,10 +104,8 @@ headed book e =
     let month = both (leb 1 c.month) (leb c.month 12) f₄.0 in
     let lead = both (leb 1 c.lead) (leb c.lead 33) f₅.0 in
     let points = both (leb 1 (point_count book)) (leb (point_count book) 256) f₆.0 in
-    let whole = leb-true (header_length (version_of book)) (length book) f₁.0 in
     record {
-      long = omega (arith, header-range (version_of book));
-      whole = whole;
+      long = leb-true 56 (length book) f₁.0;
       ranged = record { from = leb-true 2018 c.year year.0; to = leb-true c.year 2099 year.1; january = leb-true 1 c.month month.0; december = leb-true c.month 12 month.1; some = leb-true 1 c.lead lead.0; few = leb-true c.lead 33 lead.1; clock = refl };
       points = leb-true (point_count book) 256 points.1;
       some = leb-true 1 (point_count book) points.0;

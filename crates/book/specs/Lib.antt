@@ -6,7 +6,5 @@ pub mod RegisterLaws
 pub mod Metering
 pub mod Engagements
 pub mod EngagementsLaws
-pub mod Volumes
 pub mod Book
 pub mod Judged
-pub mod VolumeExamplesLaws

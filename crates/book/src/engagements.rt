@@ -27,7 +27,6 @@ fn engagement_of(row: &[u8]) -> Engagement
         direction,
         notice: wire::u8_at(row, 6),
         requested: wire::u32_at(row, 8),
-        place: wire::u32_at(row, 12),
     }
 }
 

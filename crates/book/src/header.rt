@@ -1,6 +1,6 @@
 // The header: the version, the calendar, and how many points and engagements there are.
 ghost use Rattle.std.specs.Prelude.{◌≡◌, true, ◌≤◌, length};
-ghost use Rattle.book.specs.Header.{version_of, splits, lists_volumes, header_length, calendar_of, point_count, engagement_count, header_good};
+ghost use Rattle.book.specs.Header.{version_of, splits, calendar_of, point_count, engagement_count, header_good};
 
 use quarters::Calendar;
 
@@ -32,23 +32,6 @@ pub fn splits(version: u16) -> bool
     ensures { result ≡ splits version }
 {
     2 <= version
-}
-
-// Whether a book of this version lists volumes by quarter-hour.
-pub fn lists_volumes(version: u16) -> bool
-    ensures { result ≡ lists_volumes version }
-{
-    3 <= version
-}
-
-// Where the first section of a book of this version starts.
-pub fn header_length(version: u16) -> usize
-    ensures { result ≡ header_length version }
-{
-    if lists_volumes(version) {
-        return 64;
-    }
-    56
 }
 
 pub fn point_count(book: &[u8]) -> usize

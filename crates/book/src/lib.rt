@@ -76,6 +76,4 @@ pub struct Engagement {
     pub direction: Direction,
     pub notice: u8,
     pub requested: u32,
-    // Where its volumes start, in a book that lists volumes.
-    pub place: u32,
 }

@@ -11,8 +11,6 @@ fn answer(judged: Judged) {
         Judged::Register(row) => cases::answers::refused(5, row as u64),
         Judged::Readings(point) => cases::answers::refused(6, point as u64),
         Judged::Engagements(row) => cases::answers::refused(7, row as u64),
-        Judged::Place(row) => cases::answers::refused(14, row as u64),
-        Judged::Volumes => cases::answers::refused(15, 0),
     }
 }
 

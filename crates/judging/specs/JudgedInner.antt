@@ -2,7 +2,7 @@
 use Rattle.std.proofs.Math.Option.{Option, none}
 use Rattle.refusals.specs.Refusals.{Refusal, refused}
 use Rattle.judging.specs.declared.Judged.{Judged}
-use Rattle.judging.specs.declared.Judged.TheVariants.{Passed, Header, Layout, Tables, Register, Readings, Engagements, Place, Volumes}
+use Rattle.judging.specs.declared.Judged.TheVariants.{Passed, Header, Layout, Tables, Register, Readings, Engagements}
 
 -- the number and item of each answer of `judge_book`
 abbrev pub sent_back : Judged → Option Refusal
@@ -13,5 +13,3 @@ sent_back Tables = refused 4 0
 sent_back (Register row) = refused 5 row
 sent_back (Readings point) = refused 6 point
 sent_back (Engagements row) = refused 7 row
-sent_back (Place row) = refused 14 row
-sent_back Volumes = refused 15 0

@@ -1,7 +1,7 @@
 // Refusals 1 and 2: the header, and the sections' places.
-ghost use Rattle.std.specs.Prelude.{◌≡◌, cond, [], ◌∷◌, ◌+◌, ◌*◌, ◌≤◌, length};
+ghost use Rattle.std.specs.Prelude.{◌≡◌, ◌+◌, ◌*◌, ◌≤◌, length};
 ghost use Rattle.quarters.specs.Quarters.{quarters};
-ghost use Rattle.book.specs.Header.{lists_volumes, header_length, header_fields, header_good, length_of, is_extent, adjoining, whole_volumes, layout_for};
+ghost use Rattle.book.specs.Header.{header_fields, header_good, is_extent, sizes, adjoining};
 ghost use Rattle.judging.specs.HeaderInner.{places_of};
 ghost use Rattle.quarters.specs.QuartersInner.{Ranged};
 
@@ -18,7 +18,7 @@ fn header_fields(book: &[u8]) -> bool
     let points = wire::u16_at(book, 6);
     let engagements = wire::u16_at(book, 8);
     let zeros = (wire::u16_at(book, 10) == 0) & (wire::u32_at(book, 12) == 0);
-    ((1 <= version) & (version <= 3))
+    ((1 <= version) & (version <= 2))
         & (((2018 <= year) & (year <= 2099))
             & (((1 <= month) & (month <= 12))
                 & (((1 <= lead) & (lead <= 33))
@@ -31,13 +31,12 @@ pub fn header_good(book: &[u8]) -> bool
     if book.len() < 56 {
         return false;
     }
-    let start = book::header::header_length(book::header::version_of(book));
-    (start <= book.len()) & header_fields(book)
+    header_fields(book)
 }
 
 // Extent k is this offset and this length.
 fn extent_is(book: &[u8], k: usize, offset: usize, size: usize) -> bool
-    requires { 24 + 8 * k ≤ length book.now }
+    requires { (56 ≤ length book.now) × (k ≤ 4) }
     ensures { result ≡ is_extent book.now k offset size }
 {
     let at = wire::u32_at(book, 16 + 8 * k) as usize;
@@ -45,33 +44,9 @@ fn extent_is(book: &[u8], k: usize, offset: usize, size: usize) -> bool
     (at == offset) & (count == size)
 }
 
-// The volumes' section, if there is one, has whole volumes.
-fn whole_volumes(book: &[u8], version: u16) -> bool
-    requires { header_length version ≤ length book.now }
-    ensures { result ≡ whole_volumes version (length_of book.now 5) }
-{
-    if book::header::lists_volumes(version) {
-        return wire::u32_at(book, 60) % 4 == 0;
-    }
-    true
-}
-
-// Behind the engagements, which end at `at`, the volumes stand and end with the book, or the book ends.
-fn end_good(book: &[u8], version: u16, at: usize) -> bool
-    requires { (header_length version ≤ length book.now) × (at ≤ 4294967295) }
-    ensures { result ≡ adjoining book.now 5 at (cond (lists_volumes version) (length_of book.now 5 ∷ []) []) }
-{
-    if book::header::lists_volumes(version) {
-        let size = wire::u32_at(book, 60) as usize;
-        return extent_is(book, 5, at, size) & (book.len() == at + size);
-    }
-    book.len() == at
-}
-
-// Where the sections start, and where the engagements end.
+// Where the sections start; the first starts at 56.
 #[derive(Drop)]
 pub struct Places {
-    pub calendar: usize,
     pub table: usize,
     pub register: usize,
     pub readings: usize,
@@ -79,20 +54,18 @@ pub struct Places {
     pub end: usize,
 }
 
-pub fn layout_at(version: u16, c: Calendar, points: usize, rows: usize) -> Places
+pub fn layout_at(c: Calendar, points: usize, rows: usize) -> Places
     requires { Ranged c × (points ≤ 256) × (rows ≤ 512) }
-    ensures { (result ≡ places_of version c points rows) × (result.end ≤ 4294967295) }
+    ensures { result ≡ places_of c points rows }
 {
-    let calendar = book::header::header_length(version);
     let days = quarters::days_of(c) as usize;
     let quarters = quarters::quarters_of(c) as usize;
-    let table = calendar + days;
+    let table = 56 + days;
     let register = table + 8;
     let readings = register + 64 * points;
     let engagements = readings + 4 * quarters * points;
     let end = engagements + 16 * rows;
     Places {
-        calendar,
         table,
         register,
         readings,
@@ -101,17 +74,15 @@ pub fn layout_at(version: u16, c: Calendar, points: usize, rows: usize) -> Place
     }
 }
 
-pub fn layout_good(book: &[u8], version: u16, c: Calendar, points: usize, rows: usize) -> bool
-    requires { (header_length version ≤ length book.now) × Ranged c × (points ≤ 256) × (rows ≤ 512) }
-    ensures { result ≡ layout_for book.now version c points rows }
+pub fn layout_good(book: &[u8], c: Calendar, points: usize, rows: usize) -> bool
+    requires { (56 ≤ length book.now) × Ranged c × (points ≤ 256) × (rows ≤ 512) }
+    ensures { result ≡ adjoining book.now 0 56 (sizes c points rows) }
 {
-    let p = layout_at(version, c, points, rows);
+    let p = layout_at(c, points, rows);
     let days = quarters::days_of(c) as usize;
     let readings = 4 * (quarters::quarters_of(c) as usize) * points;
     let late = extent_is(book, 3, p.readings, readings)
-        & (extent_is(book, 4, p.engagements, 16 * rows) & end_good(book, version, p.end));
-    whole_volumes(book, version)
-        & (extent_is(book, 0, p.calendar, days)
-            & (extent_is(book, 1, p.table, 8)
-                & (extent_is(book, 2, p.register, 64 * points) & late)))
+        & (extent_is(book, 4, p.engagements, 16 * rows) & (book.len() == p.end));
+    extent_is(book, 0, 56, days)
+        & (extent_is(book, 1, p.table, 8) & (extent_is(book, 2, p.register, 64 * points) & late))
 }

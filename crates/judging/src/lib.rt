@@ -1,4 +1,4 @@
-// Judging a book: refusals 1 to 7, 14 and 15.
+// Judging a book: refusals 1 to 7.
 mod header;
 pub mod judge;
 mod tables;
@@ -13,6 +13,4 @@ pub enum Judged {
     Register(usize),
     Readings(usize),
     Engagements(usize),
-    Place(usize),
-    Volumes,
 }

@@ -66,7 +66,7 @@ observations-are book kind receiver s before l n month e =
 pub period-of : (c : Calendar) → Ranged c → IsPeriod c.year c.month
 period-of c h = record { from = h.from; to = h.to; january = h.january; december = h.december }
 
--- what an accepted book says of its calendar
+-- what a book that refusals 1 to 9 pass says of its calendar
 pub record Dated (bytes : List ℕ) : Type 0 where
   pub header : header_good bytes ≡ true
   pub ranged : Ranged (calendar_of bytes)

@@ -1,9 +1,7 @@
 -- Books that are given byte by byte: one passes whose parts do, it says what they say, and its file carries its series' watts. A reading at a place of the bytes
 -- is a function of the place, so that no list of readings is ever gone through.
-use Rattle.std.specs.Prelude.{◌≡◌, refl, Bool, true, false, ℕ, zero, suc, ◌+◌, ◌*◌, ◌≤◌, ◌<◌, length, take, drop}
-use Rattle.std.proofs.Common.{sym, ◌∙◌, arith}
-use Rattle.std.proofs.Math.Path.{ap}
-use mathlib.Core.List.{List, [], map}
+use Rattle.std.specs.Prelude.{◌≡◌, refl, Bool, true, false, List, map, ℕ, zero, suc, ◌+◌, ◌*◌, ◌≤◌, ◌<◌, length, take, drop}
+use Rattle.std.proofs.Common.{sym, ap, ◌∙◌, arith}
 use Rattle.std.proofs.Math.Option.{none}
 use Rattle.std.proofs.Math.Seq.{drop-nil}
 use Rattle.integers.specs.First.{first}
@@ -14,13 +12,12 @@ use Rattle.quarters.specs.declared.Calendar.{Calendar}
 use Rattle.quarters.specs.Quarters.{days_of, quarters_of, month_quarters}
 use Rattle.book.specs.declared.Supply.TheVariants.{OffTake}
 use Rattle.book.specs.declared.Direction.TheVariants.{Up}
-use Rattle.book.specs.Header.{version_of, calendar_of, point_count, engagement_count, lists_volumes, header_good, layout_for, layout_good, calendar_section, table_section, register_section, reading_section, engagement_section, volume_section}
+use Rattle.book.specs.Header.{version_of, calendar_of, point_count, engagement_count, header_good, sizes, adjoining, layout_good, calendar_section, table_section, register_section, reading_section, engagement_section}
 use Rattle.book.specs.Tables.{category_at, x_at, y_at, calendar_good, table_good}
 use Rattle.book.specs.Register.{point_at, bad_point}
 use Rattle.book.specs.Metering.{meter_at, bad_reading, first_bad_reading}
 use Rattle.book.specs.Engagements.{engagement_at, bad_engagement}
-use Rattle.book.specs.Volumes.{volumes_in}
-use Rattle.book.specs.Judged.{volumes_refusal, rows_refusal, sections_refusal, refusal_of}
+use Rattle.book.specs.Judged.{rows_refusal, sections_refusal, refusal_of}
 use Rattle.book.specs.Book.{Book, book_of}
 use Rattle.volumes.specs.Settlement.{row_width, row_count, book_refusal, Accepted}
 use Rattle.volumes.specs.SettlementLaws.{settling-long}
@@ -56,12 +53,11 @@ unfolding first
 none_first test a zero h = refl
 none_first test a (suc n) h = rw (h a (omega arith)) (none_first test (suc a) n (λ i k. h i (omega arith)))
 
--- ---- its own refusals, and the book that the bytes say
+-- ---- refusals 1 to 7, and the book that the bytes say
 
--- what the header and the extents find in the bytes of a book that lists no volumes
+-- what the header and the extents find in a book's bytes
 pub record Parts (b : List ℕ) (version : ℕ) (c : Calendar) (points rows : ℕ) (calendar table register readings engagements : List ℕ) : Type 0 where
   pub version-of : version_of b ≡ version
-  pub plain : lists_volumes version ≡ false
   pub month : calendar_of b ≡ c
   pub points_of : point_count b ≡ points
   pub rows_of : engagement_count b ≡ rows
@@ -74,16 +70,16 @@ pub record Parts (b : List ℕ) (version : ℕ) (c : Calendar) (points rows : �
 -- and that each of them is good
 pub record Good (b : List ℕ) (version : ℕ) (c : Calendar) (points rows : ℕ) (calendar table register readings engagements : List ℕ) : Type 0 where
   pub header : header_good b ≡ true
-  pub layout : layout_for b version c points rows ≡ true
+  pub layout : adjoining b 0 56 (sizes c points rows) ≡ true
   pub categories : calendar_good calendar ≡ true
   pub numbers : table_good table ≡ true
   pub registered : first (bad_point version (days_of c) register) 0 points ≡ none
   pub read : first (bad_reading readings) 0 (quarters_of c * points) ≡ none
-  pub engaged : first (bad_engagement version c points engagements) 0 rows ≡ none
+  pub engaged : first (bad_engagement c points engagements) 0 rows ≡ none
 
--- the book of such parts, readings by point and quarter-hour, with these volumes, and with none
-abbrev book_listing : ℕ → Calendar → ℕ → ℕ → List ℕ → List ℕ → List ℕ → (ℕ → ℕ → Reading) → List ℕ → List ℕ → Book
-book_listing version c points rows calendar table register reading engagements volumes =
+-- the book of such parts, readings by point and quarter-hour
+abbrev pub book_by : ℕ → Calendar → ℕ → ℕ → List ℕ → List ℕ → List ℕ → (ℕ → ℕ → Reading) → List ℕ → Book
+book_by version c points rows calendar table register reading engagements =
     record {
       version = version;
       calendar = c;
@@ -93,28 +89,20 @@ book_listing version c points rows calendar table register reading engagements v
       points = map (point_at register) (range 0 points);
       reading = reading;
       engagements = map (engagement_at engagements) (range 0 rows);
-      volumes = volumes;
     }
 
-abbrev pub book_by : ℕ → Calendar → ℕ → ℕ → List ℕ → List ℕ → List ℕ → (ℕ → ℕ → Reading) → List ℕ → Book
-book_by version c points rows calendar table register reading engagements = book_listing version c points rows calendar table register reading engagements []
-
 module _ (b : List ℕ) (version : ℕ) (c : Calendar) (points rows : ℕ) (calendar table register readings engagements : List ℕ) (h : Parts b version c points rows calendar table register readings engagements) where
-  layout-good : layout_for b version c points rows ≡ true → layout_good b ≡ true
+  layout-good : adjoining b 0 56 (sizes c points rows) ≡ true → layout_good b ≡ true
   unfolding layout_good
   layout-good e =
-      let v = h.version-of in
       let m = h.month in
       let p = h.points_of in
       let r = h.rows_of in
-      (λ i. layout_for b (v i) (m i) (p i) (r i)) ∙ e
+      (λ i. adjoining b 0 56 (sizes (m i) (p i) (r i))) ∙ e
 
-  no-volumes : volume_section version b ≡ []
-  no-volumes = rw h.plain
-
-  rows_pass : Good b version c points rows calendar table register readings engagements → sections_refusal version c points rows calendar table register readings engagements [] ≡ none
-  unfolding sections_refusal rows_refusal volumes_refusal first_bad_reading
-  rows_pass g = rw (g.categories, g.numbers, g.registered, g.read, g.engaged, h.plain)
+  rows_pass : Good b version c points rows calendar table register readings engagements → sections_refusal version c points rows calendar table register readings engagements ≡ none
+  unfolding sections_refusal rows_refusal first_bad_reading
+  rows_pass g = rw (g.categories, g.numbers, g.registered, g.read, g.engaged)
 
   pub passes : Good b version c points rows calendar table register readings engagements → refusal_of b ≡ none
   unfolding refusal_of
@@ -128,10 +116,10 @@ module _ (b : List ℕ) (version : ℕ) (c : Calendar) (points rows : ℕ) (cale
       let s₃ = h.register_is in
       let s₄ = h.readings_is in
       let s₅ = h.engagements_is in
-      rw (g.header, layout-good g.layout) ((λ i. sections_refusal (v i) (m i) (p i) (r i) (s₁ i) (s₂ i) (s₃ i) (s₄ i) (s₅ i) (volume_section (v i) b)) ∙ ap (sections_refusal version c points rows calendar table register readings engagements) no-volumes ∙ rows_pass g)
+      rw (g.header, layout-good g.layout) ((λ i. sections_refusal (v i) (m i) (p i) (r i) (s₁ i) (s₂ i) (s₃ i) (s₄ i) (s₅ i)) ∙ rows_pass g)
 
   pub says : (reading : ℕ → ℕ → Reading) → ((p k : ℕ) → meter_at c readings p k ≡ reading p k) → book_of b ≡ book_by version c points rows calendar table register reading engagements
-  unfolding book_of volumes_in range
+  unfolding book_of
   says reading e =
       let v = h.version-of in
       let m = h.month in
@@ -142,8 +130,7 @@ module _ (b : List ℕ) (version : ℕ) (c : Calendar) (points rows : ℕ) (cale
       let s₃ = h.register_is in
       let s₄ = h.readings_is in
       let s₅ = h.engagements_is in
-      (λ i. book_listing (v i) (m i) (n i) (r i) (s₁ i) (s₂ i) (s₃ i) (meter_at (m i) (s₄ i)) (s₅ i) (volumes_in (volume_section (v i) b)))
-      ∙ ap (λ (l : List ℕ). book_listing version c points rows calendar table register (meter_at c readings) engagements (volumes_in l)) no-volumes
+      (λ i. book_by (v i) (m i) (n i) (r i) (s₁ i) (s₂ i) (s₃ i) (meter_at (m i) (s₄ i)) (s₅ i))
       ∙ (λ i. book_by version c points rows calendar table register (λ p k. e p k i) engagements)
 
 -- ---- what it carries

@@ -22,5 +22,4 @@ pub mod SmallLaws
 pub mod PoolLaws
 pub mod March
 pub mod MarchLaws
-pub mod ConstantList
 pub mod VersionLaws

@@ -21,11 +21,11 @@ use Rattle.quarters.specs.Quarters.{days_of, quarters_by, quarters, day_start, q
 use Rattle.book.specs.declared.Supply.TheVariants.{OffTake}
 use Rattle.book.specs.declared.Direction.TheVariants.{Up}
 use Rattle.book.specs.declared.Engagement.{Engagement}
-use Rattle.book.specs.Header.{version_of, calendar_of, point_count, engagement_count, header_good, header_fields, layout_for, calendar_section, table_section, register_section, reading_section, engagement_section}
+use Rattle.book.specs.Header.{version_of, calendar_of, point_count, engagement_count, header_good, header_fields, sizes, adjoining, calendar_section, table_section, register_section, reading_section, engagement_section}
 use Rattle.book.specs.Tables.{calendar_good, table_good}
 use Rattle.book.specs.Register.{bad_point, numbers_good, rest_good, bytes_good}
 use Rattle.book.specs.Metering.{meter_at, reading_good, bad_reading}
-use Rattle.book.specs.Engagements.{engagement_at, bad_engagement, quarters_good, request_good, terms_good}
+use Rattle.book.specs.Engagements.{engagement_at, bad_engagement, place_good, terms_good}
 use Rattle.book.specs.Judged.{refusal_of}
 use Rattle.book.specs.Book.{Book, book_of}
 use Rattle.volumes.specs.Quarters.{quarter_hours, start}
@@ -105,7 +105,6 @@ parts : Parts march 1 month 1 1 calendar table register readings engagements
 parts =
     record {
       version-of = counts_of.0;
-      plain = refl;
       month = calendar-of;
       points_of = counts_of.1;
       rows_of = counts_of.2;
@@ -116,7 +115,7 @@ parts =
       engagements_is = engagements-is;
     }
 
--- ---- its own refusals
+-- ---- refusals 1 to 7
 
 quarters-are : quarters_of month ≡ 3068
 unfolding month day_start quarters quarters_by calendar_days month_length leap
@@ -126,7 +125,7 @@ header-good : header_good march ≡ true
 unfolding header_good header_fields march header
 header-good = rw march-length refl
 
-layout-good : layout_for march 1 month 1 1 ≡ true
+layout-good : adjoining march 0 56 (sizes month 1 1) ≡ true
 unfolding march header month calendar_days month_length leap day_start quarters quarters_by
 layout-good = rw march-length refl
 
@@ -142,8 +141,8 @@ register-good : first (bad_point 1 (days_of month) register) 0 1 ≡ none
 unfolding month first bad_point numbers_good rest_good bytes_good any_below register calendar_days month_length leap
 register-good = refl
 
-engagements-good : first (bad_engagement 1 month 1 engagements) 0 1 ≡ none
-unfolding month first bad_engagement quarters_good request_good terms_good engagements quarters_by quarters calendar_days month_length leap
+engagements-good : first (bad_engagement month 1 engagements) 0 1 ≡ none
+unfolding month first bad_engagement place_good terms_good engagements quarters_by quarters calendar_days month_length leap
 engagements-good = refl
 
 good : Good march 1 month 1 1 calendar table register readings engagements

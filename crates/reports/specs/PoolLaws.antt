@@ -18,11 +18,11 @@ use Rattle.quarters.specs.declared.Calendar.{Calendar}
 use Rattle.book.specs.declared.Supply.TheVariants.{OffTake}
 use Rattle.book.specs.declared.Direction.TheVariants.{Up}
 use Rattle.quarters.specs.Quarters.{days_of, quarters_by, quarters, is_clock_change, day_start, quarters_of, position, month_quarters}
-use Rattle.book.specs.Header.{version_of, calendar_of, point_count, engagement_count, header_good, header_fields, layout_for, calendar_section, table_section, register_section, reading_section, engagement_section}
+use Rattle.book.specs.Header.{version_of, calendar_of, point_count, engagement_count, header_good, header_fields, sizes, adjoining, calendar_section, table_section, register_section, reading_section, engagement_section}
 use Rattle.book.specs.Tables.{calendar_good, table_good}
 use Rattle.book.specs.Register.{bad_point, numbers_good, rest_good, bytes_good}
 use Rattle.book.specs.Metering.{meter_at, reading_good, bad_reading}
-use Rattle.book.specs.Engagements.{engagement_at, bad_engagement, quarters_good, request_good, terms_good}
+use Rattle.book.specs.Engagements.{engagement_at, bad_engagement, place_good, terms_good}
 use Rattle.book.specs.Judged.{refusal_of}
 use Rattle.book.specs.Book.{Book, book_of}
 use Rattle.volumes.specs.Quarters.{quarter_hours, start, looks_at, reference_quarter, reference}
@@ -50,7 +50,7 @@ readings-length : length readings ≡ 34560
 unfolding readings
 readings-length = words-length watt_at 0 8640
 
--- ---- its own refusals
+-- ---- refusals 1 to 7
 
 pool-length : length pool ≡ 34894
 unfolding pool header calendar table register engagements
@@ -103,7 +103,6 @@ parts : Parts pool 1 february 3 3 calendar table register readings engagements
 parts =
     record {
       version-of = counts_of.0;
-      plain = refl;
       month = calendar-of;
       points_of = counts_of.1;
       rows_of = counts_of.2;
@@ -114,7 +113,7 @@ parts =
       engagements_is = engagements-is;
     }
 
-layout-good : layout_for pool 1 february 3 3 ≡ true
+layout-good : adjoining pool 0 56 (sizes february 3 3) ≡ true
 unfolding pool header february calendar_days month_length leap day_start quarters quarters_by
 layout-good = rw pool-length refl
 
@@ -138,8 +137,8 @@ register-good : first (bad_point 1 (days_of february) register) 0 3 ≡ none
 unfolding february first bad_point numbers_good rest_good bytes_good any_below register calendar_days month_length leap
 register-good = refl
 
-engagements-good : first (bad_engagement 1 february 3 engagements) 0 3 ≡ none
-unfolding february first bad_engagement quarters_good request_good terms_good engagements quarters_by quarters calendar_days month_length leap
+engagements-good : first (bad_engagement february 3 engagements) 0 3 ≡ none
+unfolding february first bad_engagement place_good terms_good engagements quarters_by quarters calendar_days month_length leap
 engagements-good = refl
 
 good : Good pool 1 february 3 3 calendar table register readings engagements

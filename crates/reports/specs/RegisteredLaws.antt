@@ -1,4 +1,4 @@
--- A book that passes its own refusals has such a register: each test that its rows passed says so.
+-- A book that passes refusals 1 to 7 has such a register: each test that its rows passed says so.
 use Rattle.std.specs.Prelude.{◌≡◌, Bool, ◌&&◌, ◌||◌, ℕ, ◌^◌, ◌<◌}
 use Rattle.std.proofs.Math.Path.{refl, ap}
 use Rattle.std.proofs.Common.{sym, ◌∙◌, arith}

@@ -17,11 +17,11 @@ use Rattle.book.specs.declared.Supply.TheVariants.{OffTake}
 use Rattle.book.specs.declared.Direction.TheVariants.{Up}
 use Rattle.quarters.specs.declared.Calendar.{Calendar}
 use Rattle.quarters.specs.Quarters.{days_of, quarters_by, quarters, day_start, quarters_of, position, month_quarters}
-use Rattle.book.specs.Header.{version_of, calendar_of, point_count, engagement_count, header_good, header_fields, layout_for, calendar_section, table_section, register_section, reading_section, engagement_section}
+use Rattle.book.specs.Header.{version_of, calendar_of, point_count, engagement_count, header_good, header_fields, sizes, adjoining, calendar_section, table_section, register_section, reading_section, engagement_section}
 use Rattle.book.specs.Tables.{calendar_good, table_good}
 use Rattle.book.specs.Register.{bad_point, numbers_good, rest_good, bytes_good}
 use Rattle.book.specs.Metering.{meter_at, reading_good, bad_reading}
-use Rattle.book.specs.Engagements.{bad_engagement, quarters_good, request_good, terms_good}
+use Rattle.book.specs.Engagements.{bad_engagement, place_good, terms_good}
 use Rattle.book.specs.Judged.{refusal_of}
 use Rattle.book.specs.Book.{Book, book_of}
 use Rattle.volumes.specs.Quarters.{quarter_hours, start}
@@ -92,7 +92,6 @@ parts : Parts small 1 february 1 1 calendar table register readings engagements
 parts =
     record {
       version-of = counts_of.0;
-      plain = refl;
       month = calendar-of;
       points_of = counts_of.1;
       rows_of = counts_of.2;
@@ -103,9 +102,9 @@ parts =
       engagements_is = engagements-is;
     }
 
--- ---- its own refusals
+-- ---- refusals 1 to 7
 
-layout-good : layout_for small 1 february 1 1 ≡ true
+layout-good : adjoining small 0 56 (sizes february 1 1) ≡ true
 unfolding small header february calendar_days month_length leap day_start quarters quarters_by
 layout-good = rw small-length refl
 
@@ -140,8 +139,8 @@ register-good : first (bad_point 1 (days_of february) register) 0 1 ≡ none
 unfolding february first bad_point numbers_good rest_good bytes_good any_below register calendar_days month_length leap
 register-good = refl
 
-engagements-good : first (bad_engagement 1 february 1 engagements) 0 1 ≡ none
-unfolding february first bad_engagement quarters_good request_good terms_good engagements quarters_by quarters calendar_days month_length leap
+engagements-good : first (bad_engagement february 1 engagements) 0 1 ≡ none
+unfolding february first bad_engagement place_good terms_good engagements quarters_by quarters calendar_days month_length leap
 engagements-good = refl
 
 good : Good small 1 february 1 1 calendar table register readings engagements

@@ -3,7 +3,6 @@ ghost use Rattle.reports.specs.Demand3.{Demand3, Possible};
 ghost use Rattle.reports.specs.Small.{SmallShown};
 ghost use Rattle.reports.specs.Pool.{PoolShown};
 ghost use Rattle.reports.specs.March.{MarchShown};
-ghost use Rattle.reports.specs.ConstantList.{ConstantList};
 
 // What a sheet call answers: the sums that it filled, or a number and an item of document 01.
 #[derive(Drop)]
@@ -42,9 +41,4 @@ pub fn pool_files_have_watts()
 // There is an accepted book of March whose file has watts behind the clock change.
 pub fn march_book_has_watts()
     ensures { MarchShown }
-{}
-
-// Versions 1 and 2 behave as a constant list of volumes.
-pub fn requests_are_constant_lists()
-    ensures { ConstantList }
 {}

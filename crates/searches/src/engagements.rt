@@ -2,16 +2,16 @@
 ghost use Rattle.std.specs.Prelude.{◌≡◌, not, ◌||◌, ◌+◌, ◌*◌, ◌≤◌, length};
 ghost use Rattle.integers.specs.First.{first};
 ghost use Rattle.searches.specs.FoundInner.{found_at};
-ghost use Rattle.book.specs.Engagements.{quarters_good, request_good, terms_good, rises, overlaps, out_of_order, bad_engagement};
+ghost use Rattle.book.specs.Engagements.{place_good, terms_good, rises, overlaps, out_of_order, bad_engagement};
 ghost use Rattle.quarters.specs.QuartersInner.{Ranged};
 
 use crate::Found;
 use quarters::Calendar;
 
 // The point, the day and the quarter-hours are those of the book.
-fn quarters_good(row: &[u8], c: Calendar, points: usize) -> bool
+fn place_good(row: &[u8], c: Calendar, points: usize) -> bool
     requires { (16 ≤ length row.now) × Ranged c }
-    ensures { result ≡ quarters_good c points row.now }
+    ensures { result ≡ place_good c points row.now }
 {
     let point = wire::u16_at(row, 0) as usize;
     let day = wire::u8_at(row, 2) as u64;
@@ -24,27 +24,18 @@ fn quarters_good(row: &[u8], c: Calendar, points: usize) -> bool
                 & ((first < quarters) & ((1 <= count) & (first + count <= quarters)))))
 }
 
-// What a row asks for: requested watts and no place, or from version 3 on a place and no requested watts.
-fn request_good(version: u16, row: &[u8]) -> bool
+fn terms_good(row: &[u8]) -> bool
     requires { 16 ≤ length row.now }
-    ensures { result ≡ request_good version row.now }
-{
-    let requested = wire::u32_at(row, 8);
-    if book::header::lists_volumes(version) {
-        return requested == 0;
-    }
-    let place = wire::u32_at(row, 12);
-    ((1 <= requested) & (requested <= 1000000000)) & (place == 0)
-}
-
-fn terms_good(version: u16, row: &[u8]) -> bool
-    requires { 16 ≤ length row.now }
-    ensures { result ≡ terms_good version row.now }
+    ensures { result ≡ terms_good row.now }
 {
     let direction = wire::u8_at(row, 5);
     let notice = wire::u8_at(row, 6);
     let zero = wire::u8_at(row, 7);
-    (direction <= 1) & ((notice <= 96) & ((zero == 0) & request_good(version, row)))
+    let requested = wire::u32_at(row, 8);
+    let rest = wire::u32_at(row, 12);
+    (direction <= 1)
+        & ((notice <= 96)
+            & ((zero == 0) & (((1 <= requested) & (requested <= 1000000000)) & (rest == 0))))
 }
 
 // Row b does not follow row a: it does not rise, or it overlaps.
@@ -78,31 +69,25 @@ fn out_of_order(engagements: &[u8], i: usize) -> bool
     unfit(&engagements[a..b], &engagements[b..e])
 }
 
-fn bad_engagement(version: u16, engagements: &[u8], i: usize, c: Calendar, points: usize) -> bool
+fn bad_engagement(engagements: &[u8], i: usize, c: Calendar, points: usize) -> bool
     requires { (16 * i + 16 ≤ length engagements.now) × Ranged c }
-    ensures { result ≡ bad_engagement version c points engagements.now i }
+    ensures { result ≡ bad_engagement c points engagements.now i }
 {
     let a = 16 * i;
     let e = a + 16;
     let row = &engagements[a..e];
-    let good = quarters_good(row, c, points) & terms_good(version, row);
+    let good = place_good(row, c, points) & terms_good(row);
     !good | out_of_order(engagements, i)
 }
 
 // The first bad row of n.
-pub fn judge_engagements(
-    version: u16,
-    engagements: &[u8],
-    n: usize,
-    c: Calendar,
-    points: usize,
-) -> Found
+pub fn judge_engagements(engagements: &[u8], n: usize, c: Calendar, points: usize) -> Found
     requires { (16 * n ≤ length engagements.now) × Ranged c }
-    ensures { found_at result ≡ first (bad_engagement version c points engagements.now) 0 n }
+    ensures { found_at result ≡ first (bad_engagement c points engagements.now) 0 n }
 {
     let mut i = 0;
     while i < n {
-        if bad_engagement(version, engagements, i, c, points) {
+        if bad_engagement(engagements, i, c, points) {
             return Found::At(i);
         }
         i += 1;

@@ -1,9 +1,7 @@
-// The first bad row of the register, the first reading out of range, the first bad engagement and the first without volumes: what refusals 5 to 7 and 14
-// name; and whether a volume is out of range, for 15.
+// The first bad row of the register, the first reading out of range and the first bad engagement: what refusals 5 to 7 name.
 pub mod engagements;
 pub mod metering;
 pub mod register;
-pub mod volumes;
 
 // Where a search ended.
 #[derive(Drop)]

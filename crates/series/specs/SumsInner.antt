@@ -38,7 +38,7 @@ pub record VolumesAddable (grains : List ℕ) (first : ℕ) (volumes : List ℕ)
   pub given : at + n ≤ length volumes
   pub fits : (k : ℕ) → k < n → get_or grains (first + k) 0 + get_or volumes (at + k) 0 < 2 ^ 64
 
--- a calendar, a register, engagements and volumes are those of a book that passes its own refusals
+-- a calendar, a register, engagements and volumes are those of a book that passes refusals 1 to 7
 pub record Parts (c : Calendar) (register engagements volumes : List ℕ) (book : Book) : Type 0 where
   pub sound : Sound book
   pub when : book.calendar ≡ c
@@ -52,7 +52,7 @@ pub record Parted (c : Calendar) (register engagements volumes : List ℕ) : Typ
   pub book : Book
   pub parts : Parts c register engagements volumes book
 
--- the bytes of an accepted book, and numbers that start with its delivered volumes
+-- the bytes of a book that refusals 1 to 9 pass, and numbers that start with its delivered volumes
 pub record DeliveredIn (bytes volumes : List ℕ) : Type 0 where
   pub accepted : book_refusal bytes ≡ none
   pub starts : take (length (book_volumes (book_of bytes))) volumes ≡ book_volumes (book_of bytes)

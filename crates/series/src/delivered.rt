@@ -76,7 +76,7 @@ fn fill_engagements(
     }
 }
 
-// The volumes of an accepted book.
+// The volumes of a book that refusals 1 to 9 pass.
 pub fn fill_volumes(book: &[u8], volumes: &mut [u64])
     requires { (book_refusal book.now ≡ none) × (row_count (book_of book.now) ≤ length volumes.old) }
     ensures { volumes.new ≡ sets volumes.old 0 (book_volumes (book_of book.now)) }

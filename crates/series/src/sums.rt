@@ -193,7 +193,7 @@ fn add_engagements(
     }
 }
 
-// The grains of a series by position, from the delivered volumes of an accepted book.
+// The grains of a series by position, from the delivered volumes of a book that refusals 1 to 9 pass.
 pub fn fill_grains(book: &[u8], volumes: &[u64], role: Role, s: Series, grains: &mut [u64])
     requires { DeliveredIn book.now volumes.now × (month_quarters (book_of book.now).calendar ≤ length grains.old) }
     ensures { grains.new ≡ by_position (grains_at (book_of book.now) role.kind role.receiver s) (month_quarters (book_of book.now).calendar) grains.old }
@@ -221,7 +221,7 @@ pub fn fill_watts(cells: &mut [u64], n: usize)
     }
 }
 
-// The watts of a series by position, from the delivered volumes of an accepted book.
+// The watts of a series by position, from the delivered volumes of a book that refusals 1 to 9 pass.
 pub fn series_watts(book: &[u8], volumes: &[u64], role: Role, s: Series, watts: &mut [u64])
     requires { DeliveredIn book.now volumes.now × (month_quarters (book_of book.now).calendar ≤ length watts.old) }
     ensures { watts.new ≡ by_position (series_watts (book_of book.now) role.kind role.receiver s) (month_quarters (book_of book.now).calendar) watts.old }

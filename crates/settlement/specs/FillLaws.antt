@@ -18,7 +18,6 @@ use Rattle.volumes.specs.SettlementLaws.{settles}
 use Rattle.baseline.specs.declared.shown.Shown.{Shown}
 use Rattle.baseline.specs.ShownLaws.{start_at}
 use Rattle.baseline.specs.FilledInner.{Unrefused, LevelsFilled}
-use Rattle.settlement.specs.AskedInner.{Asked}
 use Rattle.settlement.specs.RowsInner.{readings_from, rows_from}
 use Rattle.settlement.specs.RowsLaws.{rows-from}
 use Rattle.integers.specs.RangesLaws.{map_range_cong}
@@ -39,7 +38,7 @@ module _ {shown : Shown} {calendar readings : List ℕ} {book : Book} (s : Unref
       ap complete (map_range_cong (λ k. reading_at readings (first + k)) (own_reading book shown.e) 0 shown.e.count (λ k _ _. own_at first f k))
       ∙ (both (complete own) (complete other) (sym (complete-append own other) ∙ (settles book shown.e s.good).known)).0
 
-  pub rows_are : {before : List ℕ} (asked levels : List ℕ) (first : ℕ) → Asked book shown.e asked → LevelsFilled shown calendar readings before levels → first ≡ origin_of shown.c shown.e.point + start shown.c shown.e → rows_from book.version shown.e shown.point asked levels readings first ≡ rows_of book shown.e
-  rows_are asked levels first a f g =
-      ap (λ (p : Point). rows_from book.version shown.e p asked levels readings first) (sym s.shows.owner)
-      ∙ rows-from book shown.e asked levels readings first a (f.levels book s) (λ k h. own_at first g k)
+  pub rows_are : {before : List ℕ} (levels : List ℕ) (first : ℕ) → LevelsFilled shown calendar readings before levels → first ≡ origin_of shown.c shown.e.point + start shown.c shown.e → rows_from book.version shown.e shown.point levels readings first ≡ rows_of book shown.e
+  rows_are levels first f g =
+      ap (λ (p : Point). rows_from book.version shown.e p levels readings first) (sym s.shows.owner)
+      ∙ rows-from book shown.e levels readings first (f.levels book s) (λ k h. own_at first g k)

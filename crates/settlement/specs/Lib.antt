@@ -1,6 +1,5 @@
 pub mod RaisedInner
 pub mod RaisedLaws
-pub mod AskedInner
 pub mod RowsInner
 pub mod RowsLaws
 pub mod StoresLaws
@@ -8,7 +7,6 @@ pub mod FillLaws
 pub mod SectionsInner
 pub mod SectionsLaws
 pub mod DrawnLaws
-pub mod AskedLaws
 pub mod DaysInner
 pub mod DaysLaws
 pub mod VerdictsInner

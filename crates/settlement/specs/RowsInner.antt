@@ -36,14 +36,14 @@ first_reading c e = origin_of c e.point + start c e
 abbrev pub readings_from : Engagement → List ℕ → ℕ → List Reading
 readings_from e readings first = map (λ k. reading_at readings (first + k)) (quarter_hours e)
 
--- the row of quarter-hour k, of requested watts, raised baselines and such readings
-abbrev pub row_at : ℕ → Direction → Point → List ℕ → List ℕ → List ℕ → ℕ → ℕ → List ℤ
-row_at version direction point asked levels readings first k =
-    row_from version direction point (grains (get_or asked k 0)) (baseline_of (get_or levels k 0)) (watts (reading_at readings (first + k)))
+-- the row of quarter-hour k, of raised baselines, the requested watts and such readings
+abbrev pub row_at : ℕ → Direction → Point → ℕ → List ℕ → List ℕ → ℕ → ℕ → List ℤ
+row_at version direction point requested levels readings first k =
+    row_from version direction point (grains requested) (baseline_of (get_or levels k 0)) (watts (reading_at readings (first + k)))
 
 -- "Each engagement quarter-hour, in order"
-unfoldable pub rows_from : ℕ → Engagement → Point → List ℕ → List ℕ → List ℕ → ℕ → List ℤ
-rows_from version e point asked levels readings first = flat_map (row_at version e.direction point asked levels readings first) (quarter_hours e)
+unfoldable pub rows_from : ℕ → Engagement → Point → List ℕ → List ℕ → ℕ → List ℤ
+rows_from version e point levels readings first = flat_map (row_at version e.direction point e.requested levels readings first) (quarter_hours e)
 
 -- none of the list's first n numbers is greater
 pub record AllAtMost (top n : ℕ) (l : List ℕ) : Type 0 where

@@ -16,18 +16,17 @@ use Rattle.book.specs.Book.{Book, book_of}
 use Rattle.volumes.specs.Quarters.{quarter_hours, start}
 use Rattle.volumes.specs.Baseline.{point_of, watts, complete, own_reading, baseline}
 use Rattle.volumes.specs.BaselineLaws.{complete-append}
-use Rattle.volumes.specs.Requested.{requested_at}
-use Rattle.volumes.specs.Settlement.{needed_by, needed, limited, delivered_by, delivered, off_take_of, signed, source_correction, fsp_correction, injection_correction, corrections, row_width, row, rows_of}
-use Rattle.volumes.specs.SettlementLaws.{Settles, rows-by}
+use Rattle.volumes.specs.Settlement.{needed_by, needed, requested_at, limited, delivered_by, delivered, off_take_of, signed, source_correction, fsp_correction, injection_correction, corrections, row_width, row, rows_of}
+use Rattle.volumes.specs.SettlementLaws.{Settles}
 use Rattle.volumes.specs.SplitLaws.{off-take-is}
 use Rattle.wire.specs.ReadingsInner.{raise}
 use Rattle.settlement.specs.RaisedInner.{bias, baseline_of, watts_of}
 use Rattle.settlement.specs.RaisedLaws.{over-level, over-grains, is-level}
-use Rattle.settlement.specs.AskedInner.{Asked}
 use Rattle.settlement.specs.RowsInner.{row_from, first_reading, readings_from, row_at, rows_from, largest}
+use Rattle.settlement.specs.StoresLaws.{flat_map_range_cong}
 use Rattle.integers.specs.RangesLaws.{map_range_cong}
 
-pub row-from : (book : Book) (e : Engagement) (k : ℕ) → row book e k ≡ row_from book.version e.direction (point_of book e) (requested_at book e k) (baseline book e k) (watts (own_reading book e k))
+pub row-from : (book : Book) (e : Engagement) (k : ℕ) → row book e k ≡ row_from book.version e.direction (point_of book e) (requested_at e k) (baseline book e k) (watts (own_reading book e k))
 unfolding row corrections source_correction fsp_correction injection_correction delivered row_from
 row-from book e k = refl
 
@@ -35,16 +34,19 @@ pub from-length : (version : ℕ) (direction : Direction) (point : Point) (reque
 unfolding row_from
 from-length version direction point requested baseline read = refl
 
--- where the requested watts are the book's, and the raised baselines and the readings
-pub rows-from : (book : Book) (e : Engagement) (asked levels readings : List ℕ) (first : ℕ)
-    → Asked book e asked
+-- where the raised baselines are the book's, and the readings
+pub rows-from : (book : Book) (e : Engagement) (levels readings : List ℕ) (first : ℕ)
     → ((k : ℕ) → k < e.count → Over bias (baseline book e k) (get_or levels k 0))
     → ((k : ℕ) → k < e.count → reading_at readings (first + k) ≡ own_reading book e k)
-    → rows_from book.version e (point_of book e) asked levels readings first ≡ rows_of book e
-unfolding rows_from quarter_hours requested_at
-rows-from book e asked levels readings first a b w =
-    rows-by book e (row_at book.version e.direction (point_of book e) asked levels readings first)
-    (λ k i. rw (a.each k i, w k i, ← is-level (b k i)) (sym (row-from book e k)))
+    → rows_from book.version e (point_of book e) levels readings first ≡ rows_of book e
+unfolding rows_from rows_of quarter_hours requested_at
+rows-from book e levels readings first b w =
+    flat_map_range_cong
+    (row_at book.version e.direction (point_of book e) e.requested levels readings first)
+    (row book e)
+    0
+    e.count
+    (λ k _ h. let i : k < e.count = omega arith in rw (w k i, ← is-level (b k i)) (sym (row-from book e k)))
 
 -- the readings of a book's bytes are its own, and none is missing where the engagement is not refused
 pub own-reading : (bytes : List ℕ) (e : Engagement) (k : ℕ) → reading_at (reading_section bytes) (first_reading (calendar_of bytes) e + k) ≡ own_reading (book_of bytes) e k

@@ -7,12 +7,11 @@ use Rattle.integers.specs.Sums.{sum_of}
 use Rattle.integers.specs.First.{any_of}
 use Rattle.book.specs.declared.Engagement.{Engagement}
 use Rattle.book.specs.declared.Point.{Point}
-use Rattle.book.specs.Header.{version_of, calendar_of, point_count, point_width, engagement_width, calendar_section, table_section, register_section, reading_section, volume_section}
+use Rattle.book.specs.Header.{version_of, calendar_of, point_count, point_width, engagement_width, calendar_section, table_section, register_section, reading_section}
 use Rattle.book.specs.Tables.{category_at, x_at, y_at}
 use Rattle.book.specs.Register.{point_at}
 use Rattle.book.specs.Metering.{meter_at}
 use Rattle.book.specs.Engagements.{engagement_at}
-use Rattle.book.specs.Volumes.{volumes_in}
 use Rattle.book.specs.Book.{Book}
 use Rattle.book.specs.Judged.{refusal_of}
 use Rattle.volumes.specs.Baseline.{is_on}
@@ -45,7 +44,6 @@ book_with bytes engagements =
       points = map (point_at (register_section bytes)) (range 0 (point_count bytes));
       reading = meter_at (calendar_of bytes) (reading_section bytes);
       engagements = engagements_in engagements;
-      volumes = volumes_in (volume_section (version_of bytes) bytes);
     }
 
 -- these engagements hold one of point p on day d
@@ -67,7 +65,7 @@ shown_in bytes engagements masks i =
       y = y_at (table_section bytes) category;
     }
 
--- the bytes pass their own refusals, and with these engagements too they are a sound book
+-- the bytes pass refusals 1 to 7, and with these engagements too they are a sound book
 pub record Opened (bytes engagements : List ℕ) : Type 0 where
   pub passed : refusal_of bytes ≡ none
   pub sound : Sound (book_with bytes engagements)

@@ -1,8 +1,8 @@
--- The sections of a book that passes its own refusals are parts of its bytes; with its own engagements it is itself.
+-- The sections of a book that passes refusals 1 to 7 are parts of its bytes; with its own engagements it is itself.
 use Rattle.std.specs.Prelude.{◌≡◌, refl, true, List, ℕ, zero, suc, ◌+◌, ◌≤◌, length}
 use Rattle.std.proofs.Common.{ap, ◌∙◌, arith}
 use Rattle.std.proofs.Math.Option.{none}
-use Rattle.book.specs.Header.{version_of, lists_volumes, calendar_of, point_count, engagement_count, offset_of, length_of, header_good, layout_good, register_section, engagement_section}
+use Rattle.book.specs.Header.{calendar_of, point_count, engagement_count, offset_of, length_of, header_good, layout_good, register_section, engagement_section}
 use Rattle.book.specs.HeaderLaws.{LaidOut, laid, headed}
 use Rattle.book.specs.Book.{book_of}
 use Rattle.book.specs.Judged.{refusal_of}
@@ -13,9 +13,9 @@ use Rattle.volumes.specs.SettlementLaws.{passing}
 use Rattle.settlement.specs.SectionsInner.{point_count_in, engagement_count_in, engagements_in, engaged_in, row_count_in, book_with, Opened}
 
 -- the sections, as a good layout says
-pub all_held : (bytes : List ℕ) → refusal_of bytes ≡ none → LaidOut bytes (version_of bytes) (calendar_of bytes) (point_count bytes) (engagement_count bytes)
+pub all_held : (bytes : List ℕ) → refusal_of bytes ≡ none → LaidOut bytes (calendar_of bytes) (point_count bytes) (engagement_count bytes)
 unfolding layout_good
-all_held bytes e = laid bytes (version_of bytes) (calendar_of bytes) (point_count bytes) (engagement_count bytes) (passes bytes e).layout
+all_held bytes e = laid bytes (calendar_of bytes) (point_count bytes) (engagement_count bytes) (passes bytes e).layout
 
 pub bytes-headed : (bytes : List ℕ) → refusal_of bytes ≡ none → header_good bytes ≡ true
 bytes-headed bytes e = (passes bytes e).header
@@ -27,7 +27,7 @@ bytes-long bytes e = (all_held bytes e).long
 pub section-inside : (bytes : List ℕ) → refusal_of bytes ≡ none → (k : ℕ) → k ≤ 4 → offset_of bytes k + length_of bytes k ≤ length bytes
 section-inside bytes e k h = at k h
   where
-    l : LaidOut bytes (version_of bytes) (calendar_of bytes) (point_count bytes) (engagement_count bytes)
+    l : LaidOut bytes (calendar_of bytes) (point_count bytes) (engagement_count bytes)
     l = all_held bytes e
 
     at : (k : ℕ) → k ≤ 4 → offset_of bytes k + length_of bytes k ≤ length bytes
@@ -37,9 +37,6 @@ section-inside bytes e k h = at k h
     at (suc (suc (suc zero))) h = l.readings.inside
     at (suc (suc (suc (suc zero)))) h = l.engagements.inside
     at (suc (suc (suc (suc (suc n))))) h = absurd (omega arith)
-
-pub volumes-inside : (bytes : List ℕ) → refusal_of bytes ≡ none → lists_volumes (version_of bytes) ≡ true → (64 ≤ length bytes) × (offset_of bytes 5 + length_of bytes 5 ≤ length bytes)
-volumes-inside bytes e t = let v = (all_held bytes e).volumes t in (v.long, v.held.inside)
 
 -- the rows that the lengths tell are those that the header counts
 pub points-counted : (bytes : List ℕ) → refusal_of bytes ≡ none → point_count_in (register_section bytes) ≡ point_count bytes

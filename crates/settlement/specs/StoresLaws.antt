@@ -1,15 +1,15 @@
 -- Stores in a row: runs of stores one behind the other are one, and parts of one length are stored one behind the other.
-use Rattle.std.specs.Prelude.{◌≡◌, ℕ, suc, ◌+◌, ◌*◌, ◌<◌, set, drop}
-use Rattle.std.proofs.Math.Path.{ap}
+use Rattle.std.specs.Prelude.{◌≡◌, set}
+use Rattle.std.proofs.Math.Path.{refl, ap, ap₂}
 use Rattle.std.proofs.Common.{◌∙◌, add-zero, zero-add, add-suc, suc-add, arith, add-one}
-use mathlib.Core.List.{List, [], ◌∷◌, ◌++◌, map, flat_map, append-nil}
+use mathlib.Core.List.{List, [], ◌∷◌, ◌++◌, flat_map, append-nil}
+use Prim.Native.Nat.{ℕ, zero, suc, ◌+◌, ◌*◌, ◌≤◌, ◌<◌}
 use Rattle.std.proofs.Math.Numerals.{add-two}
 use Rattle.std.proofs.Math.ListN.{length}
-use Rattle.std.proofs.lemmas.List.{length-map}
 use Rattle.std.proofs.lemmas.List.Edits.{sets}
 use Rattle.integers.specs.Ranges.{range}
-use Rattle.integers.specs.RangesLaws.{length-range, range-next, map_range_next}
-use Rattle.integers.specs.ListsLaws.{flat_map_append, length_flat_map, next-cell}
+use Rattle.integers.specs.RangesLaws.{length-range, range-next}
+use Rattle.integers.specs.ListsLaws.{flat_map_append, length_flat_map}
 
 module _ {ℓ} {A : Type ℓ} where
   pub sets_append : (l : List A) (at : ℕ) (a b : List A) → sets (sets l at a) (at + length a) b ≡ sets l at (a ++ b)
@@ -35,11 +35,9 @@ module _ {ℓ} {A : Type ℓ} where
       ∙ ap (λ z. flat_map f (range 0 k) ++ z) (append-nil (f (0 + k)) ∙ ap f (zero-add k)) in
       rw (e, ← n) (sets_append l at (flat_map f (range 0 k)) (f k))
 
--- what a function makes of k, stored behind what it makes of the numbers before
-pub made-next : (f : ℕ → ℕ) (l : List ℕ) (k v : ℕ) → v ≡ f k → k < length l → set (map f (range 0 k) ++ drop k l) k v ≡ map f (range 0 (k + 1)) ++ drop (k + 1) l
-made-next f l k v e h =
-    next-cell (map f (range 0 k)) l k v (length-map (range 0 k) f ∙ length-range 0 k) h
-    ∙ ap (λ (m : List ℕ). m ++ drop (k + 1) l) all
-  where
-    all : map f (range 0 k) ++ (v ∷ []) ≡ map f (range 0 (k + 1))
-    all = rw (add-one, map_range_next f 0 k, zero-add k, e)
+  -- functions that agree on the numbers
+  pub flat_map_range_cong : (f g : ℕ → List A) (a n : ℕ) → ((i : ℕ) → a ≤ i → i < a + n → f i ≡ g i) → flat_map f (range a n) ≡ flat_map g (range a n)
+  unfolding flat_map range
+  flat_map_range_cong f g a zero h = refl
+  flat_map_range_cong f g a (suc n) h =
+      ap₂ ◌++◌ (h a (omega arith) (omega arith)) (flat_map_range_cong f g (suc a) n (λ i p q. h i (omega arith) (omega arith)))

@@ -1,10 +1,9 @@
-// An engagement's rows, from what it asks for, its baselines and its readings.
+// An engagement's rows, from its baselines and its readings.
 ghost use Rattle.std.specs.Prelude.{◌≡◌, ◌+◌, ◌*◌, ◌≤◌, length};
 ghost use Rattle.std.proofs.lemmas.List.Edits.{sets};
 ghost use Rattle.book.specs.Book.{Book};
 ghost use Rattle.volumes.specs.Settlement.{row_width, rows_of};
 ghost use Rattle.baseline.specs.FilledInner.{Unrefused, Accepts};
-ghost use Rattle.settlement.specs.AskedInner.{Asked};
 
 use baseline::shown::Shown;
 
@@ -14,12 +13,11 @@ pub fn settle_engagement(
     shown: Shown,
     calendar: &[u8],
     readings: &[u8],
-    asked: &[u32],
     out: &mut [i64],
     at: usize,
 )
-    requires { Accepts shown calendar.now readings.now × (shown.e.count ≤ length asked.now) × (at + row_width * shown.e.count ≤ length out.old) }
-    ensures { (b : Book) → b.version ≡ version → Asked b shown.e asked.now → Unrefused shown calendar.now readings.now b → out.new ≡ sets out.old at (rows_of b shown.e) }
+    requires { Accepts shown calendar.now readings.now × (at + row_width * shown.e.count ≤ length out.old) }
+    ensures { (b : Book) → b.version ≡ version → Unrefused shown calendar.now readings.now b → out.new ≡ sets out.old at (rows_of b shown.e) }
 {
     let c = shown.c;
     let e = shown.e;
@@ -27,5 +25,5 @@ pub fn settle_engagement(
     let mut levels = [0u64; quarters::LONGEST_DAY];
     baseline::fill::fill_levels(shown, calendar, readings, &mut levels);
     let first = quarters::origin_of(c, e.point) + quarters::in_calendar(c, e.day, e.first);
-    crate::rows::write_rows(out, at, version, e, point, asked, &levels, readings, first);
+    crate::rows::write_rows(out, at, version, e, point, &levels, readings, first);
 }

@@ -1,4 +1,4 @@
-// Refusals 1 to 9, 14 and 15: those of the book, then by engagement.
+// Refusals 1 to 9: those of the book, then by engagement.
 ghost use Rattle.std.specs.Prelude.{◌≡◌, ◌<◌};
 ghost use Rattle.book.specs.Header.{calendar_of};
 ghost use Rattle.book.specs.Engagements.{engagement_at};
@@ -32,8 +32,6 @@ fn verdict_of(judged: Judged) -> Verdict
         Judged::Register(row) => Verdict::Refused(5, row),
         Judged::Readings(point) => Verdict::Refused(6, point),
         Judged::Engagements(row) => Verdict::Refused(7, row),
-        Judged::Place(row) => Verdict::Refused(14, row),
-        Judged::Volumes => Verdict::Refused(15, 0),
     }
 }
 
@@ -73,7 +71,7 @@ pub fn judge_engagements(c: Calendar, book: &[u8], engagements: &[u8], engaged: 
     Verdict::Passed
 }
 
-// Refusals 1 to 9, 14 and 15.
+// Refusals 1 to 9.
 pub fn judge_settlement(book: &[u8]) -> Verdict
     ensures { refusal_in result ≡ book_refusal book.now }
 {

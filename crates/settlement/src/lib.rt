@@ -1,5 +1,4 @@
 // Settling: judging a book to the end, and the rows of its engagements.
-pub mod asked;
 pub mod days;
 pub mod fill;
 pub mod judge;

@@ -129,31 +129,31 @@ pub fn write_row(
     let most = largest(direction, point);
     let volume = delivered(direction, most, level, raised);
     let source = source_volume(version, direction, level, raised, volume);
-    let wanted = Grains::from_watts(requested).count;
+    let asked = Grains::from_watts(requested).count;
     out[at] = baseline_of(level);
     out[at + 1] = difference(volume, 0);
     out[at + 2] = correction(direction, source, 0);
-    out[at + 3] = correction(direction, wanted, volume);
+    out[at + 3] = correction(direction, asked, volume);
     out[at + 4] = correction(direction, volume, source);
 }
 
-// An engagement's rows, from `at` on: `asked` are its requested watts and `levels` its raised baselines, by quarter-hour, and its own readings start at reading `first`.
+// An engagement's rows, from `at` on: `levels` are its raised baselines, and its own readings start at reading `first`.
 pub fn write_rows(
     out: &mut [i64],
     at: usize,
     version: u16,
     e: Engagement,
     point: Point,
-    asked: &[u32],
     levels: &[u64],
     readings: &[u8],
     first: usize,
 )
-    requires { (at + row_width * e.count ≤ length out.old) × (e.count ≤ length asked.now) × (e.count ≤ length levels.now) × AllAtMost greatest e.count levels.now × (4 * (first + e.count) ≤ length readings.now) × (complete (readings_from e readings.now first) ≡ true) }
-    ensures { out.new ≡ sets out.old at (rows_from version e point asked.now levels.now readings.now first) }
+    requires { (at + row_width * e.count ≤ length out.old) × (e.count ≤ length levels.now) × AllAtMost greatest e.count levels.now × (4 * (first + e.count) ≤ length readings.now) × (complete (readings_from e readings.now first) ≡ true) }
+    ensures { out.new ≡ sets out.old at (rows_from version e point levels.now readings.now first) }
 {
     let count = e.count as usize;
     let direction = e.direction;
+    let requested = e.requested;
     let mut k: usize = 0;
     while k < count {
         let raised = wire::raised_at(readings, first + k);
@@ -163,7 +163,7 @@ pub fn write_rows(
             version,
             direction,
             point,
-            asked[k],
+            requested,
             levels[k],
             raised,
         );

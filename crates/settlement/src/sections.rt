@@ -1,27 +1,19 @@
 // The sections of a book that has been judged, and what they show of an engagement.
 ghost use Rattle.std.specs.Prelude.{◌≡◌, ◌≤◌, ◌<◌, length};
 ghost use Rattle.std.proofs.Math.Option.{none};
-ghost use Rattle.book.specs.Header.{version_of, section_of, volume_section, calendar_of};
+ghost use Rattle.book.specs.Header.{section_of, calendar_of};
 ghost use Rattle.book.specs.Judged.{refusal_of};
 ghost use Rattle.settlement.specs.SectionsInner.{engagement_count_in, shown_in, Opened};
 
 use baseline::shown::Shown;
 use quarters::Calendar;
 
-// The section that extent k names, of a book that passes its own refusals.
+// The section that extent k names, of a book that passes refusals 1 to 7.
 pub fn section(book: &[u8], k: usize) -> &[u8]
     requires { (refusal_of book.now ≡ none) × (k ≤ 4) }
     ensures { result.now ≡ section_of book.now k }
 {
     book::sections::section(book, k)
-}
-
-// The volumes of such a book; a book that lists none has an empty part.
-pub fn volume_section(book: &[u8]) -> &[u8]
-    requires { refusal_of book.now ≡ none }
-    ensures { result.now ≡ volume_section (version_of book.now) book.now }
-{
-    book::sections::volume_section(book, book::header::version_of(book))
 }
 
 // What a book shows of engagement i; `engaged` has the days on which each point has one.

@@ -38,7 +38,7 @@ pub fn count_rows(engagements: &[u8]) -> usize
     count
 }
 
-// The rows of a book that passes its own refusals.
+// The rows of a book that passes refusals 1 to 7.
 pub fn row_count(book: &[u8]) -> usize
     requires { refusal_of book.now ≡ none }
     ensures { (result ≡ row_count (book_of book.now)) × (result ≤ 130560) }
@@ -63,12 +63,8 @@ pub fn settle_engagement_at(
     let version = book::header::version_of(book);
     let calendar = crate::sections::section(book, 0);
     let readings = crate::sections::section(book, 3);
-    let volumes = crate::sections::volume_section(book);
-    let e = shown.e;
-    let mut asked = [0u32; quarters::LONGEST_DAY];
-    crate::asked::fill_asked(version, volumes, e, &mut asked);
-    crate::fill::settle_engagement(version, shown, calendar, readings, &asked, out, at);
-    at + ROW_WIDTH * (e.count as usize)
+    crate::fill::settle_engagement(version, shown, calendar, readings, out, at);
+    at + ROW_WIDTH * (shown.e.count as usize)
 }
 
 // The rows of all engagements, of a book that is not refused.
@@ -91,7 +87,7 @@ pub fn settle_engagements(
     }
 }
 
-// The rows of an accepted book.
+// The rows of a book that refusals 1 to 9 pass.
 pub fn fill_book(book: &[u8], out: &mut [i64])
     requires { (book_refusal book.now ≡ none) × (row_width * row_count (book_of book.now) ≤ length out.old) }
     ensures { out.new ≡ sets out.old 0 (rows (book_of book.now)) }

@@ -85,7 +85,7 @@ module _ (version : ℕ) (register : List ℕ) where
   unfolding stands
   party_here party i h p = le-leb 1 _ (in_row party i (point_count_in register) h (leb-true 1 (times party (parties_of version (point_at register i))) p))
 
--- the parties of the register of a book that passes its own refusals
+-- the parties of the register of a book that passes refusals 1 to 7
 pub parties-are : (bytes : List ℕ) → refusal_of bytes ≡ none → parties_in (version_of bytes) (register_section bytes) ≡ parties (book_of bytes)
 unfolding parties book_of parties_to
 parties-are bytes h = rw (points-counted bytes h)

@@ -72,7 +72,7 @@ module _ (book : Book) (e : Engagement) (l : List ℤ) (room : row_width * e.cou
       (λ k _ h. let q : k < e.count = omega arith in rw (source-read k q, fsp-read k q, injection-read k q) (sym (correction-inside book party e k q)))
 
   -- which are small enough to add up
-  pub rows_small : Sound book → OnTerms book e → RowsSmall (sets l 0 (rows_of book e)) e.count
+  pub rows_small : Sound book → OnTerms e → RowsSmall (sets l 0 (rows_of book e)) e.count
   rows_small s t =
       record {
         source = λ k h. rw (source-read k h) (bounded-more (source_bounded book s e k) (omega arith));

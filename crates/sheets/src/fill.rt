@@ -60,7 +60,7 @@ pub fn fill_cells(
     }
 }
 
-// How many cells a sheet of a book has that passes its own refusals.
+// How many cells a sheet of a book has that passes refusals 1 to 7.
 pub fn sheet_length(book: &[u8]) -> usize
     requires { refusal_of book.now ≡ none }
     ensures { result ≡ month_quarters (book_of book.now).calendar }
@@ -68,7 +68,7 @@ pub fn sheet_length(book: &[u8]) -> usize
     quarters::month_quarters(book::header::calendar_of(book))
 }
 
-// Fills the sheet of a party, of an accepted book; what stands behind it is left.
+// Fills the sheet of a party, of a book that refusals 1 to 9 pass; what stands behind it is left.
 pub fn fill_sheet(book: &[u8], party: u16, sums: &mut [i64])
     requires { (book_refusal book.now ≡ none) × (month_quarters (book_of book.now).calendar ≤ length sums.old) }
     ensures { sums.new ≡ sheet (book_of book.now) party ++ drop (month_quarters (book_of book.now).calendar) sums.old }

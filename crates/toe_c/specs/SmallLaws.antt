@@ -82,7 +82,7 @@ decoded number item h =
       item_is = omega (arith, h.item_few);
     }
 
--- ---- all of a book's, and a settling's 10
+-- ---- 1 to 9, and a settling's 10
 
 listed_small : (number item : ℕ) → Listed number item → Small number item
 listed_small number item h = few number item (omega (arith, h.most)) h.few
@@ -103,7 +103,7 @@ settle-small {bytes} {before} s =
     let n = row_count (book_of bytes) in
     rw (s.answer, settle-by x n) (by-small x n (settling-small bytes (length before)))
 
--- a book's, 11 and 10
+-- 1 to 9, 11 and 10
 sheet-judged : (bytes : List ℕ) (party lent : ℕ) → AllSmall (sheet_refusal bytes party lent)
 sheet-judged bytes party lent = each-under (sheet_refusal bytes party lent) listed_small (sheet-listed bytes party lent)
 
@@ -114,7 +114,7 @@ sheet-small {bytes} {party} {before} s =
     let n = month_quarters (book_of bytes).calendar in
     rw (s.answer, sheet-by x n) (by-small x n (sheet-judged bytes party (length before)))
 
--- a book's, 12, 11, 12 and 10
+-- 1 to 9, 12, 11, 12 and 10
 file-judged : (bytes : List ℕ) (kind receiver : ℕ) (id moment : List ℕ) (rows_lent file_lent : ℕ) → AllSmall (file_refusal bytes kind receiver id moment rows_lent file_lent)
 file-judged bytes kind receiver id moment rows_lent file_lent =
     each-under (file_refusal bytes kind receiver id moment rows_lent file_lent) listed_small (file-listed bytes kind receiver id moment rows_lent file_lent)

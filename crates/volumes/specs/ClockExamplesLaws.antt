@@ -38,7 +38,7 @@ april = record { year = 2019; month = 4; lead = 1; clock = Shorter 0 }
 -- on a day, from a quarter-hour on, so many; and with a notice
 unfoldable pub noticed : ℕ → ℕ → ℕ → ℕ → Engagement
 noticed day first count notice =
-    record { point = 0; day = day; first = first; count = count; direction = Up; notice = notice; requested = 100; place = 0 }
+    record { point = 0; day = day; first = first; count = count; direction = Up; notice = notice; requested = 100 }
 
 unfoldable pub from : ℕ → ℕ → ℕ → Engagement
 from day first count = noticed day first count 0
@@ -55,7 +55,6 @@ over c method y reading =
       points = point 1 method 5000 ∷ [];
       reading = λ p q. reading q;
       engagements = [];
-      volumes = [];
     }
 
 -- "Day 33 reads 10 W at 8, day 34 15 W at 9, else 0"

@@ -53,11 +53,11 @@ point = point_for 10 20 0
 -- an engagement of a point on "day 3 from quarter-hour 0": count, direction, requested watts
 unfoldable pub engagement : ℕ → ℕ → Direction → ℕ → Engagement
 engagement p count direction requested =
-    record { point = p; day = 3; first = 0; count = count; direction = direction; notice = 0; requested = requested; place = 0 }
+    record { point = p; day = 3; first = 0; count = count; direction = direction; notice = 0; requested = requested }
 
--- a book with these volumes, of a version, of June, with these categories, X and Y of them all, points, readings by day and quarter-hour, and engagements
-unfoldable pub book_on : List ℕ → ℕ → (ℕ → ℕ) → ℕ → ℕ → List Point → (ℕ → ℕ → Reading) → List Engagement → Book
-book_on volumes version categories x y points reading engagements =
+-- a book of a version, of June, with these categories, X and Y of them all, points, readings by day and quarter-hour, and engagements
+unfoldable pub book : ℕ → (ℕ → ℕ) → ℕ → ℕ → List Point → (ℕ → ℕ → Reading) → List Engagement → Book
+book version categories x y points reading engagements =
     record {
       version = version;
       calendar = june;
@@ -67,12 +67,7 @@ book_on volumes version categories x y points reading engagements =
       points = points;
       reading = λ p q. reading (q / quarters june 0) (q % quarters june 0);
       engagements = engagements;
-      volumes = volumes;
     }
-
--- without volumes
-unfoldable pub book : ℕ → (ℕ → ℕ) → ℕ → ℕ → List Point → (ℕ → ℕ → Reading) → List Engagement → Book
-book = book_on []
 
 -- "all categories 0", in version 1
 unfoldable pub plain : ℕ → ℕ → List Point → (ℕ → ℕ → Reading) → List Engagement → Book

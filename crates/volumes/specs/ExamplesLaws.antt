@@ -14,12 +14,11 @@ use Rattle.quarters.specs.QuartersInner.{Ranged}
 use Rattle.volumes.specs.Quarters.{quarter_hours, start, looks_at, reference_quarter, reference, touches_day, touches}
 use Rattle.volumes.specs.Ranking.{insert, ranked}
 use Rattle.volumes.specs.Baseline.{point_of, watts, known, complete, mean, reading_before, window, own_reading, day_reading, day_readings, own_window, day_window, windowed, allowed, suits, engaged, clear, regular, eligible, before, eligible_days, latest, day_sum, taken, high, addend, last_reading, baseline_by, baseline}
-use Rattle.volumes.specs.Requested.{requested_watts, requested_at}
-use Rattle.volumes.specs.Settlement.{needed_by, needed, too_few, refusal_number, row_refusal, refusal_from, settlement_refusal, limited, delivered_by, delivered, off_take_of, off_take_difference, off_take_share, injection_share, source_by, injection_by, signed, source_correction, fsp_correction, injection_correction, corrections, row, rows_of, rows}
+use Rattle.volumes.specs.Settlement.{needed_by, needed, too_few, refusal_number, row_refusal, refusal_from, settlement_refusal, requested_at, limited, delivered_by, delivered, off_take_of, off_take_difference, off_take_share, injection_share, source_by, injection_by, signed, source_correction, fsp_correction, injection_correction, corrections, row, rows_of, rows}
 use Rattle.volumes.specs.Sheets.{covers, quarter_at, parties_of, parties, share_of, correction_at, sheet_at, requested_by, requested_volume}
 use Rattle.volumes.specs.Series.{takes, receiver_of, partner_of, same_supply, same_direction, is_point, is_engagement, grains_of, grains_at, series_watts}
-use Rattle.volumes.specs.Examples.{june, point_for, point, engagement, book_on, book, plain, by_day, by_quarter, engagement_f, book_f, case_f, series, thirds, halves, risen, equal_sums, shifted, windows, Checked}
-use Rattle.volumes.specs.FurtherLaws.{one, next, on, flat, gap, rising, turns, one_party, crossing, three_parties, asks_up, asks_down, listing, Further}
+use Rattle.volumes.specs.Examples.{june, point_for, point, engagement, book, plain, by_day, by_quarter, engagement_f, book_f, case_f, series, thirds, halves, risen, equal_sums, shifted, windows, Checked}
+use Rattle.volumes.specs.FurtherLaws.{one, next, on, flat, gap, rising, turns, one_party, crossing, three_parties, Further}
 
 -- June 2021 has no clock-change day, nor have its lead days
 pub june-ranged : Ranged june
@@ -27,7 +26,7 @@ unfolding june
 june-ranged = record { from = lit≤ tt; to = lit≤ tt; january = lit≤ tt; december = lit≤ tt; some = lit≤ tt; few = lit≤ tt; clock = sym (summer-clock 2021 6 3 (lit≤ tt) (lit≤ tt) (lit≤ tt)) }
 
 pub checked : Checked
-unfolding june point_for point engagement book_on book plain by_day by_quarter engagement_f book_f case_f series thirds halves risen equal_sums shifted windows quarters_by quarters is_clock_change day_start quarter_hours start looks_at reference_quarter reference touches_day touches any_below calendar_days month_length leap position insert ranked point_of watts known complete mean reading_before window own_reading day_reading day_readings own_window day_window windowed allowed suits engaged any_of clear regular eligible before keep eligible_days latest day_sum taken high addend last_reading baseline_by baseline needed_by needed too_few refusal_number row_refusal refusal_from settlement_refusal requested_watts requested_at limited delivered_by delivered off_take_of off_take_difference off_take_share injection_share source_by injection_by signed source_correction fsp_correction injection_correction corrections row rows_of rows covers quarter_at takes receiver_of partner_of same_supply same_direction is_point is_engagement grains_of grains_at series_watts range sum_by up_to floor_at flat_map
+unfolding june point_for point engagement book plain by_day by_quarter engagement_f book_f case_f series thirds halves risen equal_sums shifted windows quarters_by quarters is_clock_change day_start quarter_hours start looks_at reference_quarter reference touches_day touches any_below calendar_days month_length leap position insert ranked point_of watts known complete mean reading_before window own_reading day_reading day_readings own_window day_window windowed allowed suits engaged any_of clear regular eligible before keep eligible_days latest day_sum taken high addend last_reading baseline_by baseline needed_by needed too_few refusal_number row_refusal refusal_from settlement_refusal requested_at limited delivered_by delivered off_take_of off_take_difference off_take_share injection_share source_by injection_by signed source_correction fsp_correction injection_correction corrections row rows_of rows covers quarter_at takes receiver_of partner_of same_supply same_direction is_point is_engagement grains_of grains_at series_watts range sum_by up_to floor_at flat_map
 checked =
     record {
       p1 = refl;
@@ -51,7 +50,7 @@ checked =
     }
 
 pub further : Further
-unfolding one next on flat gap rising turns one_party crossing three_parties asks_up asks_down listing june point_for point engagement book_on book plain by_day by_quarter engagement_f book_f case_f series thirds halves risen equal_sums shifted windows quarters_by quarters is_clock_change day_start quarter_hours start looks_at reference_quarter reference touches_day touches any_below calendar_days month_length leap position insert ranked point_of watts known complete mean reading_before window own_reading day_reading day_readings own_window day_window windowed allowed suits engaged any_of clear regular eligible before keep eligible_days latest day_sum taken high addend last_reading baseline_by baseline needed_by needed too_few refusal_number row_refusal refusal_from settlement_refusal requested_watts requested_at limited delivered_by delivered off_take_of off_take_difference off_take_share injection_share source_by injection_by signed source_correction fsp_correction injection_correction corrections row rows_of rows covers quarter_at parties_of parties share_of correction_at sheet_at requested_by requested_volume takes receiver_of partner_of same_supply same_direction is_point is_engagement grains_of grains_at series_watts range sum_by up_to floor_at flat_map zip zip_with
+unfolding one next on flat gap rising turns one_party crossing three_parties june point_for point engagement book plain by_day by_quarter engagement_f book_f case_f series thirds halves risen equal_sums shifted windows quarters_by quarters is_clock_change day_start quarter_hours start looks_at reference_quarter reference touches_day touches any_below calendar_days month_length leap position insert ranked point_of watts known complete mean reading_before window own_reading day_reading day_readings own_window day_window windowed allowed suits engaged any_of clear regular eligible before keep eligible_days latest day_sum taken high addend last_reading baseline_by baseline needed_by needed too_few refusal_number row_refusal refusal_from settlement_refusal requested_at limited delivered_by delivered off_take_of off_take_difference off_take_share injection_share source_by injection_by signed source_correction fsp_correction injection_correction corrections row rows_of rows covers quarter_at parties_of parties share_of correction_at sheet_at requested_by requested_volume takes receiver_of partner_of same_supply same_direction is_point is_engagement grains_of grains_at series_watts range sum_by up_to floor_at flat_map zip zip_with
 further =
     record {
       enough = refl;
@@ -91,9 +90,4 @@ further =
       source_columns = refl;
       party_zero = (refl, refl, refl);
       requested = (refl, refl);
-      by_volume = refl;
-      volume_sheet = refl;
-      volume_requested = refl;
-      by_request = refl;
-      request_requested = (refl, refl);
     }

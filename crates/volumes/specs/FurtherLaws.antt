@@ -12,21 +12,21 @@ use Rattle.book.specs.declared.Engagement.{Engagement}
 use Rattle.refusals.specs.Refusals.{refused}
 use Rattle.book.specs.Book.{Book}
 use Rattle.volumes.specs.Baseline.{latest, baseline}
-use Rattle.volumes.specs.Settlement.{settlement_refusal, fsp_correction, rows}
+use Rattle.volumes.specs.Settlement.{settlement_refusal, rows}
 use Rattle.volumes.specs.Sheets.{parties, sheet_at, requested_volume}
 use Rattle.volumes.specs.Series.{Toe01, Toe02, Toe03, series_watts}
-use Rattle.volumes.specs.Examples.{point_for, point, engagement, book_on, book, plain, by_day, by_quarter, book_f, case_f, series, risen, plus, minus}
+use Rattle.volumes.specs.Examples.{point_for, point, engagement, book, plain, by_day, book_f, case_f, series, risen, plus, minus}
 
 -- an engagement of one quarter-hour, and of the next one
 unfoldable pub one : Engagement
 one = engagement 0 1 Up 100
 
 unfoldable pub next : Engagement
-next = record { point = 0; day = 3; first = 1; count = 1; direction = Up; notice = 0; requested = 100; place = 0 }
+next = record { point = 0; day = 3; first = 1; count = 1; direction = Up; notice = 0; requested = 100 }
 
 -- of a point, on a day, in a quarter-hour
 unfoldable pub on : ℕ → ℕ → ℕ → Engagement
-on p day first = record { point = p; day = day; first = first; count = 1; direction = Up; notice = 0; requested = 100; place = 0 }
+on p day first = record { point = p; day = day; first = first; count = 1; direction = Up; notice = 0; requested = 100 }
 
 -- four days, by any method and Y
 unfoldable pub flat : Method → ℕ → List Engagement → Book
@@ -56,20 +56,6 @@ crossing version parties base read most direction =
 -- parties 10, 20 and, for injection, 30
 unfoldable pub three_parties : ℕ → Method → ℕ → Point
 three_parties = point_for 10 20 30
-
--- C-15: two points by method 0, which read 300 W in quarter-hour 0 of day 3; the first is to go up in 1 to 3, from the second volume on, or 15 W, the other down
--- in 3 and 4, from the first volume on, or 8 W
-unfoldable pub asks_up : Engagement
-asks_up = record { point = 0; day = 3; first = 1; count = 3; direction = Up; notice = 0; requested = 15; place = 1 }
-
-unfoldable pub asks_down : Engagement
-asks_down = record { point = 1; day = 3; first = 3; count = 2; direction = Down; notice = 2; requested = 8; place = 0 }
-
-unfoldable pub listing : ℕ → Book
-listing version =
-    book_on (9 ∷ 5 ∷ 0 ∷ 7 ∷ []) version (λ d. 0) 1 1 (three_parties 1 LastQuarter 5000 ∷ three_parties 2 LastQuarter 5000 ∷ [])
-    (by_quarter ([] ∷ [] ∷ [] ∷ (300 ∷ 298 ∷ 200 ∷ 297 ∷ 340 ∷ []) ∷ []))
-    (asks_up ∷ asks_down ∷ [])
 
 pub record Further : Type 0 where
   -- "Y eligible days pass, Y - 1 give 9"; method 0 looks at none; day 0 has no 12 before the calendar
@@ -124,17 +110,3 @@ pub record Further : Type 0 where
   pub party_zero : (parties (crossing 1 point (pos 9) (pos 3) 10 Up) ≡ 10 ∷ 20 ∷ []) × (parties (crossing 2 point (pos 9) (pos 3) 10 Up) ≡ 10 ∷ 20 ∷ 0 ∷ []) × (sheet_at (crossing 2 point (pos 9) (pos 3) 10 Up) 0 1 ≡ pos 0)
   -- "up less down"
   pub requested : (map (requested_volume case_f) (1 ∷ 2 ∷ 3 ∷ []) ≡ plus 3000 ∷ plus 3000 ∷ pos 0 ∷ []) × (requested_volume (risen Down) 1 ≡ minus 500)
-  -- C-15: "Every correction .. uses its quarter-hour's volume"; 100 W are delivered where 0 W were asked for: nothing is limited to the volume
-  pub by_volume : rows (listing 3) ≡
-      plus 300 ∷ plus 2 ∷ plus 2 ∷ plus 3 ∷ pos 0
-      ∷ plus 300 ∷ plus 100 ∷ plus 100 ∷ minus 100 ∷ pos 0
-      ∷ plus 300 ∷ plus 3 ∷ plus 3 ∷ plus 4 ∷ pos 0
-      ∷ plus 300 ∷ pos 0 ∷ pos 0 ∷ minus 9 ∷ pos 0
-      ∷ plus 300 ∷ plus 40 ∷ minus 40 ∷ plus 35 ∷ pos 0
-      ∷ []
-  -- the sheet of the FSP, whose quarter-hours 1 to 4 are positions 2 to 5, and "the requested volume of demand 3"
-  pub volume_sheet : map (sheet_at (listing 3) 20) (1 ∷ 2 ∷ 3 ∷ 4 ∷ 5 ∷ 6 ∷ []) ≡ pos 0 ∷ plus 3 ∷ minus 100 ∷ minus 5 ∷ plus 35 ∷ pos 0 ∷ []
-  pub volume_requested : map (requested_volume (listing 3)) (1 ∷ 2 ∷ 3 ∷ 4 ∷ 5 ∷ 6 ∷ []) ≡ pos 0 ∷ plus 5 ∷ pos 0 ∷ minus 2 ∷ minus 5 ∷ pos 0 ∷ []
-  -- "Versions 1 and 2" look at the request alone
-  pub by_request : map (fsp_correction (listing 2) asks_up) (0 ∷ 1 ∷ 2 ∷ []) ≡ plus 13 ∷ minus 85 ∷ plus 12 ∷ []
-  pub request_requested : (map (requested_volume (listing 1)) (2 ∷ 3 ∷ 4 ∷ 5 ∷ []) ≡ plus 15 ∷ plus 15 ∷ plus 7 ∷ minus 8 ∷ []) × (map (requested_volume (listing 2)) (2 ∷ 3 ∷ 4 ∷ 5 ∷ []) ≡ plus 15 ∷ plus 15 ∷ plus 7 ∷ minus 8 ∷ [])

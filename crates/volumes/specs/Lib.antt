@@ -2,13 +2,11 @@ pub mod Quarters
 pub mod Ranking
 pub mod RankingInner
 pub mod Baseline
-pub mod Requested
 pub mod Settlement
 pub mod Sheets
 pub mod Series
 pub mod SeriesInner
 pub mod SoundInner
-pub mod Twins
 pub mod Examples
 pub mod FurtherLaws
 pub mod OrderLaws
@@ -23,8 +21,6 @@ pub mod SplitLaws
 pub mod SheetsLaws
 pub mod VersionLaws
 pub mod SeriesLaws
-pub mod AlikeLaws
-pub mod TwinLaws
 pub mod OwnPointLaws
 pub mod LargestLaws
 pub mod BookLaws

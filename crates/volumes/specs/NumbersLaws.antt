@@ -1,33 +1,32 @@
--- The numbers and items that a book is refused with: 1, 2, 4 to 9, 14, 15, and rows and points below 512. "Refusal 3 then never occurs": none has that number.
-use Rattle.std.specs.Prelude.{◌≡◌, refl, Bool, true, false, cond, not, ◌&&◌, List, [], ◌∷◌, ℕ, zero, suc, ◌+◌, ◌*◌, ◌/◌, ◌≤◌, ◌<◌, length}
+-- The numbers and items that a book is refused with: 1, 2, 4 to 9, and rows and points below 512. "Refusal 3 then never occurs": none has that number.
+use Rattle.std.specs.Prelude.{◌≡◌, refl, Bool, true, false, cond, ◌&&◌, List, [], ◌∷◌, ℕ, zero, suc, ◌+◌, ◌*◌, ◌/◌, ◌≤◌, ◌<◌, length}
 use Rattle.std.proofs.Math.Option.{Option, none, some}
 use Rattle.std.proofs.Math.Nat.{div-le_of_le-mul}
 use Rattle.std.proofs.Common.{arith}
 use Rattle.std.proofs.lemmas.List.{length-map}
-use Rattle.integers.specs.First.{first, any_below}
+use Rattle.integers.specs.First.{first}
 use Rattle.integers.specs.Ranges.{range}
 use Rattle.integers.specs.RangesLaws.{length-range}
-use Rattle.refusals.specs.Refusals.{unless, unless_found, short}
+use Rattle.refusals.specs.Refusals.{unless_found, short}
 use Rattle.refusals.specs.RefusalsLaws.{Each, each-unless, each-found, each-else, each-short}
 use Rattle.quarters.specs.declared.Calendar.{Calendar}
 use Rattle.quarters.specs.Quarters.{days_of, quarters_of}
 use Rattle.book.specs.declared.Engagement.{Engagement}
-use Rattle.book.specs.Header.{version_of, calendar_of, point_count, engagement_count, lists_volumes, header_good, layout_good, calendar_section, table_section, register_section, reading_section, engagement_section, volume_section}
+use Rattle.book.specs.Header.{version_of, calendar_of, point_count, engagement_count, header_good, layout_good, calendar_section, table_section, register_section, reading_section, engagement_section}
 use Rattle.book.specs.HeaderLaws.{headed}
 use Rattle.book.specs.Tables.{calendar_good, table_good}
 use Rattle.book.specs.Register.{bad_point}
 use Rattle.book.specs.Metering.{bad_reading, point_of_reading, first_bad_reading}
 use Rattle.book.specs.Engagements.{bad_engagement, engagement_at}
-use Rattle.book.specs.Volumes.{volume_count, bad_place, bad_volume}
-use Rattle.book.specs.Judged.{volumes_refusal, rows_refusal, sections_refusal, refusal_of}
+use Rattle.book.specs.Judged.{rows_refusal, sections_refusal, refusal_of}
 use Rattle.book.specs.Book.{Book, book_of}
 use Rattle.volumes.specs.Baseline.{point_of, complete, eligible_days, y_of}
 use Rattle.volumes.specs.Settlement.{needed, too_few, refusal_number, row_refusal, refusal_from, settlement_refusal, row_width, row_count, book_refusal, settling_refusal}
 use Rattle.volumes.specs.SoundLaws.{passes}
 
--- a number of document 01's table but 3, or 14 or 15 of document 02, C-15, and an item that a book, or a buffer, can have
+-- a number of document 01's table but 3, and an item that a book, or a buffer, can have
 pub record Listed (number item : ℕ) : Type 0 where
-  pub most : number ≤ 15
+  pub most : number ≤ 13
   pub not_three : number ≡ 3 → ⊥
   pub few : item ≤ 512
 
@@ -58,37 +57,20 @@ reading-below quarters test n i e = go (first test 0 (quarters * n)) refl e
         let l : k / quarters ≤ n = div-le_of_le-mul quarters (omega arith) in
         omega (arith, some_same e)
 
--- ---- a book's own refusals: 1 to 7, 14 and 15
+-- ---- refusals 1 to 7
 
-volumes-listed : (version rows : ℕ) (engagements volumes : List ℕ) → rows ≤ 512 → Each Listed (volumes_refusal version rows engagements volumes)
-unfolding volumes_refusal
-volumes-listed version rows engagements volumes k = go (lists_volumes version)
-  where
-    placed : Option ℕ
-    placed = first (bad_place (volume_count volumes) engagements) 0 rows
-
-    ranged : Bool
-    ranged = not (any_below (bad_volume volumes) (volume_count volumes))
-
-    go : (b : Bool) → Each Listed (cond b (unless_found placed 14 (unless ranged 15 none)) none)
-    go true =
-        each-found Listed placed 14 (unless ranged 15 none) (λ i e. record { most = omega arith; not_three = λ z. omega arith; few = omega (arith, first_below (bad_place (volume_count volumes) engagements) 0 rows i e) })
-        (each-unless Listed ranged 15 none (record { most = omega arith; not_three = λ z. omega arith; few = omega arith }) (λ e. tt))
-    go false = tt
-
-points-listed : (version : ℕ) (c : Calendar) (points rows : ℕ) (register readings engagements volumes : List ℕ) → points ≤ 256 → rows ≤ 512 → Each Listed (rows_refusal version c points rows register readings engagements volumes)
+points-listed : (version : ℕ) (c : Calendar) (points rows : ℕ) (register readings engagements : List ℕ) → points ≤ 256 → rows ≤ 512 → Each Listed (rows_refusal version c points rows register readings engagements)
 unfolding rows_refusal first_bad_reading
-points-listed version c points rows register readings engagements volumes h k =
-    let last = volumes_refusal version rows engagements volumes in
-    let engaged = first (bad_engagement version c points engagements) 0 rows in
+points-listed version c points rows register readings engagements h k =
+    let engaged = first (bad_engagement c points engagements) 0 rows in
     let read = first_bad_reading c readings points in
     let registered = first (bad_point version (days_of c) register) 0 points in
-    each-found Listed registered 5 (unless_found read 6 (unless_found engaged 7 last)) (λ i e. record { most = omega arith; not_three = λ z. omega arith; few = omega (arith, first_below (bad_point version (days_of c) register) 0 points i e) })
-    (each-found Listed read 6 (unless_found engaged 7 last) (λ i e. record { most = omega arith; not_three = λ z. omega arith; few = omega (arith, reading-below (quarters_of c) (bad_reading readings) points i e) })
-    (each-found Listed engaged 7 last (λ i e. record { most = omega arith; not_three = λ z. omega arith; few = omega (arith, first_below (bad_engagement version c points engagements) 0 rows i e) }) (volumes-listed version rows engagements volumes k)))
+    each-found Listed registered 5 (unless_found read 6 (unless_found engaged 7 none)) (λ i e. record { most = omega arith; not_three = λ z. omega arith; few = omega (arith, first_below (bad_point version (days_of c) register) 0 points i e) })
+    (each-found Listed read 6 (unless_found engaged 7 none) (λ i e. record { most = omega arith; not_three = λ z. omega arith; few = omega (arith, reading-below (quarters_of c) (bad_reading readings) points i e) })
+    (each-found Listed engaged 7 none (λ i e. record { most = omega arith; not_three = λ z. omega arith; few = omega (arith, first_below (bad_engagement c points engagements) 0 rows i e) }) tt))
 
 -- one with item 0
-pub listed-zero : (number : ℕ) → number ≤ 15 → (number ≡ 3 → ⊥) → Listed number 0
+pub listed-zero : (number : ℕ) → number ≤ 13 → (number ≡ 3 → ⊥) → Listed number 0
 listed-zero number h n = record { most = h; not_three = n; few = omega arith }
 
 judged-listed : (bytes : List ℕ) → Each Listed (refusal_of bytes)
@@ -97,7 +79,7 @@ judged-listed bytes =
     each-unless Listed (header_good bytes) 1 _ (listed-zero 1 (omega arith) (λ z. omega arith)) (λ e.
     each-unless Listed (layout_good bytes) 2 _ (listed-zero 2 (omega arith) (λ z. omega arith)) (λ f.
     each-unless Listed (calendar_good (calendar_section bytes) && table_good (table_section bytes)) 4 _ (listed-zero 4 (omega arith) (λ z. omega arith)) (λ k.
-    points-listed (version_of bytes) (calendar_of bytes) (point_count bytes) (engagement_count bytes) (register_section bytes) (reading_section bytes) (engagement_section bytes) (volume_section (version_of bytes) bytes) (headed bytes e).points (headed bytes e).rows)))
+    points-listed (version_of bytes) (calendar_of bytes) (point_count bytes) (engagement_count bytes) (register_section bytes) (reading_section bytes) (engagement_section bytes) (headed bytes e).points (headed bytes e).rows)))
 
 -- ---- 8 and 9
 
@@ -125,7 +107,7 @@ engagements-few bytes e =
     let n = length-map (range 0 (engagement_count bytes)) (engagement_at (engagement_section bytes)) in
     omega (arith, n, length-range 0 (engagement_count bytes), (headed bytes (passes bytes e).header).rows)
 
--- ---- all of a book's, and a settling's 10
+-- ---- 1 to 9, and a settling's 10
 
 pub book-listed : (bytes : List ℕ) → Each Listed (book_refusal bytes)
 unfolding book_refusal settlement_refusal

@@ -1,23 +1,30 @@
 -- An engagement's numbers and refusal depend on its own point, that point's readings and engagements, and the tables alone.
 -- No code needs it: it says that an engagement that comes or goes leaves the rows of other points as they are (C-19), and that a provider's volumes are the same
 -- whatever else the register holds (C-21).
-use Rattle.std.specs.Prelude.{◌≡◌, Bool, true, false, cond, ◌&&◌, ◌||◌, List, [], ◌∷◌, map, ℕ, eqb}
-use Rattle.std.proofs.Math.Path.{refl}
-use Rattle.std.proofs.Common.{ap}
+use Rattle.std.specs.Prelude.{◌≡◌, Bool, true, false, ◌&&◌, ◌||◌, ℕ, eqb, ◌+ℤ◌, ◌-ℤ◌, length}
+use Rattle.std.proofs.Math.Path.{refl, ap, ap₂}
+use Rattle.std.proofs.Math.Bool.{cond, not}
+use mathlib.Core.List.{List, [], ◌∷◌, ◌++◌, map, flat_map}
+use Rattle.std.proofs.Math.Option.{none, some}
+use Rattle.std.proofs.Math.IntN.{pos}
+use Rattle.std.proofs.Math.ListN.{take}
+use Rattle.integers.specs.Sums.{sum_by}
+use Rattle.integers.specs.Ranges.{range}
 use Rattle.integers.specs.Keep.{keep}
 use Rattle.integers.specs.First.{any_of}
+use Rattle.grains.specs.Grains.{grains_z}
+use Rattle.book.specs.declared.Method.{Method}
+use Rattle.book.specs.declared.Method.TheVariants.{LastQuarter, HighXOfY, Adjusted}
 use Rattle.book.specs.declared.Engagement.{Engagement}
-use Rattle.book.specs.Header.{splits}
 use Rattle.book.specs.Book.{Book}
-use Rattle.volumes.specs.Quarters.{start, reference}
-use Rattle.volumes.specs.Baseline.{point_of, reading_before, window, own_reading, day_reading, own_window, day_window, allowed, suits, is_on, engaged, regular, eligible, eligible_days, taken, last_reading, baseline}
-use Rattle.volumes.specs.Requested.{requested_watts, requested_at}
-use Rattle.volumes.specs.Settlement.{refusal_number, delivered, row}
-use Rattle.volumes.specs.AlikeLaws.{Alike, suits_alike, eligible_alike, days_alike, taken_alike, baseline_alike, delivered_alike, row_alike, refusal_alike}
+use Rattle.volumes.specs.Quarters.{quarter_hours, start, reference}
+use Rattle.volumes.specs.Ranking.{ranked}
+use Rattle.volumes.specs.Baseline.{point_of, watts, known, complete, mean, reading_before, window, own_reading, day_reading, day_readings, own_window, day_window, windowed, allowed, suits, is_on, engaged, regular, eligible, before, eligible_days, x_of, y_of, latest, day_sum, taken, high, addend, last_reading, baseline_by, baseline}
+use Rattle.volumes.specs.Settlement.{needed_by, needed, too_few, refusal_number, delivered_by, delivered, requested_at, source_by, injection_by, source_correction, fsp_correction, injection_correction, corrections, signed, row}
 
 -- an engagement as one of point 0
 unfoldable pub alone : Engagement → Engagement
-alone e = record { point = 0; day = e.day; first = e.first; count = e.count; direction = e.direction; notice = e.notice; requested = e.requested; place = e.place }
+alone e = record { point = 0; day = e.day; first = e.first; count = e.count; direction = e.direction; notice = e.notice; requested = e.requested }
 
 -- the engagements of a point, as engagements of point 0
 unfoldable pub of_point : ℕ → List Engagement → List Engagement
@@ -35,7 +42,6 @@ only book e =
       points = point_of book e ∷ [];
       reading = λ p. book.reading e.point;
       engagements = of_point e.point book.engagements;
-      volumes = book.volumes;
     }
 
 -- the days with an engagement are those of the point's engagements
@@ -57,58 +63,56 @@ module _ (book : Book) (e : Engagement) where
   unfolding engaged only
   engaged_only d = engaged-of e.point d book.engagements
 
+  pub suits_only : (d : ℕ) → suits book e d ≡ suits (only book e) (alone e) d
+  unfolding only alone quarter_hours start reference point_of known complete reading_before window day_reading day_readings day_window windowed allowed suits range
+  suits_only d = refl
+
   pub regular_only : (d : ℕ) → regular book e d ≡ regular (only book e) (alone e) d
   unfolding only alone reference point_of regular
   regular_only d = refl
 
-  alike : Alike book e (only book e) (alone e)
-  unfolding only alone start reference point_of reading_before window own_reading day_reading own_window day_window allowed last_reading
-  alike =
-      record {
-        day = refl;
-        count = refl;
-        direction = refl;
-        point = refl;
-        x = refl;
-        y = refl;
-        engaged_on = engaged_only;
-        regular_on = regular_only;
-        allowed_on = λ d. refl;
-        day_reading = λ k d. refl;
-        day_window = λ d. refl;
-        own_reading = λ k. refl;
-        own_window = refl;
-        last_reading = refl;
-      }
-
-  pub suits_only : (d : ℕ) → suits book e d ≡ suits (only book e) (alone e) d
-  suits_only = suits_alike alike
-
   pub eligible_only : (d : ℕ) → eligible book e d ≡ eligible (only book e) (alone e) d
-  eligible_only = eligible_alike alike
+  unfolding alone eligible
+  eligible_only d = λ i. not (engaged_only d i) && (regular_only d i && suits_only d i)
 
   pub days_only : eligible_days book e ≡ eligible_days (only book e) (alone e)
-  days_only = days_alike alike
+  unfolding alone eligible_days
+  days_only = λ i. keep (λ d. eligible_only d i) (before e.day)
 
   pub taken_only : taken book e ≡ taken (only book e) (alone e)
-  taken_only = taken_alike alike
+  unfolding only alone quarter_hours start reference watts day_reading day_readings latest day_sum taken sum_by
+  taken_only = λ i. take (x_of book e) (ranked (day_sum book e) (take (y_of book e) (days_only i)))
+
+  by_only : (m : Method) (k : ℕ) → baseline_by m book e k ≡ baseline_by m (only book e) (alone e) k
+  unfolding only alone quarter_hours start reference point_of watts known complete mean reading_before window own_reading day_reading own_window day_window high addend last_reading baseline_by range
+  by_only LastQuarter k = refl
+  by_only HighXOfY k = λ i. mean (map (day_reading book e k) (taken_only i))
+  by_only Adjusted k = λ i. mean (map (day_reading book e k) (taken_only i)) +ℤ (mean (own_window book e) -ℤ mean (flat_map (day_window book e) (taken_only i)))
 
   pub baseline_only : (k : ℕ) → baseline book e k ≡ baseline (only book e) (alone e) k
-  baseline_only = baseline_alike alike
+  unfolding baseline only alone point_of
+  baseline_only k = by_only (point_of book e).method k
 
   pub delivered_only : (k : ℕ) → delivered book e k ≡ delivered (only book e) (alone e) k
-  delivered_only = delivered_alike alike
-
-  asked-only : (k : ℕ) → requested_at book e k ≡ requested_at (only book e) (alone e) k
-  unfolding only alone requested_watts requested_at
-  asked-only k = refl
-
-  version-only : splits book.version ≡ splits (only book e).version
-  unfolding only
-  version-only = refl
+  unfolding only alone delivered point_of own_reading start
+  delivered_only k = ap (λ z. delivered_by e.direction (point_of book e) z (grains_z (watts (own_reading book e k)))) (baseline_only k)
 
   pub row_only : (k : ℕ) → row book e k ≡ row (only book e) (alone e) k
-  row_only k = row_alike alike version-only k (asked-only k)
+  unfolding only alone row corrections source_correction fsp_correction injection_correction requested_at own_reading start
+  row_only k =
+      let read = grains_z (watts (own_reading book e k)) in
+      ap₂
+      (λ z v. z ∷ pos v ∷ signed e.direction (pos (source_by book.version e.direction z read v)) ∷ signed e.direction (pos (requested_at e k) -ℤ pos v) ∷ signed e.direction (pos (injection_by book.version e.direction z read v)) ∷ [])
+      (baseline_only k)
+      (delivered_only k)
+
+  needed-only : (m : Method) → needed_by m book e ≡ needed_by m (only book e) (alone e)
+  unfolding only alone start reading_before window own_window last_reading needed_by
+  needed-only LastQuarter = refl
+  needed-only HighXOfY = refl
+  needed-only Adjusted = refl
 
   pub refusal_only : refusal_number book e ≡ refusal_number (only book e) (alone e)
-  refusal_only = refusal_alike alike
+  unfolding only alone quarter_hours start point_of own_reading needed refusal_number
+  refusal_only =
+      ap₂ (λ l days. cond (complete (map (own_reading book e) (quarter_hours e) ++ l)) (cond (too_few (point_of book e).method (y_of book e) (length days)) (some 9) none) (some 8)) (needed-only (point_of book e).method) days_only

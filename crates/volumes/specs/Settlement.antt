@@ -16,7 +16,6 @@ use Rattle.book.specs.Book.{Book, book_of}
 use Rattle.book.specs.Header.{splits}
 use Rattle.book.specs.Judged.{refusal_of}
 use Rattle.volumes.specs.Quarters.{quarter_hours}
-use Rattle.volumes.specs.Requested.{requested_at}
 use Rattle.volumes.specs.Baseline.{point_of, watts, complete, own_reading, own_window, last_reading, eligible_days, y_of, baseline}
 
 -- "a reading of A in the engagement's quarter-hours, of method 2's own 12, or of method 0"
@@ -53,6 +52,10 @@ refusal_from book row (e ∷ es) = row_refusal row (refusal_number book e) (refu
 -- refusals 8 and 9 of a book
 unfoldable pub settlement_refusal : Book → Option Refusal
 settlement_refusal book = refusal_from book 0 book.engagements
+
+-- the requested volume of quarter-hour k of an engagement
+unfoldable pub requested_at : Engagement → ℕ → ℕ
+requested_at e k = grains e.requested
 
 -- "limited to 0 below and the register's largest watts above"
 unfoldable pub limited : ℤ → ℕ → ℕ
@@ -104,7 +107,7 @@ source_correction book e k =
     signed e.direction (pos (source_by book.version e.direction (baseline book e k) (grains_z (watts (own_reading book e k))) (delivered book e k)))
 
 unfoldable pub fsp_correction : Book → Engagement → ℕ → ℤ
-fsp_correction book e k = signed e.direction (pos (requested_at book e k) -ℤ pos (delivered book e k))
+fsp_correction book e k = signed e.direction (pos (requested_at e k) -ℤ pos (delivered book e k))
 
 unfoldable pub injection_correction : Book → Engagement → ℕ → ℤ
 injection_correction book e k =
@@ -132,7 +135,7 @@ rows book = flat_map (rows_of book) book.engagements
 unfoldable pub row_count : Book → ℕ
 row_count book = sum_of (λ e. e.count) book.engagements
 
--- the refusals of a book's bytes: "1 to 7; then by engagement, 8 before 9"; 02, C-15: 14 and 15 "are tested after 7"
+-- refusals 1 to 9 of a book's bytes: "1 to 7; then by engagement, 8 before 9"
 unfoldable pub book_refusal : List ℕ → Option Refusal
 book_refusal bytes = or_else (refusal_of bytes) (settlement_refusal (book_of bytes))
 

@@ -1,6 +1,6 @@
 -- What a settling that is not refused has; refusals by row and rows by engagement, as loops over them go; and how many numbers there are.
-use Rattle.std.specs.Prelude.{◌≡◌, refl, Bool, true, false, cond, ℕ, zero, suc, ◌+◌, ◌*◌, ◌≤◌, ◌<◌, ℤ, length, take, drop, get_or}
-use Rattle.std.proofs.Common.{sym, ap, ap₂, ◌∙◌, ⊎_elim, arith, length-append, drop_of_length-le, take-suc, drop-cons, ltb-false, le-leb}
+use Rattle.std.specs.Prelude.{◌≡◌, refl, Bool, true, false, cond, ℕ, suc, ◌+◌, ◌*◌, ◌≤◌, ◌<◌, length, take, drop, get_or}
+use Rattle.std.proofs.Common.{sym, ap, ◌∙◌, ⊎_elim, arith, length-append, drop_of_length-le, take-suc, drop-cons, ltb-false, le-leb}
 use mathlib.Core.List.Memᴰ
 use mathlib.Core.List.{List, [], ◌∷◌, ◌++◌, flat_map, append-nil, Memᴰ}
 use Rattle.std.proofs.Math.Option.{Option, none, some}
@@ -103,17 +103,7 @@ pub row_next : (book : Book) (e : Engagement) (k : ℕ) → flat_map (row book e
 unfolding flat_map
 row_next book e k = ap (flat_map (row book e)) (range-next 0 k ∙ ap (λ n. range 0 k ++ (n ∷ [])) (omega arith)) ∙ flat_map_append (row book e) (range 0 k) (k ∷ []) ∙ ap (λ l. flat_map (row book e) (range 0 k) ++ l) (append-nil (row book e k))
 
--- an engagement's rows, from what agrees with each of them
-flat-agree : (f g : ℕ → List ℤ) (a n : ℕ) → ((k : ℕ) → k < a + n → f k ≡ g k) → flat_map f (range a n) ≡ flat_map g (range a n)
-unfolding flat_map range
-flat-agree f g a zero h = refl
-flat-agree f g a (suc n) h = ap₂ ◌++◌ (h a (omega arith)) (flat-agree f g (suc a) n (λ k q. h k (omega arith)))
-
-pub rows-by : (book : Book) (e : Engagement) (f : ℕ → List ℤ) → ((k : ℕ) → k < e.count → f k ≡ row book e k) → flat_map f (range 0 e.count) ≡ rows_of book e
-unfolding rows_of quarter_hours
-rows-by book e f h = flat-agree f (row book e) 0 e.count (λ k q. h k (omega arith))
-
--- with a buffer that is long enough the book's refusals decide
+-- with a buffer that is long enough refusals 1 to 9 decide
 pub settling-long : (bytes : List ℕ) (lent : ℕ) → row_width * row_count (book_of bytes) ≤ lent → settling_refusal bytes lent ≡ book_refusal bytes
 unfolding settling_refusal or_else
 settling-long bytes lent h = rw (le-leb (row_width * row_count (book_of bytes)) lent h) (else-none (book_refusal bytes))
@@ -122,7 +112,7 @@ pub accepted : (bytes : List ℕ) → Accepted bytes → book_refusal bytes ≡ 
 unfolding Accepted
 accepted bytes a = sym (settling-long bytes (row_width * row_count (book_of bytes)) (omega arith)) ∙ a
 
--- an accepted book passes its own refusals, and is not refused with 8 or 9
+-- an accepted book passes 1 to 7, and is not refused with 8 or 9
 pub record Passing (bytes : List ℕ) : Type 0 where
   pub passed : refusal_of bytes ≡ none
   pub settled : settlement_refusal (book_of bytes) ≡ none

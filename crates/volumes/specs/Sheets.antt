@@ -10,8 +10,7 @@ use Rattle.book.specs.Header.{splits}
 use Rattle.book.specs.Book.{Book}
 use Rattle.quarters.specs.Quarters.{position, month_quarters}
 use Rattle.volumes.specs.Baseline.{point_of}
-use Rattle.volumes.specs.Requested.{requested_at}
-use Rattle.volumes.specs.Settlement.{signed, corrections}
+use Rattle.volumes.specs.Settlement.{requested_at, signed, corrections}
 
 -- where an engagement starts in the month, whether it covers a position, and with which of its quarter-hours
 abbrev pub start_position : Calendar → Engagement → ℕ
@@ -49,8 +48,8 @@ unfoldable pub sheet : Book → ℕ → List ℤ
 sheet book party = map (sheet_at book party) (range 1 (month_quarters book.calendar))
 
 -- "The requested volume of a quarter-hour sums the requested watts, in grains, of the engagements that cover it, up less down."
-unfoldable pub requested_by : Book → ℕ → Engagement → ℤ
-requested_by book p e = cond (covers book.calendar e p) (signed e.direction (pos (requested_at book e (quarter_at book.calendar e p)))) (pos 0)
+unfoldable pub requested_by : Calendar → ℕ → Engagement → ℤ
+requested_by c p e = cond (covers c e p) (signed e.direction (pos (requested_at e (quarter_at c e p)))) (pos 0)
 
 unfoldable pub requested_volume : Book → ℕ → ℤ
-requested_volume book p = sum_z (requested_by book p) book.engagements
+requested_volume book p = sum_z (requested_by book.calendar p) book.engagements

@@ -1,12 +1,11 @@
 -- The corrections of a quarter-hour make up what was requested, so at each position all sheets sum to the requested volume.
 use Rattle.std.specs.Prelude.{◌≡◌, refl, Bool, true, false, cond, ℕ, zero, suc, ◌+◌, ◌≤◌, ◌<◌, eqb, leb, ℤ, pos, neg_ℤ, ◌+ℤ◌, ◌-ℤ◌, length, get_or}
-use Rattle.std.proofs.Common.{sym, ap, ◌∙◌, ⊎_elim, arith, le-leb, lt-ltb, le-ltb, leb-true, ltb-true}
+use Rattle.std.proofs.Common.{sym, ap, ◌∙◌, ⊎_elim, arith, le-leb, lt-ltb, le-ltb}
 use Rattle.std.proofs.Math.Bool.{and-false}
 use mathlib.Core.List.Memᴰ
 use mathlib.Core.List.{List, [], ◌∷◌, flat_map, zip, zip_with, Memᴰ}
 use Rattle.std.proofs.lemmas.List.{length-map}
 use Rattle.std.proofs.lemmas.Bool.{lt-leb}
-use Rattle.integers.specs.TestsLaws.{and_left, and_right}
 use Rattle.integers.specs.ZLaws.{eq_z, sum, dif, neg}
 use Rattle.integers.specs.Counts.{times}
 use Rattle.integers.specs.Ranges.{range}
@@ -22,8 +21,7 @@ use Rattle.book.specs.Header.{splits}
 use Rattle.book.specs.Book.{Book}
 use Rattle.quarters.specs.Quarters.{month_quarters}
 use Rattle.volumes.specs.Baseline.{no_point, point_of, watts, own_reading, baseline}
-use Rattle.volumes.specs.Requested.{requested_at}
-use Rattle.volumes.specs.Settlement.{delivered, injection_share, injection_by, signed, source_correction, fsp_correction, injection_correction, corrections}
+use Rattle.volumes.specs.Settlement.{delivered, requested_at, injection_share, injection_by, signed, source_correction, fsp_correction, injection_correction, corrections}
 use Rattle.volumes.specs.SplitLaws.{shares_whole, signed-zero}
 use Rattle.volumes.specs.Sheets.{start_position, covers, quarter_at, parties_of, parties, share_of, correction_at, sheet_at, sheet, requested_by, requested_volume}
 use Rattle.integers.specs.RangesLaws.{length-range}
@@ -40,12 +38,12 @@ three Down r v s i h =
     let fsp = neg_ℤ (r -ℤ pos (s + i)) in
     rw (← h) (eq_z _ _ (omega (arith, (dif r (pos (s + i))).law, neg (pos s), neg (pos i), neg r, neg (r -ℤ pos (s + i)), (sum (neg_ℤ (pos i)) (pos 0)).law, (sum fsp rest).law, (sum (neg_ℤ (pos s)) (fsp +ℤ rest)).law)))
 
-pub balanced : (book : Book) (e : Engagement) (k : ℕ) → sum_z (λ z. z) (corrections book e k) ≡ signed e.direction (pos (requested_at book e k))
+pub balanced : (book : Book) (e : Engagement) (k : ℕ) → sum_z (λ z. z) (corrections book e k) ≡ signed e.direction (pos (requested_at e k))
 unfolding corrections sum_by source_correction fsp_correction injection_correction
 balanced book e k =
     let base = baseline book e k in
     let read = grains_z (watts (own_reading book e k)) in
-    three e.direction (pos (requested_at book e k)) (pos (delivered book e k)) _ _ (ap pos (shares_whole book.version e.direction base read (delivered book e k)))
+    three e.direction (pos (requested_at e k)) (pos (delivered book e k)) _ _ (ap pos (shares_whole book.version e.direction base read (delivered book e k)))
 
 -- each of these parties gets its own, all of them all: over parties among which each one stands once
 share-all : (amounts : List (ℕ × ℤ)) (ps : List ℕ) → ((a : ℕ × ℤ) → Memᴰ a amounts → times a.0 ps ≡ 1) → sum_z (λ party. share_of party amounts) ps ≡ sum_z (λ a. a.1) amounts
@@ -81,7 +79,7 @@ first-named (n ∷ l) (z ∷ m) a h = ⊎_elim (λ q. Memᴰ.head (ap (λ a. a.0
 pub OnceEach : Book → List ℕ → Engagement → Type 0
 OnceEach book ps e = (party : ℕ) → Memᴰ party (parties_of book.version (point_of book e)) → times party ps ≡ 1
 
-covered-all : (book : Book) (ps : List ℕ) (e : Engagement) (k : ℕ) → OnceEach book ps e → sum_z (λ party. share_of party (zip (parties_of book.version (point_of book e)) (corrections book e k))) ps ≡ signed e.direction (pos (requested_at book e k))
+covered-all : (book : Book) (ps : List ℕ) (e : Engagement) (k : ℕ) → OnceEach book ps e → sum_z (λ party. share_of party (zip (parties_of book.version (point_of book e)) (corrections book e k))) ps ≡ signed e.direction (pos (requested_at e k))
 unfolding OnceEach
 covered-all book ps e k h =
     let columns = parties_of book.version (point_of book e) in
@@ -95,7 +93,7 @@ sheets-of book ps h p =
     sum_swap integers (λ party e. correction_at book party p e) ps book.engagements
     ∙ sum_cong integers _ _ book.engagements (λ e m. at e (covers book.calendar e p) (h e m))
   where
-    at : (e : Engagement) (t : Bool) → OnceEach book ps e → sum_z (λ party. cond t (share_of party (zip (parties_of book.version (point_of book e)) (corrections book e (quarter_at book.calendar e p)))) (pos 0)) ps ≡ cond t (signed e.direction (pos (requested_at book e (quarter_at book.calendar e p)))) (pos 0)
+    at : (e : Engagement) (t : Bool) → OnceEach book ps e → sum_z (λ party. cond t (share_of party (zip (parties_of book.version (point_of book e)) (corrections book e (quarter_at book.calendar e p)))) (pos 0)) ps ≡ cond t (signed e.direction (pos (requested_at e (quarter_at book.calendar e p)))) (pos 0)
     at e true o = covered-all book ps e (quarter_at book.calendar e p) o
     at e false o = sum-zero integers ps
 
@@ -132,10 +130,6 @@ covers-after c e p h = rw (le-ltb p (start_position c e + e.count) h) (and-false
 pub quarter-at : (c : Calendar) (e : Engagement) (k : ℕ) → quarter_at c e (start_position c e + k) ≡ k
 unfolding quarter_at
 quarter-at c e k = omega arith
-
-pub quarter-inside : (c : Calendar) (e : Engagement) (p : ℕ) → covers c e p ≡ true → quarter_at c e p < e.count
-unfolding covers quarter_at
-quarter-inside c e p h = let at = start_position c e in omega (arith, leb-true at p (and_left _ _ h), ltb-true p (at + e.count) (and_right (leb at p) _ h))
 
 -- what an engagement adds to a sheet at its quarter-hour k
 pub correction-inside : (book : Book) (party : ℕ) (e : Engagement) (k : ℕ) → k < e.count → correction_at book party (start_position book.calendar e + k) e ≡ share_of party (zip (parties_of book.version (point_of book e)) (corrections book e k))

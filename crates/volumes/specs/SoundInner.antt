@@ -1,14 +1,12 @@
--- What a book has that passes its own refusals (document 01, "The book"; 02, C-15): the ranges on which its volumes rest.
-use Rattle.std.specs.Prelude.{◌≡◌, true, ℕ, ◌+◌, ◌^◌, ◌≤◌, ◌<◌, length, ℤ}
+-- What a book has that passes refusals 1 to 7 (document 01, "The book"): the ranges on which its volumes rest.
 use mathlib.Core.List.{Memᴰ}
+use Rattle.std.specs.Prelude.{ℕ, ◌+◌, ◌^◌, ◌≤◌, ◌<◌, length, ℤ}
 use Rattle.integers.specs.ZLaws.{up, dn}
 use Rattle.quarters.specs.declared.Calendar.{Calendar}
 use Rattle.book.specs.declared.Point.{Point}
 use Rattle.book.specs.declared.Engagement.{Engagement}
 use Rattle.quarters.specs.Quarters.{days_of, quarters}
-use Rattle.book.specs.Header.{lists_volumes}
 use Rattle.book.specs.Book.{Book}
-use Rattle.volumes.specs.Requested.{requested_watts}
 use Rattle.volumes.specs.Baseline.{watts}
 use Rattle.quarters.specs.QuartersInner.{Ranged}
 
@@ -37,11 +35,11 @@ pub record Placed (c : Calendar) (points : ℕ) (e : Engagement) : Type 0 where
   pub some : 1 ≤ e.count
   pub ends : e.first + e.count ≤ quarters c e.day
 
--- "notice (0 to 96)"; no requested watts above 10^9, at whatever quarter-hour; where volumes are listed, each of its quarter-hours has one
-pub record OnTerms (book : Book) (e : Engagement) : Type 0 where
+-- "notice (0 to 96)", "requested watts u32 (1 to 10^9)"
+pub record OnTerms (e : Engagement) : Type 0 where
   pub notice : e.notice ≤ 96
-  pub most : (k : ℕ) → requested_watts book e k ≤ 10 ^ 9
-  pub supplied : lists_volumes book.version ≡ true → e.place + e.count ≤ length book.volumes
+  pub asked : 1 ≤ e.requested
+  pub most : e.requested ≤ 10 ^ 9
 
 -- a reading that is missing, or that there is none of, counts as 0 watts here
 pub record Sound (book : Book) : Type 0 where
@@ -50,5 +48,5 @@ pub record Sound (book : Book) : Type 0 where
   pub points : (point : Point) → Memᴰ point book.points → Limited point
   pub readings : (p q : ℕ) → Bounded (10 ^ 9) (watts (book.reading p q))
   pub engagements : (e : Engagement) → Memᴰ e book.engagements → Placed book.calendar (length book.points) e
-  pub terms : (e : Engagement) → Memᴰ e book.engagements → OnTerms book e
+  pub terms : (e : Engagement) → Memᴰ e book.engagements → OnTerms e
   pub few : length book.engagements ≤ 512

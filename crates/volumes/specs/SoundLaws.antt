@@ -1,9 +1,9 @@
--- A book that passes its own refusals is sound: each test that it passed says so of its rows.
-use Rattle.std.specs.Prelude.{◌≡◌, refl, Bool, true, false, cond, not, ◌&&◌, ◌||◌, ℕ, zero, suc, ◌+◌, ◌*◌, ◌^◌, ◌≤◌, ◌<◌, eqb, leb, ltb, ℤ, pos, neg_ℤ, length, get_or}
-use Rattle.std.proofs.Common.{sym, ap, subst, ◌∙◌, ⊎_elim, mul_assoc, arith, drop_of_length-le, eqb-true, leb-true, ltb-true, ltb-false}
+-- A book that passes refusals 1 to 7 is sound: each test that it passed says so of its rows.
+use Rattle.std.specs.Prelude.{◌≡◌, refl, Bool, true, false, cond, not, ◌&&◌, ◌||◌, ℕ, zero, suc, ◌+◌, ◌*◌, ◌^◌, ◌≤◌, ◌<◌, eqb, leb, ltb, ℤ, pos, neg_ℤ, length}
+use Rattle.std.proofs.Common.{sym, ap, ◌∙◌, ⊎_elim, mul_assoc, arith, length-take, drop_of_length-le, eqb-true, leb-true, ltb-true, ltb-false}
 use Rattle.std.proofs.lemmas.Bool.{false≢true, eqb-false, not-true, not-false}
 use mathlib.Core.List.Memᴰ
-use mathlib.Core.List.{List, [], Memᴰ, map}
+use mathlib.Core.List.{List, [], ◌∷◌, Memᴰ}
 use Rattle.std.proofs.Math.Option.{Option, none, some}
 use Rattle.std.proofs.lemmas.List.{length-map}
 use Rattle.std.proofs.Math.ListN.{get_or-eq_default}
@@ -17,25 +17,23 @@ use Rattle.wire.specs.Readings.{reading_at, reading_of}
 use Rattle.wire.specs.declared.Reading.{Reading}
 use Rattle.wire.specs.declared.Reading.TheVariants.{Watts, Missing}
 use Rattle.quarters.specs.Quarters.{days_of, quarters, quarters_of}
-use Rattle.book.specs.Header.{version_of, calendar_of, point_count, engagement_count, between, lists_volumes, header_good, layout_good, calendar_section, table_section, register_section, reading_section, engagement_section, volume_section}
-use Rattle.book.specs.HeaderLaws.{headed, laid}
+use Rattle.book.specs.Header.{version_of, calendar_of, point_count, engagement_count, between, header_good, layout_good, length_of, offset_of, point_width, engagement_width, calendar_section, table_section, register_section, reading_section, engagement_section}
+use Rattle.book.specs.HeaderLaws.{headed, adjoins}
 use Rattle.book.specs.Tables.{category_at, x_at, y_at, bad_day, calendar_good, entry_good, table_good}
 use Rattle.book.specs.Register.{point_at, register_row, delivery_in, access_in, supplier_in, fsp_in, mask_in, upward_in, downward_in, numbers_good, bytes_good, not_above, differs, bad_point}
 use Rattle.book.specs.Metering.{reading_good, bad_reading, point_of_reading, first_bad_reading}
 use Rattle.quarters.specs.declared.Calendar.{Calendar}
-use Rattle.book.specs.Engagements.{engagement_of, engagement_at, engagement_row, point_in, day_in, first_in, count_in, direction_in, notice_in, requested_in, place_in, quarters_good, request_good, terms_good, out_of_order, bad_engagement}
-use Rattle.book.specs.Volumes.{volume_count, volume_at, volumes_in, bad_place, bad_volume}
+use Rattle.book.specs.Engagements.{engagement_of, engagement_at, engagement_row, point_in, day_in, first_in, count_in, direction_in, notice_in, requested_in, place_good, terms_good, out_of_order, bad_engagement}
 use Rattle.refusals.specs.Refusals.{unless, unless_found}
 use Rattle.refusals.specs.RefusalsLaws.{not-refused, not_found}
-use Rattle.book.specs.Judged.{volumes_refusal, rows_refusal, sections_refusal, refusal_of}
-use Rattle.book.specs.Book.{Book, book_of}
+use Rattle.book.specs.Judged.{rows_refusal, sections_refusal, refusal_of}
+use Rattle.book.specs.Book.{book_of}
 use Rattle.book.specs.declared.Point.{Point}
 use Rattle.book.specs.declared.Engagement.{Engagement}
-use Rattle.volumes.specs.Requested.{requested_watts}
 use Rattle.volumes.specs.Baseline.{watts}
 use Rattle.volumes.specs.SoundInner.{Bounded, XOfY, Limited, Placed, OnTerms, Sound}
 use Rattle.integers.specs.FirstLaws.{any-of}
-use Rattle.integers.specs.RangesLaws.{length-range, get_d-made}
+use Rattle.integers.specs.RangesLaws.{length-range}
 
 -- a search that found nothing: the test names none
 pub first-none : (test : ℕ → Bool) (a n : ℕ) → first test a n ≡ none → (i : ℕ) → a ≤ i → i < a + n → test i ≡ false
@@ -143,8 +141,8 @@ limited-row version days register i e =
     record { upward = leb-true _ _ e₆.0; downward = leb-true _ _ e₆.1 }
 
 -- an engagement's place and terms
-in_place : (c : Calendar) (points : ℕ) (row : List ℕ) → quarters_good c points row ≡ true → Placed c points (engagement_of row)
-unfolding quarters_good
+in_place : (c : Calendar) (points : ℕ) (row : List ℕ) → place_good c points row ≡ true → Placed c points (engagement_of row)
+unfolding place_good
 in_place c points row e =
     let z = leb 1 (count_in row) && leb (first_in row + count_in row) (quarters c (day_in row)) in
     let f = ltb (first_in row) (quarters c (day_in row)) && z in
@@ -157,66 +155,25 @@ in_place c points row e =
     let e₅ = both (leb 1 (count_in row)) (leb (first_in row + count_in row) (quarters c (day_in row))) e₄.1 in
     record { point = ltb-true _ _ e₁.0; settled = leb-true _ _ e₂.0; inside = ltb-true _ _ e₃.0; some = leb-true _ _ e₅.0; ends = leb-true _ _ e₅.1 }
 
--- what the volumes' section has, where there is one: a volume for each quarter-hour of each engagement, all in range
-pub record Supplies (bytes : List ℕ) : Type 0 where
-  pub places : (i : ℕ) → i < engagement_count bytes → (engagement_at (engagement_section bytes) i).place + (engagement_at (engagement_section bytes) i).count ≤ length (book_of bytes).volumes
-  pub most : (k : ℕ) → get_or (book_of bytes).volumes k 0 ≤ 10 ^ 9
-
-pub volumes-counted : (volumes : List ℕ) → length (volumes_in volumes) ≡ volume_count volumes
-unfolding volumes_in
-volumes-counted volumes = length-map (range 0 (volume_count volumes)) (volume_at volumes) ∙ length-range 0 (volume_count volumes)
-
-pub volume-made : (volumes : List ℕ) (i : ℕ) → i < volume_count volumes → get_or (volumes_in volumes) i 0 ≡ volume_at volumes i
-unfolding volumes_in
-volume-made volumes i h = get_d-made (volume_at volumes) (volume_count volumes) i 0 h
-
--- a volume in range, and one beyond the section, which is 0
-volumes-most : (volumes : List ℕ) → any_below (bad_volume volumes) (volume_count volumes) ≡ false → (k : ℕ) → get_or (volumes_in volumes) k 0 ≤ 10 ^ 9
-volumes-most volumes e k = go (ltb k (volume_count volumes)) refl
-  where
-    go : (t : Bool) → ltb k (volume_count volumes) ≡ t → get_or (volumes_in volumes) k 0 ≤ 10 ^ 9
-    go true p =
-        let h = ltb-true k (volume_count volumes) p in
-        rw (volume-made volumes k h) (ltb-false (10 ^ 9) (volume_at volumes k) (any_none (bad_volume volumes) (volume_count volumes) k e h))
-    go false p =
-        let past : length (volumes_in volumes) ≤ k = omega (arith, volumes-counted volumes, ltb-false k (volume_count volumes) p) in
-        rw (get_or-eq_default (volumes_in volumes) 0 past) (omega arith)
-
--- what requested watts there are, in a book that lists no volumes
-asked-range : (row : List ℕ) (version : ℕ) → request_good version row ≡ true → lists_volumes version ≡ false → requested_in row ≤ 10 ^ 9
-unfolding request_good
-asked-range row version e f =
-    let g : (between 1 (10 ^ 9) (requested_in row) && eqb (place_in row) 0) ≡ true = subst (λ b. cond b (eqb (requested_in row) 0) (between 1 (10 ^ 9) (requested_in row) && eqb (place_in row) 0) ≡ true) f e in
-    let h = both (between 1 (10 ^ 9) (requested_in row)) (eqb (place_in row) 0) g in
-    leb-true _ _ (both (leb 1 (requested_in row)) (leb (requested_in row) (10 ^ 9)) h.0).1
-
-on-terms : (book : Book) (row : List ℕ)
-    → terms_good book.version row ≡ true
-    → (lists_volumes book.version ≡ true → (place_in row + count_in row ≤ length book.volumes) × ((k : ℕ) → get_or book.volumes k 0 ≤ 10 ^ 9))
-    → OnTerms book (engagement_of row)
-unfolding terms_good requested_watts
-on-terms book row e v =
-    let r = request_good book.version row in
+on-terms : (row : List ℕ) → terms_good row ≡ true → OnTerms (engagement_of row)
+unfolding terms_good
+on-terms row e =
+    let r = between 1 (10 ^ 9) (requested_in row) && eqb (number_at row 12 4) 0 in
     let z = eqb (number_at row 7 1) 0 && r in
     let n = leb (notice_in row) 96 && z in
     let e₁ = both (leb (direction_in row) 1) n e in
     let e₂ = both (leb (notice_in row) 96) z e₁.1 in
     let e₃ = both (eqb (number_at row 7 1) 0) r e₂.1 in
-    record { notice = leb-true _ _ e₂.0; most = λ k. at (lists_volumes book.version) refl k e₃.1; supplied = λ t. (v t).0 }
-  where
-    at : (b : Bool) → lists_volumes book.version ≡ b → (k : ℕ) → request_good book.version row ≡ true → cond b (get_or book.volumes (place_in row + k) 0) (requested_in row) ≤ 10 ^ 9
-    at true t k g = (v t).1 (place_in row + k)
-    at false t k g = asked-range row book.version g t
+    let e₄ = both (between 1 (10 ^ 9) (requested_in row)) (eqb (number_at row 12 4) 0) e₃.1 in
+    let e₅ = both (leb 1 (requested_in row)) (leb (requested_in row) (10 ^ 9)) e₄.0 in
+    record { notice = leb-true _ _ e₂.0; asked = leb-true _ _ e₅.0; most = leb-true _ _ e₅.1 }
 
-good-row : (book : Book) (c : Calendar) (points : ℕ) (engagements : List ℕ) (i : ℕ)
-    → bad_engagement book.version c points engagements i ≡ false
-    → (lists_volumes book.version ≡ true → ((engagement_at engagements i).place + (engagement_at engagements i).count ≤ length book.volumes) × ((k : ℕ) → get_or book.volumes k 0 ≤ 10 ^ 9))
-    → Placed c points (engagement_at engagements i) × OnTerms book (engagement_at engagements i)
+good-row : (c : Calendar) (points : ℕ) (engagements : List ℕ) (i : ℕ) → bad_engagement c points engagements i ≡ false → Placed c points (engagement_at engagements i) × OnTerms (engagement_at engagements i)
 unfolding bad_engagement
-good-row book c points engagements i e v =
+good-row c points engagements i e =
     let row = engagement_row engagements i in
-    let good = both (quarters_good c points row) (terms_good book.version row) (not-false _ (neither (not (quarters_good c points row && terms_good book.version row)) (out_of_order engagements i) e).0) in
-    (in_place c points row good.0, on-terms book row good.1 v)
+    let good = both (place_good c points row) (terms_good row) (not-false _ (neither (not (place_good c points row && terms_good row)) (out_of_order engagements i) e).0) in
+    (in_place c points row good.0, on-terms row good.1)
 
 -- what the refusals that did not come say together
 pub record PassedBook (bytes : List ℕ) : Type 0 where
@@ -226,31 +183,13 @@ pub record PassedBook (bytes : List ℕ) : Type 0 where
   pub table : table_good (table_section bytes) ≡ true
   pub points : first (bad_point (version_of bytes) (days_of (calendar_of bytes)) (register_section bytes)) 0 (point_count bytes) ≡ none
   pub readings : first (bad_reading (reading_section bytes)) 0 (quarters_of (calendar_of bytes) * point_count bytes) ≡ none
-  pub engagements : first (bad_engagement (version_of bytes) (calendar_of bytes) (point_count bytes) (engagement_section bytes)) 0 (engagement_count bytes) ≡ none
-  pub volumes : lists_volumes (version_of bytes) ≡ true → Supplies bytes
-
--- the volumes that were not refused
-supplies : (bytes : List ℕ) → volumes_refusal (version_of bytes) (engagement_count bytes) (engagement_section bytes) (volume_section (version_of bytes) bytes) ≡ none → lists_volumes (version_of bytes) ≡ true → Supplies bytes
-unfolding volumes_refusal book_of
-supplies bytes e t =
-    let volumes = volume_section (version_of bytes) bytes in
-    let engagements = engagement_section bytes in
-    let n₁₅ = unless (not (any_below (bad_volume volumes) (volume_count volumes))) 15 none in
-    let n₁₄ = unless_found (first (bad_place (volume_count volumes) engagements) 0 (engagement_count bytes)) 14 n₁₅ in
-    let f : n₁₄ ≡ none = subst (λ b. cond b n₁₄ none ≡ none) t e in
-    let e₁₄ = not_found (first (bad_place (volume_count volumes) engagements) 0 (engagement_count bytes)) 14 n₁₅ f in
-    let e₁₅ = not-refused (not (any_below (bad_volume volumes) (volume_count volumes))) 15 none e₁₄.1 in
-    record {
-      places = λ i h. let g = ltb-false (volume_count volumes) ((engagement_at engagements i).place + (engagement_at engagements i).count) (first-none _ 0 (engagement_count bytes) e₁₄.0 i (omega arith) (omega arith)) in omega (arith, volumes-counted volumes);
-      most = volumes-most volumes (not-true _ e₁₅.0);
-    }
+  pub engagements : first (bad_engagement (calendar_of bytes) (point_count bytes) (engagement_section bytes)) 0 (engagement_count bytes) ≡ none
 
 pub passes : (bytes : List ℕ) → refusal_of bytes ≡ none → PassedBook bytes
 unfolding refusal_of sections_refusal rows_refusal first_bad_reading
 passes bytes e =
     let c = calendar_of bytes in
-    let n₁₄ = volumes_refusal (version_of bytes) (engagement_count bytes) (engagement_section bytes) (volume_section (version_of bytes) bytes) in
-    let n₇ = unless_found (first (bad_engagement (version_of bytes) c (point_count bytes) (engagement_section bytes)) 0 (engagement_count bytes)) 7 n₁₄ in
+    let n₇ = unless_found (first (bad_engagement c (point_count bytes) (engagement_section bytes)) 0 (engagement_count bytes)) 7 none in
     let n₆ = unless_found (first_bad_reading c (reading_section bytes) (point_count bytes)) 6 n₇ in
     let n₅ = unless_found (first (bad_point (version_of bytes) (days_of c) (register_section bytes)) 0 (point_count bytes)) 5 n₆ in
     let n₄ = unless (calendar_good (calendar_section bytes) && table_good (table_section bytes)) 4 n₅ in
@@ -259,7 +198,7 @@ passes bytes e =
     let e₄ = not-refused (calendar_good (calendar_section bytes) && table_good (table_section bytes)) 4 n₅ e₂.1 in
     let e₅ = not_found (first (bad_point (version_of bytes) (days_of c) (register_section bytes)) 0 (point_count bytes)) 5 n₆ e₄.1 in
     let e₆ = not_found (first_bad_reading c (reading_section bytes) (point_count bytes)) 6 n₇ e₅.1 in
-    let e₇ = not_found (first (bad_engagement (version_of bytes) c (point_count bytes) (engagement_section bytes)) 0 (engagement_count bytes)) 7 n₁₄ e₆.1 in
+    let e₇ = not_found (first (bad_engagement c (point_count bytes) (engagement_section bytes)) 0 (engagement_count bytes)) 7 none e₆.1 in
     let tables = both (calendar_good (calendar_section bytes)) (table_good (table_section bytes)) e₄.0 in
     record {
       header = e₁.0;
@@ -269,15 +208,22 @@ passes bytes e =
       points = e₅.0;
       readings = found_none (quarters_of c) (first (bad_reading (reading_section bytes)) 0 (quarters_of c * point_count bytes)) e₆.0;
       engagements = e₇.0;
-      volumes = supplies bytes e₇.1;
     }
 
 -- the readings take no more bytes than their extent says
 readings-room : (bytes : List ℕ) → layout_good bytes ≡ true → length (reading_section bytes) ≤ 4 * (quarters_of (calendar_of bytes) * point_count bytes)
 unfolding layout_good
 readings-room bytes e =
-    let held = laid bytes (version_of bytes) (calendar_of bytes) (point_count bytes) (engagement_count bytes) e in
-    omega (arith, held.readings.size, mul_assoc 4 (quarters_of (calendar_of bytes)) (point_count bytes))
+    let c = calendar_of bytes in
+    let reg = point_width * point_count bytes in
+    let met = 4 * quarters_of c * point_count bytes in
+    let eng = engagement_width * engagement_count bytes in
+    let r₀ = adjoins bytes 0 56 (days_of c) (8 ∷ reg ∷ met ∷ eng ∷ []) e in
+    let r₁ = adjoins bytes 1 (56 + days_of c) 8 (reg ∷ met ∷ eng ∷ []) r₀.1 in
+    let r₂ = adjoins bytes 2 (56 + days_of c + 8) reg (met ∷ eng ∷ []) r₁.1 in
+    let r₃ = adjoins bytes 3 (56 + days_of c + 8 + reg) met (eng ∷ []) r₂.1 in
+    let extent = both (eqb (offset_of bytes 3) (56 + days_of c + 8 + reg)) (eqb (length_of bytes 3) met) r₃.0 in
+    simp length-take (omega (arith, eqb-true (length_of bytes 3) met extent.1, mul_assoc 4 (quarters_of c) (point_count bytes)))
 
 pub sound : (bytes : List ℕ) → refusal_of bytes ≡ none → Sound (book_of bytes)
 unfolding book_of
@@ -289,8 +235,8 @@ sound bytes e =
       table = λ d. all-x-of-y (table_section bytes) p.table (category_at (calendar_section bytes) d) (category-few (calendar_section bytes) p.calendar d);
       points = λ point m. at-point p.points (Memᴰ.of_map (point_at (register_section bytes)) (range 0 (point_count bytes)) m);
       readings = λ n q. readings-bounded (reading_section bytes) (quarters_of (calendar_of bytes) * point_count bytes) (readings-room bytes p.layout) p.readings (quarters_of (calendar_of bytes) * n + q);
-      engagements = λ g m. rw (length-map, length-range) (at_row p (Memᴰ.of_map (engagement_at (engagement_section bytes)) (range 0 (engagement_count bytes)) m)).0;
-      terms = λ g m. (at_row p (Memᴰ.of_map (engagement_at (engagement_section bytes)) (range 0 (engagement_count bytes)) m)).1;
+      engagements = λ g m. rw (length-map, length-range) (at_row p.engagements (Memᴰ.of_map (engagement_at (engagement_section bytes)) (range 0 (engagement_count bytes)) m)).0;
+      terms = λ g m. (at_row p.engagements (Memᴰ.of_map (engagement_at (engagement_section bytes)) (range 0 (engagement_count bytes)) m)).1;
       few = rw (length-map, length-range) h.rows;
     }
   where
@@ -299,13 +245,7 @@ sound bytes e =
         let r = mem-range 0 (point_count bytes) i m in
         rw (← q) (limited-row (version_of bytes) (days_of (calendar_of bytes)) (register_section bytes) i (first-none _ 0 (point_count bytes) f i r.0 r.1))
 
-    at_row : {g : Engagement} → PassedBook bytes → (i : ℕ) × Memᴰ i (range 0 (engagement_count bytes)) × (engagement_at (engagement_section bytes) i ≡ g) → Placed (calendar_of bytes) (point_count bytes) g × OnTerms (book_of bytes) g
-    at_row p (i, m, q) =
+    at_row : {g : Engagement} → first (bad_engagement (calendar_of bytes) (point_count bytes) (engagement_section bytes)) 0 (engagement_count bytes) ≡ none → (i : ℕ) × Memᴰ i (range 0 (engagement_count bytes)) × (engagement_at (engagement_section bytes) i ≡ g) → Placed (calendar_of bytes) (point_count bytes) g × OnTerms g
+    at_row f (i, m, q) =
         let r = mem-range 0 (engagement_count bytes) i m in
-        let good = first-none _ 0 (engagement_count bytes) p.engagements i r.0 r.1 in
-        rw (← q) (good-row (book_of bytes) (calendar_of bytes) (point_count bytes) (engagement_section bytes) i good (λ t. ((p.volumes t).places i (omega (arith, r.1)), (p.volumes t).most)))
-
--- so a version 3 book reads no volume outside its section
-pub volumes-inside : (bytes : List ℕ) → refusal_of bytes ≡ none → lists_volumes (version_of bytes) ≡ true → (e : Engagement) → Memᴰ e (book_of bytes).engagements → (k : ℕ) → k < e.count → e.place + k < length (book_of bytes).volumes
-unfolding book_of
-volumes-inside bytes passed lists e m k h = let s = ((sound bytes passed).terms e m).supplied lists in omega arith
+        rw (← q) (good-row (calendar_of bytes) (point_count bytes) (engagement_section bytes) i (first-none _ 0 (engagement_count bytes) f i r.0 r.1))

@@ -12,8 +12,7 @@ use Rattle.book.specs.declared.Method.TheVariants.{LastQuarter, HighXOfY, Adjust
 use Rattle.book.specs.declared.Engagement.{Engagement}
 use Rattle.book.specs.Book.{Book}
 use Rattle.volumes.specs.Baseline.{point_of, watts, reading_before, window, own_reading, day_reading, day_readings, own_window, day_window, windowed, allowed, suits, engaged, clear, regular, eligible, eligible_days, latest, day_sum, taken, high, addend, last_reading, baseline_by, baseline}
-use Rattle.volumes.specs.Requested.{requested_at}
-use Rattle.volumes.specs.Settlement.{delivered_by, delivered, source_by, injection_by, signed, source_correction, fsp_correction, injection_correction, corrections, row}
+use Rattle.volumes.specs.Settlement.{delivered_by, delivered, requested_at, source_by, injection_by, signed, source_correction, fsp_correction, injection_correction, corrections, row}
 use Rattle.volumes.specs.Sheets.{covers, quarter_at, parties_of, parties, share_of, correction_at, sheet_at}
 use Rattle.volumes.specs.declared.Series.{Series}
 use Rattle.volumes.specs.Series.{Kind, is_engagement, grains_of, grains_at}
@@ -23,12 +22,12 @@ use Rattle.volumes.specs.SplitLaws.{signed-zero}
 pub two_amounts : Book → Engagement → ℕ → List (ℕ × ℤ)
 two_amounts book e k =
     ((point_of book e).sourceparty, signed e.direction (pos (delivered book e k)))
-    ∷ ((point_of book e).fspparty, signed e.direction (pos (requested_at book e k) -ℤ pos (delivered book e k)))
+    ∷ ((point_of book e).fspparty, signed e.direction (pos (requested_at e k) -ℤ pos (delivered book e k)))
     ∷ []
 
 module _ (book : Book) (one : book.version ≡ 1) where
   -- "A version 1 row keeps its four numbers, and its fifth is 0."
-  pub row_one : (e : Engagement) (k : ℕ) → row book e k ≡ baseline book e k ∷ pos (delivered book e k) ∷ signed e.direction (pos (delivered book e k)) ∷ signed e.direction (pos (requested_at book e k) -ℤ pos (delivered book e k)) ∷ pos 0 ∷ []
+  pub row_one : (e : Engagement) (k : ℕ) → row book e k ≡ baseline book e k ∷ pos (delivered book e k) ∷ signed e.direction (pos (delivered book e k)) ∷ signed e.direction (pos (requested_at e k) -ℤ pos (delivered book e k)) ∷ pos 0 ∷ []
   unfolding row corrections source_correction fsp_correction injection_correction source_by injection_by
   row_one e k = rw (one, signed-zero e.direction)
 
@@ -56,7 +55,6 @@ of_version version book =
       points = book.points;
       reading = book.reading;
       engagements = book.engagements;
-      volumes = book.volumes;
     }
 
 module _ (version : ℕ) (book : Book) where

@@ -27,8 +27,7 @@ use Rattle.book.specs.Header.{splits}
 use Rattle.book.specs.Book.{Book}
 use Rattle.volumes.specs.Quarters.{start, reference}
 use Rattle.volumes.specs.Baseline.{no_point, point_of, watts, mean, reading_before, window, day_reading, own_reading, own_window, day_window, taken, high, addend, last_reading, baseline_by, baseline}
-use Rattle.volumes.specs.Requested.{requested_at}
-use Rattle.volumes.specs.Settlement.{limited, delivered_by, delivered, signed, source_correction, fsp_correction, injection_correction, corrections}
+use Rattle.volumes.specs.Settlement.{requested_at, limited, delivered_by, delivered, signed, source_correction, fsp_correction, injection_correction, corrections}
 use Rattle.volumes.specs.Sheets.{covers, quarter_at, parties_of, share_of, correction_at, sheet_at}
 use Rattle.volumes.specs.SplitLaws.{source-most, injection-most}
 use Rattle.volumes.specs.SoundInner.{Bounded, Limited, OnTerms, Sound}
@@ -158,20 +157,20 @@ module _ (book : Book) (s : Sound book) (e : Engagement) where
       let read = grains_z (watts (own_reading book e k)) in
       signed-bounded e.direction most _ (record { above = omega (arith, injection-most book.version e.direction base read (delivered book e k), delivered_most k); below = omega arith })
 
-  pub fsp_bounded : OnTerms book e → (k : ℕ) → Bounded most (fsp_correction book e k)
+  pub fsp_bounded : OnTerms e → (k : ℕ) → Bounded most (fsp_correction book e k)
   unfolding fsp_correction requested_at
-  fsp_bounded t k = signed-bounded e.direction most (pos (requested_at book e k) -ℤ pos (delivered book e k)) (apart (requested_at book e k) (delivered book e k) (mul-le-mul_right per_watt (t.most k)) (delivered_most k))
+  fsp_bounded t k = signed-bounded e.direction most (pos (grains e.requested) -ℤ pos (delivered book e k)) (apart (grains e.requested) (delivered book e k) (mul-le-mul_right per_watt t.most) (delivered_most k))
     where
       apart : (m n : ℕ) → m ≤ most → n ≤ most → Bounded most (pos m -ℤ pos n)
       apart m n h k = record { above = omega (arith, dif (pos m) (pos n)); below = omega (arith, dif (pos m) (pos n)) }
 
   -- the five numbers of a row
-  pub row_fits : OnTerms book e → (k : ℕ) → SFits w64 (baseline book e k) × SFits w64 (pos (delivered book e k)) × SFits w64 (source_correction book e k) × SFits w64 (fsp_correction book e k) × SFits w64 (injection_correction book e k)
+  pub row_fits : OnTerms e → (k : ℕ) → SFits w64 (baseline book e k) × SFits w64 (pos (delivered book e k)) × SFits w64 (source_correction book e k) × SFits w64 (fsp_correction book e k) × SFits w64 (injection_correction book e k)
   row_fits t k =
       (bounded-fits (baseline_bounded k) (omega arith), bounded-fits {n = most} (record { above = delivered_most k; below = omega arith }) (omega arith), bounded-fits (source_bounded k) (omega arith), bounded-fits (fsp_bounded t k) (omega arith), bounded-fits (injection_bounded k) (omega arith))
 
   -- what one engagement adds to a sheet
-  pub correction_bounded : OnTerms book e → (party p : ℕ) → Bounded (3 * most) (correction_at book party p e)
+  pub correction_bounded : OnTerms e → (party p : ℕ) → Bounded (3 * most) (correction_at book party p e)
   unfolding correction_at share_of parties_of corrections zip zip_with sum_by
   correction_bounded t party p = covered (covers book.calendar e p) (all (splits book.version) (quarter_at book.calendar e p))
     where
@@ -195,7 +194,7 @@ module _ (book : Book) (s : Sound book) (e : Engagement) where
       covered false h = bounded-zero
 
 -- a number of a sheet, and what some of the engagements make of it
-pub sheet-part-fits : (book : Book) → Sound book → (l : List Engagement) → ((e : Engagement) → Memᴰ e l → OnTerms book e) → length l ≤ 512 → (party p : ℕ) → SFits w64 (sum_z (correction_at book party p) l)
+pub sheet-part-fits : (book : Book) → Sound book → (l : List Engagement) → ((e : Engagement) → Memᴰ e l → OnTerms e) → length l ≤ 512 → (party p : ℕ) → SFits w64 (sum_z (correction_at book party p) l)
 sheet-part-fits book s l h few party p = bounded-fits (bounded-more (bounded-sum (3 * most) (correction_at book party p) l (λ e m. correction_bounded book s e (h e m) party p)) (mul-le-mul_left (3 * most) few)) (omega arith)
 
 pub sheet-fits : (book : Book) → Sound book → (party p : ℕ) → SFits w64 (sheet_at book party p)

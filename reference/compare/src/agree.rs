@@ -1,6 +1,6 @@
 //! Each call of the proved library beside the reference: the answer, and every buffer afterwards.
 
-use crate::books::{damaged_book, damaged_file, random_book, random_twin};
+use crate::books::{damaged_book, damaged_file, random_book};
 use crate::calls::{self, Named};
 use crate::lent::{Lent, Tally, near};
 use crate::quick;
@@ -18,28 +18,23 @@ const LONG: usize = 1 << 22;
 struct Comparison {
     random: Random,
     tally: Tally,
-    met: Met,
+    split: Split,
 }
 
-/// What was met of the three versions of the book.
+/// What was met of both versions of the book.
 #[derive(Default)]
-struct Met {
-    /// Accepted books of each version.
-    books: [usize; 3],
-    /// Rows of each version without delivery, to the off-take party, to the injection party, to both.
-    rows: [[usize; 4]; 3],
-    /// Version 3 books that have the rows of a version 2 book, and those of them that are accepted.
-    twins: [usize; 2],
+struct Split {
+    /// Rows of version 1, and of version 2 without delivery, to the off-take party, to the injection party, to both.
+    rows: [usize; 5],
     /// Sheets of parties in the injection column, and of those that stand in no other.
     sheets: [usize; 2],
 }
 
-impl Met {
+impl Split {
     fn count_rows(&mut self, version: u16, rows: &[i64]) {
-        let version = version as usize - 1;
-        self.books[version] += 1;
         for row in rows.chunks(ROW_WIDTH) {
-            self.rows[version][(row[2] != 0) as usize + 2 * (row[4] != 0) as usize] += 1;
+            let kind = 1 + (row[2] != 0) as usize + 2 * (row[4] != 0) as usize;
+            self.rows[if version == 1 { 0 } else { kind }] += 1;
         }
     }
 
@@ -51,18 +46,16 @@ impl Met {
     }
 
     fn print(&self) {
-        for ((version, books), [none, off_take, injection, both]) in (1..).zip(self.books).zip(self.rows) {
-            println!("  version {version}: {books} accepted books, rows: {none} without delivery,");
-            println!("    {off_take} off-take, {injection} injection, {both} both");
-        }
-        println!("  version 3 books with the rows of a version 2 book: {}, {} accepted", self.twins[0], self.twins[1]);
+        let [first, none, off_take, injection, both] = self.rows;
+        println!("  rows of version 1: {first}");
+        println!("  of version 2: {none} without delivery, {off_take} off-take, {injection} injection, {both} both");
         println!("  sheets of injection parties: {}, {} in no other column", self.sheets[0], self.sheets[1]);
     }
 }
 
 /// The seed's comparisons, so many rounds of them.
 pub fn run(seed: u64, rounds: usize) {
-    let mut comparison = Comparison { random: Random::new(seed), tally: Tally::default(), met: Met::default() };
+    let mut comparison = Comparison { random: Random::new(seed), tally: Tally::default(), split: Split::default() };
     for round in 1..=rounds {
         comparison.round();
         if round % (rounds / 10).max(1) == 0 {
@@ -70,7 +63,7 @@ pub fn run(seed: u64, rounds: usize) {
         }
     }
     comparison.tally.print();
-    comparison.met.print();
+    comparison.split.print();
 }
 
 fn check(alike: bool, call: &str, what: &str, bytes: &[u8]) {
@@ -92,25 +85,12 @@ impl Comparison {
     /// One book through all calls of a book, and a file through the reader and the writer.
     fn round(&mut self) {
         let book = random_book(&mut self.random);
-        if book.version == 2 {
-            self.twin(&book);
-        }
         let bytes = if self.random.once_in(2) { damaged_book(&mut self.random, &book) } else { book.encode() };
         self.settle(&bytes);
         self.sheet(&bytes);
         self.file(&bytes);
         let case = random_file(&mut self.random);
         self.write(&case.id, &case.moment, case.kind, case.receiver, (case.year, case.month), &case.numbers);
-    }
-
-    /// C-15: "Versions 1 and 2 behave as a constant list."
-    fn twin(&mut self, book: &Book) {
-        let bytes = random_twin(&mut self.random, book).encode();
-        let expected = settle::settle(&book.encode(), LONG);
-        check(settle::settle(&bytes, LONG) == expected, "the reference's settle", "version 3", &bytes);
-        self.met.twins[0] += 1;
-        self.met.twins[1] += expected.is_ok() as usize;
-        self.settle(&bytes);
     }
 
     fn settle(&mut self, bytes: &[u8]) {
@@ -126,7 +106,7 @@ impl Comparison {
         }
         self.tally.count("settle", &expected);
         if let Ok(rows) = &expected {
-            self.met.count_rows(decode(bytes).unwrap().version, rows);
+            self.split.count_rows(decode(bytes).unwrap().version, rows);
         }
     }
 
@@ -145,7 +125,7 @@ impl Comparison {
         check(alike, "sheet", &format!("party {party}, {answer:?}"), bytes);
         self.tally.count("sheet", &expected);
         if expected.is_ok() {
-            self.met.count_sheet(&decode(bytes).unwrap(), party);
+            self.split.count_sheet(&decode(bytes).unwrap(), party);
         }
     }
 

@@ -5,16 +5,12 @@ use reference::calendar::MONTHS;
 use reference::random::Random;
 use reference::settle_cases;
 use reference::split_cases::random_split_book;
-use reference::volume_cases::{give_volumes, random_volume_book, twin};
 
-const MOST: u32 = 1_000_000_000;
-
-/// A good book of version 1, 2 or 3.
+/// A good book of version 1 or 2.
 pub fn random_book(random: &mut Random) -> Book {
-    match random.range(0, 7) {
+    match random.range(0, 5) {
         0 => settle_cases::random_book(random),
         1 => random_split_book(random),
-        2 => random_volume_book(random),
         _ => full_book(random),
     }
 }
@@ -25,7 +21,7 @@ fn full_book(random: &mut Random) -> Book {
     let lead_days = if random.once_in(5) { random.range(1, 33) } else { random.range(3, 9) } as u8;
     let points = if random.once_in(40) { random.range(7, 30) } else { random.range(1, 5) } as u16;
     let mut book = Book::plain(random.range(2018, 2099) as u16, month, lead_days, points);
-    book.version = random.range(1, 3) as u16;
+    book.version = random.range(1, 2) as u16;
     for category in &mut book.calendar {
         *category = if random.once_in(5) { random.range(0, 3) as u8 } else { 0 };
     }
@@ -37,29 +33,7 @@ fn full_book(random: &mut Random) -> Book {
         fill_point(random, &mut book, point);
     }
     book.lay_out();
-    if book.version == 3 {
-        give_volumes(random, &mut book);
-    }
     book
-}
-
-/// The version 3 book with the requests of a version 2 book, and so with its rows: for each engagement a run of volumes, the runs in any order and
-/// with others between.
-pub fn random_twin(random: &mut Random, book: &Book) -> Book {
-    let mut twin = twin(book);
-    let mut rest: Vec<usize> = (0..book.engagements.len()).collect();
-    twin.volumes.clear();
-    while !rest.is_empty() {
-        let index = rest.swap_remove(random.range(0, rest.len() as i64 - 1) as usize);
-        for _ in 0..random.range(0, 2) {
-            twin.volumes.push(random.pick(&[0, 1, MOST]));
-        }
-        let row = &book.engagements[index];
-        twin.engagements[index].place = twin.volumes.len() as u32;
-        twin.volumes.extend(vec![row.requested; row.count as usize]);
-    }
-    twin.lay_out();
-    twin
 }
 
 fn fill_point(random: &mut Random, book: &mut Book, point: usize) {
@@ -134,30 +108,11 @@ fn change_readings(random: &mut Random, bytes: &mut [u8], (start, length): (i64,
     }
 }
 
-/// Another value for one of the nine bytes behind a register row's method, of which two name a party from version 2 on.
+/// Another value for one of the nine bytes behind a register row's method, of which version 2 has two for a party.
 fn change_last_nine(random: &mut Random, bytes: &mut [u8], (start, length): (i64, i64)) {
     let row = start + 64 * random.range(0, length / 64 - 1);
     let place = (row + random.range(55, 63)) as usize;
     bytes[place] = other(random, bytes[place]);
-}
-
-/// A place near the section's end or far behind it, a request, a volume near its limit, or some of these.
-fn change_volumes(random: &mut Random, book: &mut Book) {
-    for _ in 0..random.range(1, 2) {
-        if random.once_in(2) && !book.engagements.is_empty() {
-            let index = random.range(0, book.engagements.len() as i64 - 1) as usize;
-            let row = &mut book.engagements[index];
-            let last = (book.volumes.len() as u32).wrapping_sub(row.count as u32);
-            let wraps = (row.count as u32).wrapping_neg();
-            row.place = random.pick(&[last, last.wrapping_add(1), u32::MAX, wraps, 1 << 30, 4 * row.place]);
-            if random.once_in(8) {
-                row.requested = random.pick(&[1, MOST, 1 << 16, 1 << 31]);
-            }
-        } else if !book.volumes.is_empty() {
-            let index = random.range(0, book.volumes.len() as i64 - 1) as usize;
-            book.volumes[index] = random.pick(&[0, MOST, MOST + 1, MOST + 1, 1 << 31, u32::MAX]);
-        }
-    }
 }
 
 /// The bytes of a book with some of them changed, cut off or added, now and then with 96 readings on every day.
@@ -166,23 +121,16 @@ pub fn damaged_book(random: &mut Random, book: &Book) -> Vec<u8> {
     if random.once_in(20) {
         book.resize_readings(96 * book.days());
     }
-    if book.version == 3 && random.once_in(2) {
-        change_volumes(random, &mut book);
-        if random.once_in(2) {
-            return book.encode();
-        }
-    }
     let mut bytes = book.encode();
     let section = |k: usize| (book.pairs[k].0 as i64, book.pairs[k].1 as i64);
     for _ in 0..random.range(1, 2) {
-        let (start, length) = match random.range(0, 8) {
+        let (start, length) = match random.range(0, 7) {
             0 => (0, 16),
-            1 => (16, 8 * book.pairs.len() as i64),
+            1 => (16, 40),
             2 => section(0),
             3 => section(1),
             4 => section(2),
             5 => section(3),
-            6 if book.version == 3 => section(5),
             _ => section(4),
         };
         if length > 0 {
@@ -199,8 +147,6 @@ pub fn damaged_book(random: &mut Random, book: &Book) -> Vec<u8> {
     match random.range(0, 19) {
         0 => bytes.truncate(random.range(0, bytes.len() as i64) as usize),
         1 => bytes.push(0),
-        2 => bytes.truncate(random.range(54, 66) as usize),
-        3 => bytes[0] = random.range(1, 4) as u8,
         _ => {}
     }
     bytes

@@ -62,8 +62,8 @@ impl Clock {
 
 /// A book whose layout is good, and its sections.
 struct Sections<'a> {
-    /// From version 2 on its rows have an injection party, from version 3 on each quarter-hour a volume.
-    version: u16,
+    /// Whether its rows have an injection party, which is so from version 2 on.
+    splits: bool,
     lead: usize,
     days: usize,
     clock: Clock,
@@ -75,8 +75,6 @@ struct Sections<'a> {
     register: &'a [u8],
     readings: &'a [u8],
     engagements: &'a [u8],
-    /// None before version 3.
-    volumes: &'a [u8],
 }
 
 fn sections(book: &[u8]) -> Result<Sections<'_>, Refusal> {
@@ -85,9 +83,7 @@ fn sections(book: &[u8]) -> Result<Sections<'_>, Refusal> {
     }
     let (version, year, month, lead) = (u16_at(book, 0), u16_at(book, 2), book[4], book[5] as usize);
     let (points, rows) = (u16_at(book, 6) as usize, u16_at(book, 8) as usize);
-    let pairs = if version == 3 { 6 } else { 5 };
-    let ranged = (1..=3).contains(&version)
-        && book.len() >= 16 + 8 * pairs
+    let ranged = (1..=2).contains(&version)
         && (2018..=2099).contains(&year)
         && (1..=12).contains(&month)
         && (1..=33).contains(&lead)
@@ -101,14 +97,10 @@ fn sections(book: &[u8]) -> Result<Sections<'_>, Refusal> {
     let clock = clock(year as i64, month as i64, lead);
     let quarters = (96 * days).wrapping_add_signed(clock.more);
     let point_bytes = 4 * quarters;
-    let volumes = if version == 3 { u32_at(book, 60) as usize } else { 0 };
-    if volumes % 4 != 0 {
-        return refused(2, 0);
-    }
-    let lengths = [days, 8, 64 * points, point_bytes * points, 16 * rows, volumes];
-    let mut parts: [&[u8]; 6] = [&[]; 6];
-    let mut at = 16 + 8 * pairs;
-    for (k, length) in lengths.into_iter().enumerate().take(pairs) {
+    let lengths = [days, 8, 64 * points, point_bytes * points, 16 * rows];
+    let mut parts: [&[u8]; 5] = [&[]; 5];
+    let mut at = 56;
+    for (k, length) in lengths.into_iter().enumerate() {
         let pair = (u32_at(book, 16 + 8 * k) as usize, u32_at(book, 20 + 8 * k) as usize);
         if pair != (at, length) || book.len() < at + length {
             return refused(2, 0);
@@ -119,21 +111,9 @@ fn sections(book: &[u8]) -> Result<Sections<'_>, Refusal> {
     if at != book.len() {
         return refused(2, 0);
     }
-    let [calendar, pairs, register, readings, engagements, volumes] = parts;
-    Ok(Sections {
-        version,
-        lead,
-        days,
-        clock,
-        quarters,
-        point_bytes,
-        calendar,
-        pairs,
-        register,
-        readings,
-        engagements,
-        volumes,
-    })
+    let [calendar, pairs, register, readings, engagements] = parts;
+    let splits = version >= 2;
+    Ok(Sections { splits, lead, days, clock, quarters, point_bytes, calendar, pairs, register, readings, engagements })
 }
 
 fn judge_tables(s: &Sections) -> Result<(), Refusal> {
@@ -147,7 +127,7 @@ fn judge_tables(s: &Sections) -> Result<(), Refusal> {
 fn judge_register(s: &Sections) -> Result<(), Refusal> {
     let mut access_points: HashMap<u64, (u64, u8)> = HashMap::new();
     // Of the row's last eight bytes the first two are the injection party, low byte first.
-    let zeros = if s.version >= 2 { !0xffff } else { u64::MAX };
+    let zeros = if s.splits { !0xffff } else { u64::MAX };
     let mut last = None;
     for (index, row) in s.register.chunks_exact(64).enumerate() {
         let (delivery, access, supplier) = (u64_at(row, 0), u64_at(row, 8), u64_at(row, 16));
@@ -195,7 +175,6 @@ struct Engagement {
     down: bool,
     notice: usize,
     requested: u32,
-    place: usize,
 }
 
 fn engagement(row: &[u8]) -> Engagement {
@@ -207,7 +186,6 @@ fn engagement(row: &[u8]) -> Engagement {
         down: row[5] == 1,
         notice: row[6] as usize,
         requested: u32_at(row, 8),
-        place: u32_at(row, 12) as usize,
     }
 }
 
@@ -215,10 +193,6 @@ fn judge_engagements(s: &Sections) -> Result<(), Refusal> {
     let mut free_from = (0, 0, 0);
     for (index, row) in s.engagements.chunks_exact(16).enumerate() {
         let e = engagement(row);
-        let request_good = match s.version {
-            3 => e.requested == 0,
-            _ => (1..=MOST_WATTS as u32).contains(&e.requested) && e.place == 0,
-        };
         let good = e.point < s.register.len() / 64
             && (s.lead..s.days).contains(&e.day)
             && e.count >= 1
@@ -226,7 +200,8 @@ fn judge_engagements(s: &Sections) -> Result<(), Refusal> {
             && row[5] <= 1
             && e.notice <= 96
             && row[7] == 0
-            && request_good
+            && (1..=MOST_WATTS as u32).contains(&e.requested)
+            && u32_at(row, 12) == 0
             && (e.point, e.day, e.first) >= free_from;
         if !good {
             return refused(7, index);
@@ -234,19 +209,6 @@ fn judge_engagements(s: &Sections) -> Result<(), Refusal> {
         free_from = (e.point, e.day, e.first + e.count);
     }
     Ok(())
-}
-
-/// 14, then 15.
-fn judge_volumes(s: &Sections) -> Result<(), Refusal> {
-    let passes = |row: &[u8]| u32_at(row, 12) as usize + row[4] as usize > s.volumes.len() / 4;
-    if s.version < 3 {
-        return Ok(());
-    }
-    if let Some(index) = s.engagements.chunks_exact(16).position(passes) {
-        return refused(14, index);
-    }
-    let bad = |bad, four: &[u8]| bad | (u32_at(four, 0) > MOST_WATTS as u32);
-    if s.volumes.chunks_exact(4).fold(false, bad) { refused(15, 0) } else { Ok(()) }
 }
 
 /// The day sums of a point: before each quarter-hour of the calendar the sum of its readings so far, times 2^13, and
@@ -416,20 +378,17 @@ fn settle_engagement(
 /// The numbers of a row.
 const ROW_WIDTH: usize = 5;
 
-fn write_rows<const VERSION: u16>(s: &Sections, e: &Engagement, bases: &[i64], out: &mut [i64]) {
+fn write_rows<const SPLITS: bool>(s: &Sections, e: &Engagement, bases: &[i64], out: &mut [i64]) {
     let row = &s.register[64 * e.point..64 * e.point + 64];
     let from = s.point_bytes * e.point + 4 * (s.clock.day_start(e.day) + e.first);
     let own = &s.readings[from..from + 4 * e.count];
     let most = u32_at(row, if e.down { 44 } else { 40 }) as i64 * GRAINS_PER_WATT;
-    let volumes = if VERSION == 3 { &s.volumes[4 * e.place..4 * (e.place + e.count)] } else { &[] };
+    let requested = e.requested as i64 * GRAINS_PER_WATT;
     let sign = if e.down { -1 } else { 1 };
-    for (k, ((five, &base), bytes)) in out.chunks_exact_mut(ROW_WIDTH).zip(bases).zip(own.chunks_exact(4)).enumerate() {
-        let watts = if VERSION == 3 { u32_at(volumes, 4 * k) } else { e.requested };
-        let requested = watts as i64 * GRAINS_PER_WATT;
+    for ((five, &base), bytes) in out.chunks_exact_mut(ROW_WIDTH).zip(bases).zip(own.chunks_exact(4)) {
         let level = i32::from_le_bytes(bytes.try_into().unwrap()) as i64 * GRAINS_PER_WATT;
         let delivered = (sign * (base - level)).clamp(0, most);
-        let off_take =
-            if VERSION >= 2 { (sign * (base.max(0) - level.max(0))).max(0).min(delivered) } else { delivered };
+        let off_take = if SPLITS { (sign * (base.max(0) - level.max(0))).max(0).min(delivered) } else { delivered };
         five[0] = base;
         five[1] = delivered;
         five[2] = sign * off_take;
@@ -445,15 +404,10 @@ pub fn settle(book: &[u8], rows: &mut [i64]) -> Result<usize, Refusal> {
     judge_register(&s)?;
     judge_readings(&s)?;
     judge_engagements(&s)?;
-    judge_volumes(&s)?;
     let count: usize = s.engagements.chunks_exact(16).map(|row| row[4] as usize).sum();
     // A refusal changes no buffer: where the rows might not be filled, they are filled apart.
     let mut apart = vec![0; ROW_WIDTH * count];
-    let write_rows = match s.version {
-        1 => write_rows::<1>,
-        2 => write_rows::<2>,
-        _ => write_rows::<3>,
-    };
+    let write_rows = if s.splits { write_rows::<true> } else { write_rows::<false> };
     let engaged = engaged_days(&s);
     let mut sums = DaySums { sums: vec![0; s.quarters + 1] };
     let mut bases = [0; 100];

@@ -5,7 +5,6 @@ use reference::book::{Book, Choice, Engagement};
 use reference::random::Random;
 use reference::refusal::Refusal;
 use reference::settle::{self, ROW_WIDTH};
-use reference::volume_cases::twin;
 use std::time::Instant;
 
 /// What a timed book has: its version, and engagements of one method, count and X and Y, on 64 days up to the end of a month.
@@ -22,12 +21,12 @@ struct Shape {
 /// The largest settling.
 const LARGEST: Shape = Shape { version: 1, month: (2021, 8), points: 256, engagements: 512, method: 2, count: 48 };
 
-/// A book with 33 lead days, X 10 and Y 20; of version 2 the same with an injection party, of version 3 that with its requests as volumes.
+/// A book with 33 lead days, X 10 and Y 20; of version 2 the same with an injection party.
 fn month(seed: u64, shape: Shape) -> Book {
     let Shape { version, month: (year, month), points, engagements, method, count } = shape;
     let mut random = Random::new(seed);
     let mut book = Book::plain(year, month, 33, points);
-    book.version = version.min(2);
+    book.version = version;
     book.choices = vec![Choice { x: 10, y: 20 }; 4];
     for row in &mut book.register {
         (row.supplier, row.fsp, row.method) = (3, 7, method);
@@ -45,7 +44,7 @@ fn month(seed: u64, shape: Shape) -> Book {
         book.engagements.push(Engagement { point, day, first, count, direction, requested, ..Engagement::default() });
     }
     book.lay_out();
-    if version == 3 { twin(&book) } else { book }
+    book
 }
 
 /// Points and settled days in rising order, all different, the points taking turns.
@@ -195,14 +194,12 @@ pub fn run() {
     for book in timed([(1, Shape { month: (2023, 10), ..LARGEST })].into_iter(), in_turn) {
         book.print("book 1", "");
     }
-    for version in [2, 3] {
-        println!("the seven books of version {version}");
-        let books = timed((1..=7).map(|seed| (seed, Shape { version, ..LARGEST })), in_turn);
-        for (book, seed) in books.iter().zip(1..) {
-            book.print(&format!("book {seed}"), "");
-        }
-        println!("  greatest ratio {:.2}", greatest_ratio(&books));
+    println!("the seven books of version 2");
+    let books = timed((1..=7).map(|seed| (seed, Shape { version: 2, ..LARGEST })), in_turn);
+    for (book, seed) in books.iter().zip(1..) {
+        book.print(&format!("book {seed}"), "");
     }
+    println!("  greatest ratio {:.2}", greatest_ratio(&books));
     let growths = [
         doubling("points", 32, |points| Shape { points, ..LARGEST }),
         doubling("engagements", 64, |engagements| Shape { engagements, ..LARGEST }),

@@ -27,9 +27,6 @@ u8-at-requires-5 c κs = search rules
 u32-at-requires : tie.Need-u32-at-requires
 u32-at-requires c κs = search rules
 
-u32-at-requires-2 : tie.Need-u32-at-requires-2
-u32-at-requires-2 c κs = search rules
-
 returns : tie.Need-returns
 returns c = cc
 
@@ -45,5 +42,4 @@ engagement-of-spec =
     u8-at-requires-4
     u8-at-requires-5
     u32-at-requires
-    u32-at-requires-2
     returns)

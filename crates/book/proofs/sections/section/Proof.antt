@@ -41,7 +41,7 @@ part-result-start : tie.Need-slice-bounds-result-start
 part-result-start c = search rules
 
 part-result-end : tie.Need-slice-bounds-result-end
-part-result-end c = omega (arith, c.before.before.before.requires.1)
+part-result-end c = omega (arith, c.before.before.before.requires.2)
 
 returns : tie.Need-returns
 returns c =

@@ -2,15 +2,11 @@
 use mathlib.Core.Path.{ap}
 use Prim.Native.Nat.{ℕ, ◌*◌, ◌≤◌}
 use Rattle.quarters.specs.QuartersLaws.{days-few, quarters-few, readings-few}
-use Rattle.book.specs.HeaderLaws.{header-range}
 use native.Mathlib.Omega.{arith}
 use borrow.Author.Rules.{rules}
 use Rattle.judging.proofs.header.layout_at.Statement.{statement}
 use Rattle.judging.proofs.header.layout_at.Tie as tie
 use Rattle.quarters.specs.QuartersInner.{longest_calendar, most_reading_bytes}
-
-header-length-requires : tie.Need-header-length-requires
-header-length-requires c κs = search rules
 
 days-of-requires : tie.Need-days-of-requires
 days-of-requires c κs = search rules
@@ -19,10 +15,9 @@ quarters-of-requires : tie.Need-quarters-of-requires
 quarters-of-requires c κs = search rules
 
 -- the numbers are small
-small : (c : tie.After-quarters-of) → (c.before.before.header-length.result ≤ 64) × (c.before.days-of.result ≤ 64) × (c.quarters-of.result ≤ longest_calendar) × (4 * c.quarters-of.result * c.before.before.before.args.points ≤ most_reading_bytes)
+small : (c : tie.After-quarters-of) → (c.before.days-of.result ≤ 64) × (c.quarters-of.result ≤ longest_calendar) × (4 * c.quarters-of.result * c.before.before.args.points ≤ most_reading_bytes)
 small c =
-    let s = c.before.before.before in (
-      omega (arith, header-range s.args.version, c.before.before.header-length.ensures),
+    let s = c.before.before in (
       omega (arith, days-few s.args.c s.requires.0, c.before.days-of.ensures),
       omega (arith, quarters-few s.args.c s.requires.0, c.quarters-of.ensures),
       omega (arith, readings-few s.args.c s.args.points s.requires.0 s.requires.1, ap (λ (q : ℕ). 4 * q * s.args.points) c.quarters-of.ensures),
@@ -56,13 +51,12 @@ add-end : tie.Need-overflow-add-end
 add-end c = omega (arith, small c)
 
 returns : tie.Need-returns
-returns c = (cc, omega (arith, small c))
+returns c = cc
 
 pub layout-at-spec : {M : Type 1} → statement M
 layout-at-spec =
     tie.close
     (tie.spec
-    header-length-requires
     days-of-requires
     quarters-of-requires
     add-table

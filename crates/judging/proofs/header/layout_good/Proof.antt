@@ -1,13 +1,12 @@
--- The extents are compared with the places and sizes that the header gives.
 use mathlib.Core.Path.{ap, ap₂, ◌∙◌}
-use mathlib.Core.Bool.{cond, ◌&&◌}
-use mathlib.Core.List.{[], ◌∷◌}
+use mathlib.Core.Bool.{◌&&◌}
+use lib.Dec.{eqb}
 use lib.ListN.{length}
-use Prim.Native.Nat.{ℕ, ◌*◌, ◌≤◌}
-use Rattle.quarters.specs.QuartersLaws.{quarters-few, readings-few}
-use Rattle.book.specs.Header.{lists_volumes, length_of, is_extent, adjoining}
-use Rattle.book.specs.HeaderLaws.{header-range}
+use Rattle.book.specs.Header.{is_extent}
 use Rattle.judging.specs.declared.header.Places.{Places}
+-- The extents are compared with the places and sizes that the header gives.
+use Prim.Native.Nat.{ℕ, ◌*◌}
+use Rattle.quarters.specs.QuartersLaws.{quarters-few, readings-few}
 use native.Mathlib.Omega.{arith}
 use borrow.Author.Rules.{rules}
 use Rattle.judging.proofs.header.layout_good.Statement.{statement}
@@ -30,50 +29,39 @@ mul-readings-2 : tie.Need-overflow-mul-readings-2
 mul-readings-2 c = let s = c.before.before.before.before in
     omega (arith, readings-few s.args.c s.args.points s.requires.1 s.requires.2, ap (λ (q : ℕ). 4 * q * s.args.points) c.quarters-of.ensures)
 
--- every version's header has the first five extents
-long : (s : tie.Start) → 56 ≤ length s.args.book.now
-long s = omega (arith, s.requires.0, header-range s.args.version)
-
 extent-is-requires : tie.Need-extent-is-requires
-extent-is-requires c κs = omega (arith, long c.before.before.before.before)
+extent-is-requires c κs = search rules
 
 mul-extent-is : tie.Need-overflow-mul-extent-is
 mul-extent-is c = search rules
 
 extent-is-requires-2 : tie.Need-extent-is-requires-2
-extent-is-requires-2 c κs = omega (arith, long c.before.before.before.before.before)
-
-end-good-requires : tie.Need-end-good-requires
-end-good-requires c κs = let s = c.before.before.before.before.before.before in (s.requires.0, c.before.before.before.before.layout-at.ensures.1)
-
-whole-volumes-requires : tie.Need-whole-volumes-requires
-whole-volumes-requires c κs = search rules
+extent-is-requires-2 c κs = search rules
 
 extent-is-requires-3 : tie.Need-extent-is-requires-3
-extent-is-requires-3 c κs = omega (arith, long c.before.before.before.before.before.before.before.before)
+extent-is-requires-3 c κs = search rules
 
 extent-is-requires-4 : tie.Need-extent-is-requires-4
-extent-is-requires-4 c κs = omega (arith, long c.before.before.before.before.before.before.before.before.before)
+extent-is-requires-4 c κs = search rules
 
 mul-extent-is-2 : tie.Need-overflow-mul-extent-is-2
 mul-extent-is-2 c = search rules
 
 extent-is-requires-5 : tie.Need-extent-is-requires-5
-extent-is-requires-5 c κs = omega (arith, long c.before.before.before.before.before.before.before.before.before.before)
+extent-is-requires-5 c κs = search rules
 
 returns : tie.Need-returns
-returns c = let s = c.before.before.before.before.before.before.before.before.before.before.before.args in
+returns c = let s = c.before.before.before.before.before.before.before.before.before.before.args in
     let book = s.book.now in
-    let placed = c.before.before.before.before.before.before.before.before.before.layout-at.ensures.0 in
-    let days = c.before.before.before.before.before.before.before.before.days-of.ensures in
-    let readings = ap (λ (q : ℕ). 4 * q * s.points) c.before.before.before.before.before.before.before.quarters-of.ensures in
-    ap₂ ◌&&◌ c.before.before.before.whole-volumes.ensures
-    (ap₂ ◌&&◌ (c.before.before.extent-is3.ensures ∙ ap₂ (λ (p : Places) (n : ℕ). is_extent book 0 p.calendar n) placed days)
+    let placed = c.before.before.before.before.before.before.before.before.layout-at.ensures in
+    let days = c.before.before.before.before.before.before.before.days-of.ensures in
+    let readings = ap (λ (q : ℕ). 4 * q * s.points) c.before.before.before.before.before.before.quarters-of.ensures in
+    ap₂ ◌&&◌ (c.before.before.extent-is3.ensures ∙ ap (is_extent book 0 56) days)
     (ap₂ ◌&&◌ (c.before.extent-is4.ensures ∙ ap (λ (p : Places). is_extent book 1 p.table 8) placed)
     (ap₂ ◌&&◌ (c.extent-is5.ensures ∙ ap (λ (p : Places). is_extent book 2 p.register (64 * s.points)) placed)
-    (ap₂ ◌&&◌ (c.before.before.before.before.before.before.extent-is.ensures ∙ ap₂ (λ (p : Places) (n : ℕ). is_extent book 3 p.readings n) placed readings)
-    (ap₂ ◌&&◌ (c.before.before.before.before.before.extent-is2.ensures ∙ ap (λ (p : Places). is_extent book 4 p.engagements (16 * s.rows)) placed)
-    (c.before.before.before.before.end-good.ensures ∙ ap (λ (p : Places). adjoining book 5 p.end (cond (lists_volumes s.version) (length_of book 5 ∷ []) [])) placed))))))
+    (ap₂ ◌&&◌ (c.before.before.before.before.before.extent-is.ensures ∙ ap₂ (λ (p : Places) (n : ℕ). is_extent book 3 p.readings n) placed readings)
+    (ap₂ ◌&&◌ (c.before.before.before.before.extent-is2.ensures ∙ ap (λ (p : Places). is_extent book 4 p.engagements (16 * s.rows)) placed)
+    (ap (λ (p : Places). eqb (length book) p.end) placed)))))
 
 pub layout-good-spec : {M : Type 1} → statement M
 layout-good-spec =
@@ -87,8 +75,6 @@ layout-good-spec =
     extent-is-requires
     mul-extent-is
     extent-is-requires-2
-    end-good-requires
-    whole-volumes-requires
     extent-is-requires-3
     extent-is-requires-4
     mul-extent-is-2

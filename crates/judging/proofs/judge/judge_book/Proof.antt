@@ -1,9 +1,9 @@
+use Rattle.book.specs.Header.{sizes, adjoining, layout_good, calendar_section, table_section, register_section, reading_section, engagement_section}
+use Rattle.book.specs.Judged.{sections_refusal, refusal_of}
 -- Each test is the refusal that comes next; the sections are read where the layout says.
 use mathlib.Core.Path.{◌≡◌, sym, subst, ◌∙◌}
 use borrow.Author.Tests.{not-true, not-false}
-use Rattle.book.specs.Header.{layout_for, layout_good, calendar_section, table_section, register_section, reading_section, engagement_section, volume_section}
 use Rattle.book.specs.HeaderLaws.{Headed, headed}
-use Rattle.book.specs.Judged.{sections_refusal, refusal_of}
 use native.Mathlib.Omega.{arith}
 use borrow.Author.Rules.{rules}
 use Rattle.judging.proofs.judge.judge_book.Statement.{statement}
@@ -30,7 +30,7 @@ unfolding layout_good
 layout c =
     let book = c.before.before.before.before.before.before.before.before.args.book.now in
     c.layout-good.ensures
-    ∙ (λ i. layout_for book (c.before.before.before.before.version-of.ensures i) (c.before.before.before.calendar-of.ensures i) (c.before.before.point-count.ensures i) (c.before.engagement-count.ensures i))
+    ∙ (λ i. adjoining book 0 56 (sizes (c.before.before.before.calendar-of.ensures i) (c.before.before.point-count.ensures i) (c.before.engagement-count.ensures i)))
 
 version-of-requires : tie.Need-version-of-requires
 version-of-requires c κs = (header c).long
@@ -46,7 +46,7 @@ engagement-count-requires c κs = (header c.before.before.before).long
 
 layout-good-requires : tie.Need-layout-good-requires
 layout-good-requires c κs = let h = header c.before.before.before.before in
-    (rw c.before.before.before.version-of.ensures h.whole, ranged c.before.before, omega (arith, c.before.point-count.ensures, h.points), omega (arith, c.engagement-count.ensures, h.rows))
+    (h.long, ranged c.before.before, omega (arith, c.before.point-count.ensures, h.points), omega (arith, c.engagement-count.ensures, h.rows))
 
 returns-2 : tie.Need-returns-2
 unfolding refusal_of
@@ -61,7 +61,7 @@ unfolding refusal_of
 returns-3 c = let book = c.before.before.before.before.before.before.before.before.before.before.args.book.now in
     rw (sym c.before.before.before.before.before.before.before.before.header-good.ensures ∙ not-false _ c.before.before.before.before.before.before.before.if1.false, sym (layout c.before.before) ∙ not-false _ c.before.if2.false)
     (c.judge-sections.ensures
-    ∙ (λ i. sections_refusal (c.before.before.before.before.before.before.version-of.ensures i) (c.before.before.before.before.before.calendar-of.ensures i) (c.before.before.before.before.point-count.ensures i) (c.before.before.before.engagement-count.ensures i) (calendar_section book) (table_section book) (register_section book) (reading_section book) (engagement_section book) (volume_section (c.before.before.before.before.before.before.version-of.ensures i) book)))
+    ∙ (λ i. sections_refusal (c.before.before.before.before.before.before.version-of.ensures i) (c.before.before.before.before.before.calendar-of.ensures i) (c.before.before.before.before.point-count.ensures i) (c.before.before.before.engagement-count.ensures i) (calendar_section book) (table_section book) (register_section book) (reading_section book) (engagement_section book)))
 
 pub judge-book-spec : {M : Type 1} → statement M
 judge-book-spec =

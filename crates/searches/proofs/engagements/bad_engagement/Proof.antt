@@ -2,7 +2,9 @@
 use mathlib.Core.Path.{ap, ap₂, ◌∙◌}
 use mathlib.Core.Bool.{Bool, not, ◌&&◌, ◌||◌}
 use Rattle.book.specs.HeaderLaws.{row-part}
-use Rattle.book.specs.Engagements.{quarters_good, terms_good, bad_engagement}
+use Rattle.book.specs.Engagements.{place_good, terms_good, bad_engagement}
+-- The row's own fields, or the row before it.
+-- The row's own fields, or the row before it.
 use borrow.Author.Rules.{rules}
 use Rattle.searches.proofs.engagements.bad_engagement.Statement.{statement}
 use Rattle.searches.proofs.engagements.bad_engagement.Tie as tie
@@ -22,8 +24,8 @@ part-row-start c = search rules
 part-row-end : tie.Need-slice-bounds-row-end
 part-row-end c = search rules
 
-quarters-good-requires : tie.Need-quarters-good-requires
-quarters-good-requires c κs = search rules
+place-good-requires : tie.Need-place-good-requires
+place-good-requires c κs = search rules
 
 terms-good-requires : tie.Need-terms-good-requires
 terms-good-requires c κs = search rules
@@ -35,9 +37,9 @@ returns : tie.Need-returns
 unfolding bad_engagement
 returns c = let s = c.before.before.before.before.before.args in
     let row = row-part 16 s.engagements.now s.i in
-    let quarters = c.before.before.quarters-good.ensures ∙ ap (quarters_good s.c s.points) row in
-    let terms = c.before.terms-good.ensures ∙ ap (terms_good s.version) row in
-    ap₂ (λ (g o : Bool). not g || o) (ap₂ ◌&&◌ quarters terms) c.out_of_order.ensures
+    let place = c.before.before.place-good.ensures ∙ ap (place_good s.c s.points) row in
+    let terms = c.before.terms-good.ensures ∙ ap terms_good row in
+    ap₂ (λ (g o : Bool). not g || o) (ap₂ ◌&&◌ place terms) c.out_of_order.ensures
 
 pub bad-engagement-spec : {M : Type 1} → statement M
 bad-engagement-spec =
@@ -48,7 +50,7 @@ bad-engagement-spec =
     sub_row
     part-row-start
     part-row-end
-    quarters-good-requires
+    place-good-requires
     terms-good-requires
     out-of-order-requires
     returns)

@@ -4,16 +4,17 @@ use Prim.Native.Nat.{◌-◌, ◌≤◌}
 use native.Mathlib.Nat.{sub-zero}
 use Rattle.integers.specs.First.{first}
 use Rattle.book.specs.Engagements.{bad_engagement}
+-- Rows passed are good: the first bad row is the first from the present one on.
 use borrow.Author.Rules.{rules}
 use Rattle.searches.proofs.engagements.judge_engagements.Statement.{statement}
 use Rattle.searches.proofs.engagements.judge_engagements.Tie as tie
 use Rattle.integers.specs.FirstLaws.{first_here, first_later, first_end}
 
 abbrev invariant-loop : tie.invariant-loop
-invariant-loop version engagements n c points i₀ i = (i ≤ n) × (first (bad_engagement version c points engagements) 0 n ≡ first (bad_engagement version c points engagements) i (n - i))
+invariant-loop engagements n c points i₀ i = (i ≤ n) × (first (bad_engagement c points engagements) 0 n ≡ first (bad_engagement c points engagements) i (n - i))
 
 abbrev decreases-loop : tie.decreases-loop
-decreases-loop version engagements n c points i₀ i = n - i
+decreases-loop engagements n c points i₀ i = n - i
 
 loop-holds : tie.Need-loop-init invariant-loop decreases-loop
 loop-holds c = (search rules, rw (sub-zero c.before.args.n))
@@ -26,7 +27,7 @@ returns c = let l = c.before.before.before in
     let s = l.before.before.args in
     sym
     (l.loop.invariant.1
-    ∙ first_here (bad_engagement s.version s.c s.points s.engagements.now) s.n l.loop.i (search rules) (sym c.before.bad-engagement.ensures ∙ c.if1.true))
+    ∙ first_here (bad_engagement s.c s.points s.engagements.now) s.n l.loop.i (search rules) (sym c.before.bad-engagement.ensures ∙ c.if1.true))
 
 add-i : tie.Need-overflow-add-i invariant-loop decreases-loop
 add-i c = search rules
@@ -39,13 +40,13 @@ loop-again c = let l = c.before.before.before in
     let s = l.before.before.args in (
       search rules,
       l.loop.invariant.1
-          ∙ first_later (bad_engagement s.version s.c s.points s.engagements.now) s.n l.loop.i (search rules) (sym c.before.bad-engagement.ensures ∙ c.if1.false),
+          ∙ first_later (bad_engagement s.c s.points s.engagements.now) s.n l.loop.i (search rules) (sym c.before.bad-engagement.ensures ∙ c.if1.false),
     )
 
 returns-2 : tie.Need-returns-2 invariant-loop decreases-loop
 returns-2 c = let l = c.before in
     let s = l.before.before.args in
-    sym (l.loop.invariant.1 ∙ first_end (bad_engagement s.version s.c s.points s.engagements.now) s.n l.loop.i c.loop-test.false)
+    sym (l.loop.invariant.1 ∙ first_end (bad_engagement s.c s.points s.engagements.now) s.n l.loop.i c.loop-test.false)
 
 pub judge-engagements-spec : {M : Type 1} → statement M
 judge-engagements-spec =

@@ -13,8 +13,11 @@ u8-at-requires-2 c κs = search rules
 u8-at-requires-3 : tie.Need-u8-at-requires-3
 u8-at-requires-3 c κs = search rules
 
-request-good-requires : tie.Need-request-good-requires
-request-good-requires c κs = search rules
+u32-at-requires : tie.Need-u32-at-requires
+u32-at-requires c κs = search rules
+
+u32-at-requires-2 : tie.Need-u32-at-requires-2
+u32-at-requires-2 c κs = search rules
 
 returns : tie.Need-returns
 unfolding terms_good
@@ -27,5 +30,6 @@ terms-good-spec =
     u8-at-requires
     u8-at-requires-2
     u8-at-requires-3
-    request-good-requires
+    u32-at-requires
+    u32-at-requires-2
     returns)

@@ -15,7 +15,7 @@ use Rattle.series.specs.VolumesInner.{book_volumes}
 use Rattle.series.proofs.delivered.fill_volumes.Statement.{statement}
 use Rattle.series.proofs.delivered.fill_volumes.Tie as tie
 
--- the book passes its own refusals
+-- the book passes refusals 1 to 7
 passed : (c : tie.Start) → refusal_of c.args.book.now ≡ none
 passed c = (passing c.args.book.now c.requires.0).passed
 

@@ -16,7 +16,7 @@ use Rattle.series.specs.SumsLaws.{by-again, by-own, parts-of}
 use Rattle.series.proofs.sums.fill_grains.Statement.{statement}
 use Rattle.series.proofs.sums.fill_grains.Tie as tie
 
--- the book passes its own refusals, and these are its parts
+-- the book passes refusals 1 to 7, and these are its parts
 passed : (c : tie.Start) → refusal_of c.args.book.now ≡ none
 passed c = (passing c.args.book.now c.requires.0.accepted).passed
 

@@ -30,7 +30,7 @@ returns c = let k = c.before.before.before in
 enum_told : tie.Need-enum-told
 enum_told c = search rules
 
--- the book passes its own refusals
+-- the book passes refusals 1 to 7
 passed : (c : tie.After-enum-told) → refusal_of c.before.before.before.before.before.args.book.now ≡ none
 passed c = let k = c.before.before in
     sym k.before.judge-book.ensures ∙ sym k.verdict-of.ensures ∙ ap refusal_in c.enum_told.given.1

@@ -24,12 +24,6 @@ enum-known-judged-2 c = search rules
 enum-known-judged-3 : tie.Need-enum-known-judged-3
 enum-known-judged-3 c = search rules
 
-enum-known-judged-4 : tie.Need-enum-known-judged-4
-enum-known-judged-4 c = search rules
-
-enum-told-5 : tie.Need-enum-told-5
-enum-told-5 c = search rules
-
 returns : tie.Need-returns
 returns c = search rules
 
@@ -51,12 +45,6 @@ returns-6 c = rw c.before.judged2.given.1
 returns-7 : tie.Need-returns-7
 returns-7 c = rw c.before.judged3.given.1
 
-returns-8 : tie.Need-returns-8
-returns-8 c = rw c.before.judged4.given.1
-
-returns-9 : tie.Need-returns-9
-returns-9 c = search rules
-
 pub verdict-of-spec : {M : Type 1} → statement M
 verdict-of-spec =
     tie.close
@@ -68,14 +56,10 @@ verdict-of-spec =
     enum-known-judged
     enum-known-judged-2
     enum-known-judged-3
-    enum-known-judged-4
-    enum-told-5
     returns
     returns-2
     returns-3
     returns-4
     returns-5
     returns-6
-    returns-7
-    returns-8
-    returns-9)
+    returns-7)

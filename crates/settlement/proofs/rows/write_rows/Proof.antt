@@ -33,11 +33,11 @@ filled_next {out₀} {at} {f} {count} {out} {out'} {k} w h l e =
     record { inside = omega arith; list = e ∙ ap (λ o. sets o (at + row_width * k) (f k)) h.list ∙ sets_next row_width out₀ at f k w }
 
 abbrev invariant-loop : tie.invariant-loop
-invariant-loop out₀ at version point asked levels readings first count direction k₀ out k =
-    RowsFilled out₀ at (row_at version direction point asked levels readings first) count out k
+invariant-loop out₀ at version point levels readings first count direction requested k₀ out k =
+    RowsFilled out₀ at (row_at version direction point requested levels readings first) count out k
 
 abbrev decreases-loop : tie.decreases-loop
-decreases-loop out₀ at version point asked levels readings first count direction k₀ out k = count - k
+decreases-loop out₀ at version point levels readings first count direction requested k₀ out k = count - k
 
 cast-count : tie.Need-overflow-cast-count invariant-loop decreases-loop
 cast-count c = search rules
@@ -64,16 +64,10 @@ mul-write-row-2 c = search rules
 shared-slice-read-write-row : tie.Need-shared-slice-read-write-row invariant-loop decreases-loop
 shared-slice-read-write-row c = search rules
 
-mul-write-row-3 : tie.Need-overflow-mul-write-row-3 invariant-loop decreases-loop
-mul-write-row-3 c = search rules
-
-shared-slice-read-write-row-2 : tie.Need-shared-slice-read-write-row-2 invariant-loop decreases-loop
-shared-slice-read-write-row-2 c = search rules
-
 write-row-requires : tie.Need-write-row-requires invariant-loop decreases-loop
 write-row-requires c κs =
-    let l = c.before.before.before.before.before in
-    (omega (arith, filled-length l.loop.invariant), l.before.before.before.before.before.requires.3.each l.loop.k (omega arith))
+    let l = c.before.before.before.before in
+    (omega (arith, filled-length l.loop.invariant), l.before.before.before.before.requires.2.each l.loop.k (omega arith))
 
 add-k : tie.Need-overflow-add-k invariant-loop decreases-loop
 add-k c = search rules
@@ -84,17 +78,17 @@ loop-less c = search rules
 loop-again : tie.Need-loop-preserved invariant-loop decreases-loop
 unfolding quarter_hours
 loop-again c =
-    let l = c.before.before.before.before.before.before.before in
-    let s = l.before.before.before.before.before in
+    let l = c.before.before.before.before.before.before in
+    let s = l.before.before.before.before in
     let a = s.args in
     let k = l.loop.k in
     let there : known (reading_at a.readings.now (a.first + k)) ≡ true =
-    known_at (λ i. reading_at a.readings.now (a.first + i)) 0 a.e.count k s.requires.5 (omega arith) (omega arith) in
+    known_at (λ i. reading_at a.readings.now (a.first + i)) 0 a.e.count k s.requires.4 (omega arith) (omega arith) in
     filled_next
     (λ i. from-length _ _ _ _ _ _)
     l.loop.invariant
     (omega arith)
-    (rw (← raised-watts c.before.before.before.before.before.raised_at.ensures there) c.before.write-row.ensures)
+    (rw (← raised-watts c.before.before.before.before.raised_at.ensures there) c.before.write-row.ensures)
 
 same_length : tie.Need-same-length invariant-loop decreases-loop
 same_length c = filled-length c.before.loop.invariant
@@ -102,7 +96,7 @@ same_length c = filled-length c.before.loop.invariant
 returns : tie.Need-returns invariant-loop decreases-loop
 unfolding rows_from quarter_hours
 returns c =
-    let all : c.before.loop.k ≡ c.before.before.before.before.before.before.args.e.count = omega arith in
+    let all : c.before.loop.k ≡ c.before.before.before.before.before.args.e.count = omega arith in
     rw (← all) c.before.loop.invariant.list
 
 pub write-rows-spec : {M : Type 1} → statement M
@@ -119,8 +113,6 @@ write-rows-spec =
     add-write-row
     mul-write-row-2
     shared-slice-read-write-row
-    mul-write-row-3
-    shared-slice-read-write-row-2
     write-row-requires
     add-k
     loop-less

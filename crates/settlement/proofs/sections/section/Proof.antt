@@ -1,5 +1,4 @@
 -- A book that passes refusals 1 and 2 has the part that the extent names.
-use native.Mathlib.Omega.{arith}
 use Rattle.settlement.specs.SectionsLaws.{bytes-long, section-inside}
 use Rattle.settlement.proofs.sections.section.Statement.{statement}
 use Rattle.settlement.proofs.sections.section.Tie as tie
@@ -8,7 +7,7 @@ section-requires : tie.Need-section-requires
 section-requires c κs =
     let s = c.before in
     let bytes = s.args.book.now in
-    (omega (arith, bytes-long bytes s.requires.0, s.requires.1), section-inside bytes s.requires.0 s.args.k s.requires.1)
+    (bytes-long bytes s.requires.0, s.requires.1, section-inside bytes s.requires.0 s.args.k s.requires.1)
 
 returns : tie.Need-returns
 returns c = c.section.ensures

@@ -15,7 +15,7 @@ use borrow.Author.Rules.{rules}
 use Rattle.settlement.proofs.settle.fill_book.Statement.{statement}
 use Rattle.settlement.proofs.settle.fill_book.Tie as tie
 
--- the book passes its own refusals
+-- the book passes refusals 1 to 7
 passed : (c : tie.Start) → refusal_of c.args.book.now ≡ none
 passed c = (passing c.args.book.now c.requires.0).passed
 

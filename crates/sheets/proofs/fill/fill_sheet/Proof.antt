@@ -16,7 +16,7 @@ use borrow.Author.Rules.{rules}
 use Rattle.sheets.proofs.fill.fill_sheet.Statement.{statement}
 use Rattle.sheets.proofs.fill.fill_sheet.Tie as tie
 
--- the book passes its own refusals
+-- the book passes refusals 1 to 7
 passed : (c : tie.Start) → refusal_of c.args.book.now ≡ none
 passed c = (passing c.args.book.now c.requires.0).passed
 

@@ -1,8 +1,8 @@
 -- The tests of the definition, on the numbers that the bytes say.
-use Rattle.book.specs.Engagements.{quarters_good}
+use Rattle.book.specs.Engagements.{place_good}
 use borrow.Author.Rules.{rules}
-use Rattle.searches.proofs.engagements.quarters_good.Statement.{statement}
-use Rattle.searches.proofs.engagements.quarters_good.Tie as tie
+use Rattle.searches.proofs.engagements.place_good.Statement.{statement}
+use Rattle.searches.proofs.engagements.place_good.Tie as tie
 
 u16-at-requires : tie.Need-u16-at-requires
 u16-at-requires c κs = search rules
@@ -38,11 +38,11 @@ add-result : tie.Need-overflow-add-result
 add-result c = search rules
 
 returns : tie.Need-returns
-unfolding quarters_good
+unfolding place_good
 returns c = cc
 
-pub quarters-good-spec : {M : Type 1} → statement M
-quarters-good-spec =
+pub place-good-spec : {M : Type 1} → statement M
+place-good-spec =
     tie.close
     (tie.spec
     u16-at-requires
