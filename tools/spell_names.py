@@ -18,10 +18,8 @@ import subprocess
 import sys
 
 WORD = re.compile(r'[^\s(){}.;,@"«»`:\[\]|/*…]+')
-MARKS = r"(?:(?:unfoldable|abbrev|pub|record|data|mutual|pattern) )*"
-TOP = re.compile(rf"^({MARKS})([^\s:(){{}}]+)(?= [({{:])")
-FIELD = re.compile(r"^ +pub ([^\s:(){}]+) :")
-LOCAL = re.compile(r"^ +([^\s:(){}]+) : ")
+MARKS = r"(?:(?:unfoldable|abbrev|pub|record|data|mutual|pattern|module) )*"
+NAMED = re.compile(rf"^( *)({MARKS})([^\s:(){{}}]+)(?= [({{:])")
 CAMEL = re.compile(r"^[a-z][a-z0-9]*(?:[A-Z]|.*[-_][a-z0-9]+[A-Z])")
 CLAUSE = re.compile(r"(?:requires|ensures|ghost)\b[^{;]*\{|ghost use\b")
 
@@ -41,23 +39,49 @@ def files(*ends):
 
 
 def declared():
+    """Returns the names that are defined or lemmas, the fields of records, and the names of `where` blocks."""
     tops, fields, locals_ = collections.Counter(), collections.Counter(), collections.Counter()
     for path in files(".antt"):
+        record, depth = False, 0
         for line in read(path).split("\n"):
-            top, field, local = TOP.match(line), FIELD.match(line), LOCAL.match(line)
-            if field:
-                fields[field[1]] += 1
-            elif local:
-                locals_[local[1]] += 1
-            elif top and not line.startswith(("use ", "--", "mod ", "pub mod ")):
-                tops[top[2]] += 1
+            found = NAMED.match(line)
+            if not found or line.lstrip().startswith(("use ", "--", "mod ", "pub mod ")):
+                continue
+            indent, marks, name = len(found[1]), found[2], found[3]
+            if indent <= depth:
+                record = False
+            if "record" in marks or "module" in marks:
+                record, depth = "record" in marks, indent
+            if not indent:
+                tops[name] += 1
+            elif marks == "pub " and record and " = " not in line.split(":")[0]:
+                fields[name] += 1
+            elif marks:
+                tops[name] += 1
+            else:
+                locals_[name] += 1
     return tops, fields, locals_
+
+
+def words():
+    """Returns the words of specs/ and proofs/ that are no library's."""
+    own = {it.split("/")[1] for it in files(".antt")}
+    found, others = set(), set()
+    for path in files(".antt"):
+        for line in read(path).split("\n"):
+            line = re.sub(r"--.*", "", line)
+            used = re.match(r"use ([^\s{]+?)\.\{(.*)\}", line)
+            if used and used[1].split(".")[1:2] and used[1].split(".")[1] not in own:
+                others |= {*WORD.findall(used[2])}
+            elif not line.startswith("use "):
+                found |= {*WORD.findall(line)}
+    return found - others
 
 
 def table():
     tops, fields, locals_ = declared()
     every = {*tops, *fields, *locals_}
-    turned = {it: snake(it) for it in every if CAMEL.match(it) and snake(it) != it}
+    turned = {it: snake(it) for it in every | words() if CAMEL.match(it) and snake(it) != it}
     back = {}
     for new in [*turned.values()]:
         if new in every and new not in turned:
@@ -84,13 +108,18 @@ def spelled(text, names, both):
         if it in both:
             before, after = text[: found.start()], text[found.end() :]
             line = before[before.rfind("\n") + 1 :]
-            is_field = (before.endswith(".") and not before.endswith("..")) or re.fullmatch(r" +pub ", line) and after.startswith(" :")
+            is_field = (before.endswith(".") and not before.endswith("..")) or re.fullmatch(r" +pub ", line) and after.startswith(" :") and in_record(before)
             is_field = is_field or (re.match(r" = ", after) and re.search(r"(?:\{|;|^) *$", line) and "let" not in line[-6:])
             if is_field and not re.search(r"\buse\b[^;\n]*$", line):
                 return it.replace("-", "_")
         return it
 
     return WORD.sub(one, text)
+
+
+def in_record(before):
+    heads = re.findall(r"^(?:pub )?(record|module)\b", before, re.M)
+    return bool(heads) and heads[-1] == "record"
 
 
 def ghost_parts(text):

@@ -23,14 +23,14 @@ use Rattle.volumes.specs.Baseline.{point_of, watts, known, complete, mean, day_r
 use Rattle.volumes.specs.BaselineLaws.{window-12}
 use Rattle.volumes.specs.Settlement.{too_few}
 use Rattle.volumes.specs.SettlementLaws.{settles}
-use Rattle.volumes.specs.UsedLaws.{high_complete, windows_complete, own_window_complete, last_known}
+use Rattle.volumes.specs.UsedLaws.{high-complete, windows-complete, own-window-complete, last-known}
 use Rattle.baseline.specs.declared.shown.Shown.{Shown}
 use Rattle.baseline.specs.ShownInner.{Fits, before_in, window_in}
-use Rattle.baseline.specs.ShownLaws.{own_window, before_at, start_at, stands, stands_on}
+use Rattle.baseline.specs.ShownLaws.{own-window, before_at, start-at, stands, stands_on}
 use Rattle.baseline.specs.RunsInner.{days_in, day_runs, Starts, Lies, Lie}
 use Rattle.baseline.specs.RunsLaws.{start_of}
 use Rattle.baseline.specs.LevelsInner.{Lasts, Adds}
-use Rattle.baseline.specs.LevelsLaws.{quarter_runs, window_runs, window-inside}
+use Rattle.baseline.specs.LevelsLaws.{quarter-runs, window-runs, window-inside}
 use Rattle.baseline.specs.RanksInner.{RankedTo}
 use Rattle.baseline.specs.TakenInner.{Serves, Took}
 use Rattle.baseline.specs.TakenLaws.{took}
@@ -39,7 +39,7 @@ use Rattle.baseline.specs.FillsInner.{Raises, Added}
 use Rattle.baseline.specs.FilledInner.{Unrefused}
 use Rattle.integers.specs.AllLaws.{all-at}
 use Rattle.wire.specs.ReadingsInner.{raise}
-use Rattle.integers.specs.ListsLaws.{length_flat_map}
+use Rattle.integers.specs.ListsLaws.{length-flat_map}
 
 enough : (book : Book) (e : Engagement) (m : Method) → looks_back m ≡ true → too_few m (y_of book e) (length (eligible_days book e)) ≡ false → y_of book e ≤ length (eligible_days book e)
 unfolding looks_back too_few
@@ -68,63 +68,63 @@ module _ {shown : Shown} {calendar readings : List ℕ} {book : Book} (s : Unref
   method-is = ap (λ (p : Point). p.method) s.shows.owner
 
   -- the ranking has its Y days, and the first X keys tell the days that are taken
-  pub took_days : {keys₀ : List ℕ} (keys : List ℕ) (n : ℕ) → looks_back shown.point.method ≡ true → shown.x ≤ shown.y → RankedTo book shown.e shown.y keys₀ keys n → Took book shown.e keys shown.x
-  took_days {keys₀} keys n back few r = took book shown.e keys₀ keys shown.x shown.y n r s.shows.takes s.shows.wants (omega (arith, r.count, length-take shown.y (eligible_days book shown.e), enough book shown.e shown.point.method back (rw method-is at (settles book shown.e s.good).enough), s.shows.wants)) few
+  pub took-days : {keys₀ : List ℕ} (keys : List ℕ) (n : ℕ) → looks_back shown.point.method ≡ true → shown.x ≤ shown.y → RankedTo book shown.e shown.y keys₀ keys n → Took book shown.e keys shown.x
+  took-days {keys₀} keys n back few r = took book shown.e keys₀ keys shown.x shown.y n r s.shows.takes s.shows.wants (omega (arith, r.count, length-take shown.y (eligible_days book shown.e), enough book shown.e shown.point.method back (rw method-is at (settles book shown.e s.good).enough), s.shows.wants)) few
 
   -- a quarter-hour's mean
-  pub high_level : (keys : List ℕ) (k add r : ℕ) (z : ℤ) → Took book shown.e keys shown.x → k < shown.e.count → Over (grains (2 * raise)) z add
+  pub high-level : (keys : List ℕ) (k add r : ℕ) (z : ℤ) → Took book shown.e keys shown.x → k < shown.e.count → Over (grains (2 * raise)) z add
       → Raises (day_runs readings shown.c shown.e (origin_of shown.c shown.e.point) k 0 1 (days_in keys shown.x)) shown.x add r → Over (grains (3 * raise)) (high book shown.e k +ℤ z) r
   unfolding high mean
-  high_level keys k add r z t h o raises =
-      let runs : day_runs readings shown.c shown.e (origin_of shown.c shown.e.point) k 0 1 (days_in keys shown.x) ≡ map (day_reading book shown.e k) (taken book shown.e) = ap (day_runs readings shown.c shown.e (origin_of shown.c shown.e.point) k 0 1) t.days ∙ quarter_runs s.shows k (taken book shown.e) in
+  high-level keys k add r z t h o raises =
+      let runs : day_runs readings shown.c shown.e (origin_of shown.c shown.e.point) k 0 1 (days_in keys shown.x) ≡ map (day_reading book shown.e k) (taken book shown.e) = ap (day_runs readings shown.c shown.e (origin_of shown.c shown.e.point) k 0 1) t.days ∙ quarter-runs s.shows k (taken book shown.e) in
       let count : length (map (day_reading book shown.e k) (taken book shown.e)) ≡ shown.x = length-map (taken book shown.e) (day_reading book shown.e k) ∙ t.count in
-      rw count (subst (λ (l : List Reading). Over (grains (3 * raise)) (sum_z watts l *ℤ pos (share shown.x) +ℤ z) r) runs (raises.level z (ap complete runs ∙ high_complete book shown.e k h) o))
+      rw count (subst (λ (l : List Reading). Over (grains (3 * raise)) (sum_z watts l *ℤ pos (share shown.x) +ℤ z) r) runs (raises.level z (ap complete runs ∙ high-complete book shown.e k h) o))
 
   -- method 2's addend
-  pub addend_level_is : (keys : List ℕ) (r : ℕ) → Took book shown.e keys shown.x → shown.point.method ≡ Adjusted
+  pub addend-level-is : (keys : List ℕ) (r : ℕ) → Took book shown.e keys shown.x → shown.point.method ≡ Adjusted
       → Adds (window_in readings (origin_of shown.c shown.e.point) (start shown.c shown.e)) (day_runs readings shown.c shown.e (origin_of shown.c shown.e.point) 0 24 12 (days_in keys shown.x)) shown.x r → Over (grains (2 * raise)) (addend book shown.e) r
   unfolding addend mean
-  addend_level_is keys r t m adds =
-      let own = sym (own_window s.shows) in
-      let runs = ap (day_runs readings shown.c shown.e (origin_of shown.c shown.e.point) 0 24 12) t.days ∙ window_runs s.shows (taken book shown.e) m t.each in
+  addend-level-is keys r t m adds =
+      let own = sym (own-window s.shows) in
+      let runs = ap (day_runs readings shown.c shown.e (origin_of shown.c shown.e.point) 0 24 12) t.days ∙ window-runs s.shows (taken book shown.e) m t.each in
       let mine : length (own_window book shown.e) ≡ 12 = own-length book shown.e in
-      let count : length (flat_map (day_window book shown.e) (taken book shown.e)) ≡ 12 * shown.x = length_flat_map 12 (day_window book shown.e) (λ d. day-length book shown.e d) (taken book shown.e) ∙ ap (λ (n : ℕ). 12 * n) t.count in
+      let count : length (flat_map (day_window book shown.e) (taken book shown.e)) ≡ 12 * shown.x = length-flat_map 12 (day_window book shown.e) (λ d. day-length book shown.e d) (taken book shown.e) ∙ ap (λ (n : ℕ). 12 * n) t.count in
       let here = method-is ∙ m in
       rw (mine, count)
       (subst (λ (l : List Reading). Over (grains (2 * raise)) (sum_z watts (own_window book shown.e) *ℤ pos (share 12) -ℤ sum_z watts l *ℤ pos (share (12 * shown.x))) r) runs
       (subst (λ (l : List Reading). Over (grains (2 * raise)) (sum_z watts l *ℤ pos (share 12) -ℤ sum_z watts (day_runs readings shown.c shown.e (origin_of shown.c shown.e.point) 0 24 12 (days_in keys shown.x)) *ℤ pos (share (12 * shown.x))) r) own
-      (adds.level (ap complete own ∙ own_window_complete book shown.e (settles book shown.e s.good) here) (ap complete runs ∙ windows_complete book shown.e here))))
+      (adds.level (ap complete own ∙ own-window-complete book shown.e (settles book shown.e s.good) here) (ap complete runs ∙ windows-complete book shown.e here))))
 
   -- what the methods make of these
-  pub by_mean : (keys : List ℕ) (k add r : ℕ) → Took book shown.e keys shown.x → shown.point.method ≡ HighXOfY → k < shown.e.count → add ≡ grains (2 * raise)
+  pub by-mean : (keys : List ℕ) (k add r : ℕ) → Took book shown.e keys shown.x → shown.point.method ≡ HighXOfY → k < shown.e.count → add ≡ grains (2 * raise)
       → Raises (day_runs readings shown.c shown.e (origin_of shown.c shown.e.point) k 0 1 (days_in keys shown.x)) shown.x add r → Over (grains (3 * raise)) (baseline book shown.e k) r
   unfolding baseline baseline_by
-  by_mean keys k add r t m h a raises =
-      rw (method-is ∙ m) (rw (+ℤ_idr (high book shown.e k)) at (high_level keys k add r (pos 0) t h (record { law = omega arith }) raises))
+  by-mean keys k add r t m h a raises =
+      rw (method-is ∙ m) (rw (+ℤ_idr (high book shown.e k)) at (high-level keys k add r (pos 0) t h (record { law = omega arith }) raises))
 
-  pub by_addend : (keys : List ℕ) (k add r : ℕ) → Took book shown.e keys shown.x → shown.point.method ≡ Adjusted → k < shown.e.count
+  pub by-addend : (keys : List ℕ) (k add r : ℕ) → Took book shown.e keys shown.x → shown.point.method ≡ Adjusted → k < shown.e.count
       → Adds (window_in readings (origin_of shown.c shown.e.point) (start shown.c shown.e)) (day_runs readings shown.c shown.e (origin_of shown.c shown.e.point) 0 24 12 (days_in keys shown.x)) shown.x add
       → Raises (day_runs readings shown.c shown.e (origin_of shown.c shown.e.point) k 0 1 (days_in keys shown.x)) shown.x add r → Over (grains (3 * raise)) (baseline book shown.e k) r
   unfolding baseline baseline_by
-  by_addend keys k add r t m h adds raises = rw (method-is ∙ m) (high_level keys k add r (addend book shown.e) t h (addend_level_is keys add t m adds) raises)
+  by-addend keys k add r t m h adds raises = rw (method-is ∙ m) (high-level keys k add r (addend book shown.e) t h (addend-level-is keys add t m adds) raises)
 
   last-is : last_reading book shown.e ≡ before_in readings (origin_of shown.c shown.e.point) (start shown.c shown.e) (shown.e.notice + 1)
   unfolding last_reading
-  last-is = before_at s.shows (start book.calendar shown.e) (shown.e.notice + 1) ∙ ap (λ (q : ℕ). before_in readings (origin_of shown.c shown.e.point) q (shown.e.notice + 1)) (start_at s.shows)
+  last-is = before_at s.shows (start book.calendar shown.e) (shown.e.notice + 1) ∙ ap (λ (q : ℕ). before_in readings (origin_of shown.c shown.e.point) q (shown.e.notice + 1)) (start-at s.shows)
 
   last-there : shown.point.method ≡ LastQuarter → known (before_in readings (origin_of shown.c shown.e.point) (start shown.c shown.e) (shown.e.notice + 1)) ≡ true
-  last-there m = ap known (sym last-is) ∙ last_known book shown.e (settles book shown.e s.good) (method-is ∙ m)
+  last-there m = ap known (sym last-is) ∙ last-known book shown.e (settles book shown.e s.good) (method-is ∙ m)
 
-  pub last_inside : shown.point.method ≡ LastQuarter → shown.e.notice + 1 ≤ start shown.c shown.e
-  last_inside m = known-inside readings (origin_of shown.c shown.e.point) (start shown.c shown.e) (shown.e.notice + 1) (last-there m)
+  pub last-inside : shown.point.method ≡ LastQuarter → shown.e.notice + 1 ≤ start shown.c shown.e
+  last-inside m = known-inside readings (origin_of shown.c shown.e.point) (start shown.c shown.e) (shown.e.notice + 1) (last-there m)
 
   pub by_last : (k r : ℕ) → shown.point.method ≡ LastQuarter → Lasts (before_in readings (origin_of shown.c shown.e.point) (start shown.c shown.e) (shown.e.notice + 1)) r → Over (grains (3 * raise)) (baseline book shown.e k) r
   unfolding baseline baseline_by
   by_last k r m lasts = rw (method-is ∙ m, last-is) (lasts.level (last-there m))
 
   -- the days that are taken can be read
-  pub serves_at : (keys : List ℕ) → Took book shown.e keys shown.x → shown.x ≤ length keys → (j : ℕ) → j < shown.x → Serves book shown.e (get_or keys j 0 % 64)
-  serves_at keys t h j i =
+  pub serves-at : (keys : List ℕ) → Took book shown.e keys shown.x → shown.x ≤ length keys → (j : ℕ) → j < shown.x → Serves book shown.e (get_or keys j 0 % 64)
+  serves-at keys t h j i =
       let day : get_or (days_in keys shown.x) j 0 ≡ get_or keys j 0 % 64 = get_or-map (λ k. k % 64) (take shown.x keys) j 0 ∙ ap (λ (k : ℕ). k % 64) (get_or-take shown.x keys j 0 i) in
       subst (Serves book shown.e) day (all-at (Serves book shown.e) (days_in keys shown.x) j 0 (rw t.days t.each) (omega (arith, length-map (take shown.x keys) (λ k. k % 64), length-take shown.x keys)))
 
@@ -136,19 +136,19 @@ module _ {shown : Shown} {calendar readings : List ℕ} {book : Book} (s : Unref
         short = short;
         few = few;
         some = begin.some;
-        lies = λ j i. rw (start_of begin room j i) (lies (get_or keys j 0 % 64) (serves_at keys t room j i));
+        lies = λ j i. rw (start_of begin room j i) (lies (get_or keys j 0 % 64) (serves-at keys t room j i));
       }
 
-  pub lie_quarters : (keys starts : List ℕ) → Fits shown calendar readings → Took book shown.e keys shown.x → shown.x ≤ 10 → shown.x ≤ length keys → Starts shown.c keys starts shown.x → (k : ℕ) → k < shown.e.count → Lie readings starts (origin_of shown.c shown.e.point) (reference_quarter shown.c shown.e.day (shown.e.first + k)) 0 1 shown.x
+  pub lie-quarters : (keys starts : List ℕ) → Fits shown calendar readings → Took book shown.e keys shown.x → shown.x ≤ 10 → shown.x ≤ length keys → Starts shown.c keys starts shown.x → (k : ℕ) → k < shown.e.count → Lie readings starts (origin_of shown.c shown.e.point) (reference_quarter shown.c shown.e.day (shown.e.first + k)) 0 1 shown.x
   unfolding reference
-  lie_quarters keys starts f t few room begin k h =
+  lie-quarters keys starts f t few room begin k h =
       let own = stands shown calendar readings f in
       lie-of keys starts f t few room begin (reference_quarter shown.c shown.e.day (shown.e.first + k)) 0 1 (omega arith)
       (λ d v. let m = (stands_on shown calendar readings d f v.early).each k h in record { inside = omega (arith, own.few); from = omega arith; room = omega (arith, own.roomy) })
 
-  pub lie_windows : (keys starts : List ℕ) → Fits shown calendar readings → Took book shown.e keys shown.x → shown.x ≤ 10 → shown.x ≤ length keys → Starts shown.c keys starts shown.x → shown.point.method ≡ Adjusted → Lie readings starts (origin_of shown.c shown.e.point) (reference_quarter shown.c shown.e.day (shown.e.first + 0)) 24 12 shown.x
+  pub lie-windows : (keys starts : List ℕ) → Fits shown calendar readings → Took book shown.e keys shown.x → shown.x ≤ 10 → shown.x ≤ length keys → Starts shown.c keys starts shown.x → shown.point.method ≡ Adjusted → Lie readings starts (origin_of shown.c shown.e.point) (reference_quarter shown.c shown.e.day (shown.e.first + 0)) 24 12 shown.x
   unfolding reference
-  lie_windows keys starts f t few room begin w =
+  lie-windows keys starts f t few room begin w =
       let own = stands shown calendar readings f in
       lie-of keys starts f t few room begin (reference_quarter shown.c shown.e.day (shown.e.first + 0)) 24 12 (omega arith)
       (λ d v.
@@ -157,17 +157,17 @@ module _ {shown : Shown} {calendar readings : List ℕ} {book : Book} (s : Unref
       record { inside = omega (arith, own.few); from = q; room = omega (arith, own.roomy) })
 
   -- methods 1 and 2 together
-  pub by_days : (keys : List ℕ) (k add r : ℕ) (m : Method) → shown.point.method ≡ m → looks_back m ≡ true → Took book shown.e keys shown.x → k < shown.e.count
+  pub by-days : (keys : List ℕ) (k add r : ℕ) (m : Method) → shown.point.method ≡ m → looks_back m ≡ true → Took book shown.e keys shown.x → k < shown.e.count
       → Added m (window_in readings (origin_of shown.c shown.e.point) (start shown.c shown.e)) (day_runs readings shown.c shown.e (origin_of shown.c shown.e.point) 0 24 12 (days_in keys shown.x)) shown.x add
       → Raises (day_runs readings shown.c shown.e (origin_of shown.c shown.e.point) k 0 1 (days_in keys shown.x)) shown.x add r → Over (grains (3 * raise)) (baseline book shown.e k) r
   unfolding looks_back
-  by_days keys k add r LastQuarter m b t h a raises = let z : ◌≡◌ {A = ℕ} 0 1 = cc in absurd (omega arith)
-  by_days keys k add r HighXOfY m b t h a raises = by_mean keys k add r t m h (a.plain refl) raises
-  by_days keys k add r Adjusted m b t h a raises = by_addend keys k add r t m h (a.adjusted refl) raises
+  by-days keys k add r LastQuarter m b t h a raises = let z : ◌≡◌ {A = ℕ} 0 1 = cc in absurd (omega arith)
+  by-days keys k add r HighXOfY m b t h a raises = by-mean keys k add r t m h (a.plain refl) raises
+  by-days keys k add r Adjusted m b t h a raises = by-addend keys k add r t m h (a.adjusted refl) raises
 
   -- and method 0
-  pub method_0 : (m : Method) → shown.point.method ≡ m → looks_back m ≡ false → shown.point.method ≡ LastQuarter
+  pub method-0 : (m : Method) → shown.point.method ≡ m → looks_back m ≡ false → shown.point.method ≡ LastQuarter
   unfolding looks_back
-  method_0 LastQuarter m b = m
-  method_0 HighXOfY m b = let z : ◌≡◌ {A = ℕ} 0 1 = cc in absurd (omega arith)
-  method_0 Adjusted m b = let z : ◌≡◌ {A = ℕ} 0 1 = cc in absurd (omega arith)
+  method-0 LastQuarter m b = m
+  method-0 HighXOfY m b = let z : ◌≡◌ {A = ℕ} 0 1 = cc in absurd (omega arith)
+  method-0 Adjusted m b = let z : ◌≡◌ {A = ℕ} 0 1 = cc in absurd (omega arith)

@@ -19,28 +19,28 @@ use Rattle.volumes.specs.Settlement.{needed_by, needed, too_few, refusal_number}
 use Rattle.baseline.specs.declared.shown.Shown.{Shown}
 use Rattle.baseline.specs.TallyInner.{in_run}
 use Rattle.baseline.specs.ShownInner.{Shows, before_in}
-use Rattle.baseline.specs.ShownLaws.{own_run, before_at, start_at, own_window}
+use Rattle.baseline.specs.ShownLaws.{own-run, before_at, start-at, own-window}
 use Rattle.baseline.specs.NeedsInner.{needed_in, looks_back, first_of}
 
 module _ {shown : Shown} {calendar readings : List ℕ} {book : Book} (s : Shows shown calendar readings book) where
   needed-by : (method : Method) → needed_by method book shown.e ≡ needed_in method readings (origin_of shown.c shown.e.point) (start shown.c shown.e) shown.e.notice
   unfolding needed_by needed_in last_reading
-  needed-by LastQuarter = ap (λ (r : Reading). r ∷ []) (before_at s (start book.calendar shown.e) (shown.e.notice + 1) ∙ ap (λ (q : ℕ). before_in readings (origin_of shown.c shown.e.point) q (shown.e.notice + 1)) (start_at s))
+  needed-by LastQuarter = ap (λ (r : Reading). r ∷ []) (before_at s (start book.calendar shown.e) (shown.e.notice + 1) ∙ ap (λ (q : ℕ). before_in readings (origin_of shown.c shown.e.point) q (shown.e.notice + 1)) (start-at s))
   needed-by HighXOfY = refl
-  needed-by Adjusted = own_window s
+  needed-by Adjusted = own-window s
 
-  pub needed_is : complete (needed book shown.e) ≡ (complete (in_run readings (origin_of shown.c shown.e.point + start shown.c shown.e) shown.e.count) && complete (needed_in shown.point.method readings (origin_of shown.c shown.e.point) (start shown.c shown.e) shown.e.notice))
+  pub needed-is : complete (needed book shown.e) ≡ (complete (in_run readings (origin_of shown.c shown.e.point + start shown.c shown.e) shown.e.count) && complete (needed_in shown.point.method readings (origin_of shown.c shown.e.point) (start shown.c shown.e) shown.e.notice))
   unfolding needed
-  needed_is =
+  needed-is =
       complete-append (map (own_reading book shown.e) (quarter_hours shown.e)) (needed_by (point_of book shown.e).method book shown.e)
-      ∙ ap₂ ◌&&◌ (ap complete (own_run s)) (ap complete (needed-by (point_of book shown.e).method ∙ ap (λ (p : Point). needed_in p.method readings (origin_of shown.c shown.e.point) (start shown.c shown.e) shown.e.notice) s.owner))
+      ∙ ap₂ ◌&&◌ (ap complete (own-run s)) (ap complete (needed-by (point_of book shown.e).method ∙ ap (λ (p : Point). needed_in p.method readings (origin_of shown.c shown.e.point) (start shown.c shown.e) shown.e.notice) s.owner))
 
   -- 8 before 9
-  pub first_lack : (whole few : Bool) → whole ≡ complete (needed book shown.e) → few ≡ too_few shown.point.method (y_of book shown.e) (length (eligible_days book shown.e))
+  pub first-lack : (whole few : Bool) → whole ≡ complete (needed book shown.e) → few ≡ too_few shown.point.method (y_of book shown.e) (length (eligible_days book shown.e))
       → first_of (cond whole none (some 8)) (cond few (some 9) none) ≡ refusal_number book shown.e
   unfolding refusal_number
-  first_lack true few w f = rw (sym w, ap (λ (p : Point). p.method) s.owner, sym f)
-  first_lack false few w f = rw (sym w)
+  first-lack true few w f = rw (sym w, ap (λ (p : Point). p.method) s.owner, sym f)
+  first-lack false few w f = rw (sym w)
 
 -- only methods 1 and 2 look at days
 few-of : (m : Method) (t : Bool) → looks_back m ≡ t → (y n : ℕ) → too_few m y n ≡ (t && ltb n y)

@@ -17,7 +17,7 @@ use Rattle.baseline.specs.declared.tally.Tally.{Tally}
 use Rattle.baseline.specs.TallyInner.{Tallied}
 use Rattle.baseline.specs.RunsInner.{standing}
 use Rattle.baseline.specs.ShownInner.{Shows, Refers, window_in}
-use Rattle.baseline.specs.ShownLaws.{day_standing, day_window}
+use Rattle.baseline.specs.ShownLaws.{day-standing, day-window}
 
 -- the day's category is A's, the day isn't closed, and the clocks don't change on it
 abbrev pub alike : List ℕ → Shown → ℕ → Bool
@@ -76,8 +76,8 @@ module _ {shown : Shown} {calendar readings : List ℕ} {book : Book} (s : Shows
       ∙ ap (λ (t : Bool). (same && (not t && not change)) && rest shown book d) (sym (s.closed d))
       ∙ ap (λ (t : Bool). t && rest shown book d) h
 
-  pub refers_not : alike calendar shown d ≡ false → Refers book shown.e d (record { whole = false; sum = 0 })
-  refers_not h =
+  pub refers-not : alike calendar shown d ≡ false → Refers book shown.e d (record { whole = false; sum = 0 })
+  refers-not h =
       record {
         whole = sym (eligible-by false h);
         sum = λ z. let q : ◌≡◌ {A = ℕ} 0 1 = cc in absurd (omega arith);
@@ -89,8 +89,8 @@ module _ {shown : Shown} {calendar readings : List ℕ} {book : Book} (s : Shows
       → Refers book shown.e d (record { whole = t.whole && good; sum = t.sum })
   unfolding day_sum
   refers h t good k g =
-      let run = sym (day_standing s d) in
-      let win = g ∙ ap (λ (l : List Reading). windowed shown.point.method l && clear shown.point.method shown.c (reference shown.c shown.e d 0)) (sym (day_window s d)) in
+      let run = sym (day-standing s d) in
+      let win = g ∙ ap (λ (l : List Reading). windowed shown.point.method l && clear shown.point.method shown.c (reference shown.c shown.e d 0)) (sym (day-window s d)) in
       record {
         whole = ap₂ ◌&&◌ (k.whole ∙ ap complete run) win ∙ sym (eligible-by true h);
         sum = λ z. rw (← run) (k.sum (both t.whole good z).0);

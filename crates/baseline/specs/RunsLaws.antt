@@ -17,8 +17,8 @@ use Rattle.baseline.specs.declared.tally.Tally.{Tally}
 use Rattle.baseline.specs.TallyInner.{in_run, Tallied}
 use Rattle.baseline.specs.TallyLaws.{tally-append}
 use Rattle.baseline.specs.RunsInner.{standing, turn, together, StandsOn, days_in, day_run, day_runs, Starts, start_run, start_runs}
-use Rattle.integers.specs.RangesLaws.{range-shift, range_split, map_range_cong}
-use Rattle.integers.specs.ListsLaws.{flat_map_append}
+use Rattle.integers.specs.RangesLaws.{range-shift, range_split, map-range-cong}
+use Rattle.integers.specs.ListsLaws.{flat_map-append}
 
 flat_map-one : {A B : Type 0} (f : A → List B) (a : A) → flat_map f (a ∷ []) ≡ f a
 unfolding flat_map
@@ -71,7 +71,7 @@ runs-more readings starts origin place back n j t u h f g =
     let s = get_or starts j 0 in
     let next : j + 1 ≡ suc j = omega arith in
     let run = start_run readings origin place back n in
-    let list : start_runs readings origin place back n (take (j + 1) starts) ≡ start_runs readings origin place back n (take j starts) ++ run s = ap (λ (m : ℕ). flat_map run (take m starts)) next ∙ ap (flat_map run) (take-suc starts j 0 h) ∙ flat_map_append run (take j starts) (s ∷ []) ∙ ap (λ (m : List Reading). flat_map run (take j starts) ++ m) (flat_map-one run s) in
+    let list : start_runs readings origin place back n (take (j + 1) starts) ≡ start_runs readings origin place back n (take j starts) ++ run s = ap (λ (m : ℕ). flat_map run (take m starts)) next ∙ ap (flat_map run) (take-suc starts j 0 h) ∙ flat_map-append run (take j starts) (s ∷ []) ∙ ap (λ (m : List Reading). flat_map run (take j starts) ++ m) (flat_map-one run s) in
     let count : (j + 1) * n ≡ j * n + n = add-mul j 1 n ∙ ap (λ (m : ℕ). j * n + m) (one-mul n) in
     rw (list, count) (tally-append (start_runs readings origin place back n (take j starts)) (run s) (j * n) n t u f g)
 
@@ -163,7 +163,7 @@ one-run readings c e origin d a n next =
     let place : (k : ℕ) → k < n → origin + reference c e d (a + k) ≡ at + k = λ k h. omega (arith, next k h) in
     ap (λ (b : ℕ). map f (range b n)) whence
     ∙ sym (range-shift f a 0 n)
-    ∙ map_range_cong (λ k. f (a + k)) (λ k. reading_at readings (at + k)) 0 n (λ k low high. ap (reading_at readings) (place k (omega arith)))
+    ∙ map-range-cong (λ k. f (a + k)) (λ k. reading_at readings (at + k)) 0 n (λ k low high. ap (reading_at readings) (place k (omega arith)))
     ∙ range-shift (reading_at readings) at 0 n
     ∙ ap (λ (b : ℕ). in_run readings b n) none
 

@@ -39,18 +39,18 @@ module _ {shown : Shown} {calendar readings : List ℕ} {book : Book} (s : Shows
       ∙ ap (λ (a : ℕ). in_run readings a n) none
 
   -- the readings of day d that stand for the engagement's quarter-hours
-  pub day_reading : (k d : ℕ) → day_reading book shown.e k d ≡ reading_at readings (origin_of shown.c shown.e.point + reference shown.c shown.e d k)
+  pub day-reading : (k d : ℕ) → day_reading book shown.e k d ≡ reading_at readings (origin_of shown.c shown.e.point + reference shown.c shown.e d k)
   unfolding day_reading
-  day_reading k d = s.reading shown.e.point (reference book.calendar shown.e d k) ∙ ap (λ (b : Calendar). reading_at readings (origin_of shown.c shown.e.point + reference b shown.e d k)) s.when
+  day-reading k d = s.reading shown.e.point (reference book.calendar shown.e d k) ∙ ap (λ (b : Calendar). reading_at readings (origin_of shown.c shown.e.point + reference b shown.e d k)) s.when
 
-  pub day_standing : (d : ℕ) → day_readings book shown.e d ≡ standing readings shown.c shown.e (origin_of shown.c shown.e.point) d
+  pub day-standing : (d : ℕ) → day_readings book shown.e d ≡ standing readings shown.c shown.e (origin_of shown.c shown.e.point) d
   unfolding day_readings
-  day_standing d = map-cong _ _ (quarter_hours shown.e) (λ k. day_reading k d)
+  day-standing d = map-cong _ _ (quarter_hours shown.e) (λ k. day-reading k d)
 
   -- those of A in the engagement's quarter-hours
-  pub own_run : map (own_reading book shown.e) (quarter_hours shown.e) ≡ in_run readings (origin_of shown.c shown.e.point + start shown.c shown.e) shown.e.count
+  pub own-run : map (own_reading book shown.e) (quarter_hours shown.e) ≡ in_run readings (origin_of shown.c shown.e.point + start shown.c shown.e) shown.e.count
   unfolding own_reading quarter_hours
-  own_run =
+  own-run =
       map-cong _ (λ k. book.reading shown.e.point (start shown.c shown.e + k)) (range 0 shown.e.count) (λ k. ap (λ (b : Calendar). book.reading shown.e.point (start b shown.e + k)) s.when)
       ∙ run_at (start shown.c shown.e) shown.e.count
 
@@ -58,20 +58,20 @@ module _ {shown : Shown} {calendar readings : List ℕ} {book : Book} (s : Shows
   unfolding reading_before
   before_at q n = ap (λ (r : Reading). cond (leb n q) r Missing) (s.reading shown.e.point (q - n))
 
-  pub window_at : (q : ℕ) → window book shown.e.point q ≡ window_in readings (origin_of shown.c shown.e.point) q
+  pub window-at : (q : ℕ) → window book shown.e.point q ≡ window_in readings (origin_of shown.c shown.e.point) q
   unfolding window
-  window_at q = map-cong _ _ (range 0 12) (λ i. before_at q (24 - i))
+  window-at q = map-cong _ _ (range 0 12) (λ i. before_at q (24 - i))
 
-  pub start_at : start book.calendar shown.e ≡ start shown.c shown.e
-  start_at = ap (λ (b : Calendar). start b shown.e) s.when
+  pub start-at : start book.calendar shown.e ≡ start shown.c shown.e
+  start-at = ap (λ (b : Calendar). start b shown.e) s.when
 
-  pub own_window : own_window book shown.e ≡ window_in readings (origin_of shown.c shown.e.point) (start shown.c shown.e)
+  pub own-window : own_window book shown.e ≡ window_in readings (origin_of shown.c shown.e.point) (start shown.c shown.e)
   unfolding own_window
-  own_window = window_at (start book.calendar shown.e) ∙ ap (window_in readings (origin_of shown.c shown.e.point)) start_at
+  own_window = window-at (start book.calendar shown.e) ∙ ap (window_in readings (origin_of shown.c shown.e.point)) start-at
 
-  pub day_window : (d : ℕ) → day_window book shown.e d ≡ window_in readings (origin_of shown.c shown.e.point) (reference shown.c shown.e d 0)
+  pub day-window : (d : ℕ) → day_window book shown.e d ≡ window_in readings (origin_of shown.c shown.e.point) (reference shown.c shown.e d 0)
   unfolding day_window
-  day_window d = window_at (reference book.calendar shown.e d 0) ∙ ap (λ (b : Calendar). window_in readings (origin_of shown.c shown.e.point) (reference b shown.e d 0)) s.when
+  day-window d = window-at (reference book.calendar shown.e d 0) ∙ ap (λ (b : Calendar). window_in readings (origin_of shown.c shown.e.point) (reference b shown.e d 0)) s.when
 
 -- a window that lies in the calendar is a run of 12, and another is not whole
 pub window-run : (readings : List ℕ) (origin q : ℕ) → 24 ≤ q → window_in readings origin q ≡ in_run readings (origin + (q - 24)) 12

@@ -65,17 +65,17 @@ insert-first k (j ∷ l) f =
 
 module _ (bias : ℕ) (sum : ℕ → ℤ) where
   -- a day's sum, raised
-  abbrev pub raisedSum : ℕ → ℕ
-  raisedSum d = up (sum d +ℤ pos bias)
+  abbrev pub raised_sum : ℕ → ℕ
+  raised_sum d = up (sum d +ℤ pos bias)
 
   abbrev pub key_of : ℕ → ℕ
-  key_of d = raisedSum d * 64 + d
+  key_of d = raised_sum d * 64 + d
 
   -- a day below a whose sum is raised to no less than 0
   pub record Ranks (a d : ℕ) : Type 0 where
     pub earlier : d < a
     pub small : d < 64
-    pub over : Over bias (sum d) (raisedSum d)
+    pub over : Over bias (sum d) (raised_sum d)
 
   -- days, each earlier than the one before it
   abbrev pub Days : ℕ → List ℕ → Type 0
@@ -141,42 +141,42 @@ module _ (bias : ℕ) (sum : ℕ → ℤ) where
       (max f.0 x, falls-insert (max f.0 x) x (sorted l) (falls-from f.0 (max f.0 x) (sorted l) (omega arith) f.1) (omega arith))
 
   -- ranked days, by their keys
-  pub ranked_keys : (a : ℕ) (l : List ℕ) → Days a l → map key_of (ranked sum l) ≡ sorted (map key_of l)
+  pub ranked-keys : (a : ℕ) (l : List ℕ) → Days a l → map key_of (ranked sum l) ≡ sorted (map key_of l)
   unfolding ranked sorted
-  ranked_keys a [] f = refl
-  ranked_keys a (d ∷ l) f =
-      let rest = ranked_keys d l f.1 in
+  ranked-keys a [] f = refl
+  ranked-keys a (d ∷ l) f =
+      let rest = ranked-keys d l f.1 in
       let g = falls-sorted (map key_of l) in
       key-insert d a g.0 (ranked sum l) f.0 (below-ranked d l (days-below d l f.1)) (rw rest g.1) ∙ ap (inserted (key_of d)) rest
 
   -- one more, earlier day
-  pub ranked_more : (a : ℕ) (l : List ℕ) (d : ℕ) → Days a l → Days a (l ++ (d ∷ [])) → inserted (key_of d) (map key_of (ranked sum l)) ≡ map key_of (ranked sum (l ++ (d ∷ [])))
-  ranked_more a l d f g =
-      ap (inserted (key_of d)) (ranked_keys a l f)
+  pub ranked-more : (a : ℕ) (l : List ℕ) (d : ℕ) → Days a l → Days a (l ++ (d ∷ [])) → inserted (key_of d) (map key_of (ranked sum l)) ≡ map key_of (ranked sum (l ++ (d ∷ [])))
+  ranked-more a l d f g =
+      ap (inserted (key_of d)) (ranked-keys a l f)
       ∙ sym (sorted_more (map key_of l) (key_of d))
       ∙ ap sorted (sym (map-append key_of l (d ∷ [])))
-      ∙ sym (ranked_keys a (l ++ (d ∷ [])) g)
+      ∙ sym (ranked-keys a (l ++ (d ∷ [])) g)
 
   -- a key tells its day
-  pub key_day : (d : ℕ) → d < 64 → key_of d % 64 ≡ d
-  key_day d h = omega arith
+  pub key-day : (d : ℕ) → d < 64 → key_of d % 64 ≡ d
+  key-day d h = omega arith
 
   -- one more, earlier day behind days that are all at least f
   abbrev pub Above : ℕ → List ℕ → Type 0
   Above f [] = Unit {0}
   Above f (d ∷ l) = (f ≤ d) × Above f l
 
-  pub days_more : (a f d : ℕ) (l : List ℕ) → f ≡ d + 1 → Days a l → Above f l → d < a → d < 64 → Over bias (sum d) (raisedSum d) → Days a (l ++ (d ∷ []))
-  days_more a f d [] e p q h k o = (record { earlier = h; small = k; over = o }, tt)
-  days_more a f d (g ∷ l) e p q h k o = (p.0, days_more g f d l e p.1 q.1 (omega (arith, q.0)) k o)
+  pub days-more : (a f d : ℕ) (l : List ℕ) → f ≡ d + 1 → Days a l → Above f l → d < a → d < 64 → Over bias (sum d) (raised_sum d) → Days a (l ++ (d ∷ []))
+  days-more a f d [] e p q h k o = (record { earlier = h; small = k; over = o }, tt)
+  days-more a f d (g ∷ l) e p q h k o = (p.0, days-more g f d l e p.1 q.1 (omega (arith, q.0)) k o)
 
   pub above_more : (f d : ℕ) (l : List ℕ) → f ≡ d + 1 → Above f l → Above d (l ++ (d ∷ []))
   above_more f d [] e q = (omega arith, tt)
   above_more f d (g ∷ l) e q = (omega (arith, q.0), above_more f d l e q.1)
 
-  pub above_less : (f d : ℕ) (l : List ℕ) → f ≡ d + 1 → Above f l → Above d l
-  above_less f d [] e q = tt
-  above_less f d (g ∷ l) e q = (omega (arith, q.0), above_less f d l e q.1)
+  pub above-less : (f d : ℕ) (l : List ℕ) → f ≡ d + 1 → Above f l → Above d l
+  above-less f d [] e q = tt
+  above-less f d (g ∷ l) e q = (omega (arith, q.0), above-less f d l e q.1)
 
 -- a number that is z plus the bias is the raised z
 pub raised_is : (bias : ℕ) (z : ℤ) (u : ℕ) → Over bias z u → u ≡ up (z +ℤ pos bias)

@@ -2,21 +2,21 @@
 use Rattle.std.specs.Prelude.{◌≡◌, refl, true, List, [], ◌∷◌, map, ℕ, zero, suc, ◌%◌, ◌≤◌, ℤ, take}
 use Rattle.std.proofs.Common.{sym, ap, ap₂, ◌∙◌, arith, length-take, take-take}
 use Rattle.integers.specs.All.{All}
-use Rattle.integers.specs.KeepLaws.{mem_keep}
+use Rattle.integers.specs.KeepLaws.{mem-keep}
 use Rattle.book.specs.declared.Engagement.{Engagement}
 use Rattle.book.specs.Book.{Book}
 use Rattle.volumes.specs.Ranking.{ranked}
-use Rattle.volumes.specs.RankingLaws.{from_ranked, length_ranked}
+use Rattle.volumes.specs.RankingLaws.{from-ranked, length-ranked}
 use Rattle.volumes.specs.Baseline.{eligible, before, eligible_days, x_of, y_of, latest, day_sum, taken}
-use Rattle.baseline.specs.SortingLaws.{Days, key_day}
+use Rattle.baseline.specs.SortingLaws.{Days, key-day}
 use Rattle.baseline.specs.RanksInner.{bias, key_in, RankedTo}
-use Rattle.baseline.specs.RanksLaws.{keys_first}
+use Rattle.baseline.specs.RanksLaws.{keys-first}
 use Rattle.baseline.specs.TakenInner.{Serves, Took}
 use Rattle.integers.specs.AllLaws.{each_all, all-each, all_take}
 
 -- what is ranked stands in the list
 all-ranked : (P : ℕ → Type 0) (key : ℕ → ℤ) (l : List ℕ) → All P l → All P (ranked key l)
-all-ranked P key l h = each_all P (ranked key l) (λ d m. all-each P l d h (from_ranked key d l m))
+all-ranked P key l h = each_all P (ranked key l) (λ d m. all-each P l d h (from-ranked key d l m))
 
 -- days that fall from a, each eligible
 serve : (book : Book) (e : Engagement) (a : ℕ) (l : List ℕ) → a ≤ e.day → Days (bias e) (day_sum book e) a l → All (λ d. eligible book e d ≡ true) l → All (Serves book e) l
@@ -28,7 +28,7 @@ serve book e a (d ∷ l) h f g =
 tell : (book : Book) (e : Engagement) (l : List ℕ) → All (Serves book e) l → map (λ k. k % 64) (map (key_in book e) l) ≡ l
 unfolding All
 tell book e [] h = refl
-tell book e (d ∷ l) h = ap₂ ◌∷◌ (key_day (bias e) (day_sum book e) d h.0.small) (tell book e l h.1)
+tell book e (d ∷ l) h = ap₂ ◌∷◌ (key-day (bias e) (day_sum book e) d h.0.small) (tell book e l h.1)
 
 take-map : (f : ℕ → ℕ) (n : ℕ) (l : List ℕ) → take n (map f l) ≡ map f (take n l)
 take-map f zero l = refl
@@ -40,12 +40,12 @@ unfolding taken latest eligible_days
 took book e keys₀ keys x y n r ex ey full few =
     let days = take y (eligible_days book e) in
     let rank = ranked (day_sum book e) days in
-    let all = serve book e e.day days (omega arith) r.falling (all_take _ y (eligible_days book e) (each_all _ (eligible_days book e) (λ d m. (mem_keep (eligible book e) (before e.day) d m).1))) in
+    let all = serve book e e.day days (omega arith) r.falling (all_take _ y (eligible_days book e) (each_all _ (eligible_days book e) (λ d m. (mem-keep (eligible book e) (before e.day) d m).1))) in
     let served = all_take _ x rank (all-ranked _ (day_sum book e) days all) in
     let same : taken book e ≡ take x rank = ap₂ (λ (i j : ℕ). take i (ranked (day_sum book e) (take j (eligible_days book e)))) (sym ex) (sym ey) in
-    let first : take x keys ≡ map (key_in book e) (take x rank) = sym (take-take x n keys (omega arith)) ∙ ap (take x) (keys_first r) ∙ take-map (key_in book e) x rank in
+    let first : take x keys ≡ map (key_in book e) (take x rank) = sym (take-take x n keys (omega arith)) ∙ ap (take x) (keys-first r) ∙ take-map (key_in book e) x rank in
     record {
       days = ap (map (λ k. k % 64)) first ∙ tell book e (take x rank) served ∙ sym same;
       each = rw same served;
-      count = rw same (length-take x rank ∙ omega (arith, length_ranked (day_sum book e) days, r.count));
+      count = rw same (length-take x rank ∙ omega (arith, length-ranked (day_sum book e) days, r.count));
     }

@@ -18,7 +18,7 @@ use Rattle.volumes.specs.BaselineLaws.{complete-append}
 use Rattle.baseline.specs.TallyInner.{in_run, Tallied}
 use Rattle.baseline.specs.declared.tally.Tally.{Tally}
 use Rattle.integers.specs.RangesLaws.{range-more}
-use Rattle.integers.specs.SumsLaws.{sum_append}
+use Rattle.integers.specs.SumsLaws.{sum-append}
 use Rattle.wire.specs.ReadingsInner.{raised, raise}
 
 pub run_more : (readings : List ℕ) (at n : ℕ) → in_run readings at (n + 1) ≡ in_run readings at n ++ (reading_at readings (at + n) ∷ [])
@@ -45,7 +45,7 @@ there (negsuc w) r h e = let o = raised-over (negsuc w) h in negative w r (eqb (
 
 sum_more : (l : List Reading) (r : Reading) → sum_z watts (l ++ (r ∷ [])) ≡ sum_z watts l +ℤ watts r
 unfolding sum_by
-sum_more l r = sum_append integers watts l (r ∷ []) ∙ ap (λ (z : ℤ). sum_z watts l +ℤ z) (+ℤ_idr (watts r))
+sum_more l r = sum-append integers watts l (r ∷ []) ∙ ap (λ (z : ℤ). sum_z watts l +ℤ z) (+ℤ_idr (watts r))
 
 -- one reading more
 pub tally-more : (l : List Reading) (n : ℕ) (t : Tally) (reading : Reading) (r : ℕ) → Tallied l n t → There reading r → r < 4294967296
@@ -66,6 +66,6 @@ pub tally-append : (l m : List Reading) (n k : ℕ) (t u : Tally) → Tallied l 
 tally-append l m n k t u h g =
     record {
       whole = ap₂ ◌&&◌ h.whole g.whole ∙ sym (complete-append l m);
-      sum = λ e. let parts = both t.whole u.whole e in rw (sum_append integers watts l m) (over_add (raise * (n + k)) (h.sum parts.0) (g.sum parts.1) (omega arith));
+      sum = λ e. let parts = both t.whole u.whole e in rw (sum-append integers watts l m) (over_add (raise * (n + k)) (h.sum parts.0) (g.sum parts.1) (omega arith));
       small = omega (arith, h.small, g.small);
     }

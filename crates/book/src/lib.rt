@@ -6,7 +6,7 @@ pub mod sections;
 pub mod tables;
 
 // Why an activation does or doesn't pass through the supplier.
-#[derive(Clone, Copy)]
+#[derive(Drop)]
 pub enum Situation {
     Transfer,
     PassThrough,
@@ -15,7 +15,7 @@ pub enum Situation {
 }
 
 // The file kinds that take a delivery point: 01 and 02, 03, none; or no situation at all.
-#[derive(Clone, Copy)]
+#[derive(Drop)]
 pub enum Takers {
     Aggregated,
     Individual,
@@ -23,28 +23,28 @@ pub enum Takers {
     Refused,
 }
 
-#[derive(Clone, Copy)]
+#[derive(Drop)]
 pub enum Supply {
     OffTake,
     Injection,
 }
 
 // How a delivery point's baseline is made.
-#[derive(Clone, Copy)]
+#[derive(Drop)]
 pub enum Method {
     LastQuarter,
     HighXOfY,
     Adjusted,
 }
 
-#[derive(Clone, Copy)]
+#[derive(Drop)]
 pub enum Direction {
     Up,
     Down,
 }
 
 // A delivery point, a row of the register.
-#[derive(Clone, Copy)]
+#[derive(Drop)]
 pub struct Point {
     pub delivery: u64,
     pub access: u64,
@@ -67,7 +67,7 @@ pub struct Point {
 }
 
 // An activation of a delivery point: `count` quarter-hours from `first` on.
-#[derive(Clone, Copy)]
+#[derive(Drop)]
 pub struct Engagement {
     pub point: u16,
     pub day: u8,

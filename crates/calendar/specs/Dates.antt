@@ -17,7 +17,7 @@ month_length year month =
 
 -- "a written-out table": the months' lengths, at 1 to 12, in a leap year or in another
 abbrev pub lengths : Bool → List ℕ
-lengths inLeap = 0 ∷ 31 ∷ cond inLeap 29 28 ∷ 31 ∷ 30 ∷ 31 ∷ 30 ∷ 31 ∷ 31 ∷ 30 ∷ 31 ∷ 30 ∷ 31 ∷ []
+lengths in_leap = 0 ∷ 31 ∷ cond in_leap 29 28 ∷ 31 ∷ 30 ∷ 31 ∷ 30 ∷ 31 ∷ 31 ∷ 30 ∷ 31 ∷ 30 ∷ 31 ∷ []
 
 -- "For all twelve months, leap year or not, the lengths are to be shown equal to a written-out table, and no answer changes":
 -- the latter is of every number, a month's or not

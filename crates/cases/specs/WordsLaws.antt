@@ -31,10 +31,10 @@ module _ (word : List ℕ) (i acc : ℕ) where
   unfolding number_from digits value_from
   number_step h e = ap (number_from acc) (cut h) ∙ rw e
 
-  pub number_stop : i < length word → digit (get_or word i 0) ≡ false → number_from acc (drop i word) ≡ NotDigits
+  pub number-stop : i < length word → digit (get_or word i 0) ≡ false → number_from acc (drop i word) ≡ NotDigits
   unfolding number_from digits value_from
-  number_stop h e = ap (number_from acc) (cut h) ∙ rw e
+  number-stop h e = ap (number_from acc) (cut h) ∙ rw e
 
-  pub number_end : length word ≤ i → acc < 2 ^ 64 → number_from acc (drop i word) ≡ Value acc
+  pub number-end : length word ≤ i → acc < 2 ^ 64 → number_from acc (drop i word) ≡ Value acc
   unfolding number_from digits value_from
-  number_end h k = ap (number_from acc) (drop_of_length-le word {i = i} h) ∙ rw (lt-ltb acc (2 ^ 64) k)
+  number-end h k = ap (number_from acc) (drop_of_length-le word {i = i} h) ∙ rw (lt-ltb acc (2 ^ 64) k)

@@ -1,7 +1,7 @@
 -- The rules by which a walk calls a function that is lent the cursor that the walk holds (`Lent`), whatever else stands in the context and whatever code follows:
---     calls_bare       f(c: &mut Cursor, s: &[u8]) -> D
---     calls_with       f(c: &mut Cursor, s: &[u8], x: P) -> D
---     calls_rows       f(c: &mut Cursor, s: &[u8], x: P, out: &mut [u64]) -> D        the rows were lent to the walk, and are lent again (`Again`)
+--     calls-bare       f(c: &mut Cursor, s: &[u8]) -> D
+--     calls-with       f(c: &mut Cursor, s: &[u8], x: P) -> D
+--     calls-rows       f(c: &mut Cursor, s: &[u8], x: P, out: &mut [u64]) -> D        the rows were lent to the walk, and are lent again (`Again`)
 -- The callee's contract is any relation of the cursor, the answer and the rows that it leaves: what follows is given these, and that they are so related. P and D own only facts (`Plain`).
 -- `known` is the callee's triple at the ghost values that are picked here, written out: a caller gives it by the triple, and it computes. Assumes `Logic`.
 use mathlib.Core.Path.{◌≡◌, refl, ap, sym, subst}
@@ -69,11 +69,11 @@ module _ {M : Type 1} {𝓤 : Ura M} (𝓛 : Logic 𝓤) where
         later (some (λ (r : D.row.Denot). ((‵ (flft (ν ∷ []) full_share) ⊛ ‵ (flft κ₁ q₁) ⊛ ‵ ftrue) ⊛ ‵ (D.row.own_val r (v ∷ [])))
         ⊛ some (λ (ws : Cursor × (Unit {0} × Unit {0})). ‵ (fsep (fres δ (R.coded.code ws.0)) (fsep ftrue ftrue)) ⊛ raw (fact 𝓤 (Rel ws.0 r)))))
 
-    pub calls_bare : {Γ : List (Item 𝓤)} {E : Env 𝓤 H} {C : Calls 𝓤 H} {Λ : Loops 𝓤 H} {p : Post 𝓤 H} {f : Name} {xs : List Operand} {d : Place} {rest : Code} → FmC 𝓤 H 𝓛.laws C → ((ν : ℕ) (δ : GName) → ent 𝓤 (mean 𝓛 (asks-bare ν δ)) (C f (vptr c.at.0 c.at.1 ∷ sv s ∷ []) (λ v. mean 𝓛 (says-bare ν δ v))))
+    pub calls-bare : {Γ : List (Item 𝓤)} {E : Env 𝓤 H} {C : Calls 𝓤 H} {Λ : Loops 𝓤 H} {p : Post 𝓤 H} {f : Name} {xs : List Operand} {d : Place} {rest : Code} → FmC 𝓤 H 𝓛.laws C → ((ν : ℕ) (δ : GName) → ent 𝓤 (mean 𝓛 (asks-bare ν δ)) (C f (vptr c.at.0 c.at.1 ∷ sv s ∷ []) (λ v. mean 𝓛 (says-bare ν δ v))))
         → ((i₀ i₁ i₂ : Item 𝓤) → Opds (Go {0}) 𝓛 (i₀ ∷ i₁ ∷ i₂ ∷ Γ) E xs (vptr c.at.0 c.at.1 ∷ sv s ∷ []))
         → ((h' : Cursor) (r : D.row.Denot) → Fits D r → Rel h' r → Sq 𝓛 (c.Hold h' ∷ ‵ (flft κ₁ q₁) ∷ ‵ (Slice κ₁ s) ∷ Γ) (lands C Λ E d (D.low r) rest p))
         → Sq 𝓛 (c.Hold h ∷ ‵ (flft κ₁ q₁) ∷ ‵ (Slice κ₁ s) ∷ Γ) (runs C Λ E (seq (call f xs d) rest) p)
-    calls_bare {E = E} {C} {Λ} {p} {f} {d = d} {rest} fm known os then =
+    calls-bare {E = E} {C} {Λ} {p} {f} {d = d} {rest} fm known os then =
         lft_new ! tt (λ ν. move ! (1 ∷ []) $ use1 𝓛 (later (some (λ (δ : GName). ‵ (Ref (ν ∷ []) c.at δ h) ⊛ c.Keep ν δ h))) (c.lends ν h) $ await ! tt $ pick ! (λ δ. split ! $
         move ! (4 ∷ []) $ use1 𝓛 (‵ (Slice κ₁ s) ⊛ ‵ (Slice κ₁ s)) ((shr_slice_copy 𝓛 (named 0) κ₁ u8).twice s (sv s ∷ [])) $ split ! $
         move ! (4 ∷ 5 ∷ 2 ∷ 0 ∷ []) $ group ! 4 $ use1 𝓛 (asks-bare ν δ) (goes ν δ) $
@@ -98,11 +98,11 @@ module _ {M : Type 1} {𝓤 : Ura M} (𝓛 : Logic 𝓤) where
           later (some (λ (r : D.row.Denot). ((‵ (flft (ν ∷ []) full_share) ⊛ ‵ (flft κ₁ q₁) ⊛ ‵ ftrue) ⊛ ‵ (D.row.own_val r (v ∷ [])))
           ⊛ some (λ (ws : Cursor × (Unit {0} × (Unit {0} × Unit {0}))). ‵ (fsep (fres δ (R.coded.code ws.0)) (fsep ftrue (fsep ftrue ftrue))) ⊛ raw (fact 𝓤 (Rel ws.0 r)))))
 
-      pub calls_with : {Γ : List (Item 𝓤)} {E : Env 𝓤 H} {C : Calls 𝓤 H} {Λ : Loops 𝓤 H} {p : Post 𝓤 H} {f : Name} {xs : List Operand} {d : Place} {rest : Code} → FmC 𝓤 H 𝓛.laws C → ((ν : ℕ) (δ : GName) → ent 𝓤 (mean 𝓛 (asks-with ν δ)) (C f (vptr c.at.0 c.at.1 ∷ sv s ∷ P.low x ∷ []) (λ v. mean 𝓛 (says-with ν δ v))))
+      pub calls-with : {Γ : List (Item 𝓤)} {E : Env 𝓤 H} {C : Calls 𝓤 H} {Λ : Loops 𝓤 H} {p : Post 𝓤 H} {f : Name} {xs : List Operand} {d : Place} {rest : Code} → FmC 𝓤 H 𝓛.laws C → ((ν : ℕ) (δ : GName) → ent 𝓤 (mean 𝓛 (asks-with ν δ)) (C f (vptr c.at.0 c.at.1 ∷ sv s ∷ P.low x ∷ []) (λ v. mean 𝓛 (says-with ν δ v))))
           → ((i₀ i₁ i₂ : Item 𝓤) → Opds (Go {0}) 𝓛 (i₀ ∷ i₁ ∷ i₂ ∷ Γ) E xs (vptr c.at.0 c.at.1 ∷ sv s ∷ P.low x ∷ []))
           → ((h' : Cursor) (r : D.row.Denot) → Fits D r → Rel h' r → Sq 𝓛 (c.Hold h' ∷ ‵ (flft κ₁ q₁) ∷ ‵ (Slice κ₁ s) ∷ Γ) (lands C Λ E d (D.low r) rest p))
           → Sq 𝓛 (c.Hold h ∷ ‵ (flft κ₁ q₁) ∷ ‵ (Slice κ₁ s) ∷ Γ) (runs C Λ E (seq (call f xs d) rest) p)
-      calls_with {E = E} {C} {Λ} {p} {f} {d = d} {rest} fm known os then =
+      calls-with {E = E} {C} {Λ} {p} {f} {d = d} {rest} fm known os then =
           lft_new ! tt (λ ν. move ! (1 ∷ []) $ use1 𝓛 (later (some (λ (δ : GName). ‵ (Ref (ν ∷ []) c.at δ h) ⊛ c.Keep ν δ h))) (c.lends ν h) $ await ! tt $ pick ! (λ δ. split ! $
           move ! (4 ∷ []) $ use1 𝓛 (‵ (Slice κ₁ s) ⊛ ‵ (Slice κ₁ s)) ((shr_slice_copy 𝓛 (named 0) κ₁ u8).twice s (sv s ∷ [])) $ split ! $
           move ! (4 ∷ 5 ∷ 2 ∷ 0 ∷ []) $ group ! 4 $ use1 𝓛 (asks-with ν δ) (goes ν δ) $
@@ -140,12 +140,12 @@ module _ {M : Type 1} {𝓤 : Ura M} (𝓛 : Logic 𝓤) where
     says-rows ν δ μ ε v =
         later (some (λ (r : D.row.Denot). (tokens ν μ ⊛ ‵ (D.row.own_val r (v ∷ []))) ⊛ some (λ (ws : Cursor × (Unit {0} × (Unit {0} × (List ℕ × Unit {0})))). ‵ (lasts-rows ν δ μ ε ws) ⊛ raw (fact 𝓤 (Rel ws.0 r ws.1.1.1.0)))))
 
-    pub calls_rows : {Γ : List (Item 𝓤)} {E : Env 𝓤 H} {C : Calls 𝓤 H} {Λ : Loops 𝓤 H} {p : Post 𝓤 H} {f : Name} {xs : List Operand} {d : Place} {rest : Code} → FmC 𝓤 H 𝓛.laws C → ((ν : ℕ) (δ : GName) (μ : ℕ) (ε : GName) → ent 𝓤 (mean 𝓛 (asks-rows ν δ μ ε)) (C f values (λ v. mean 𝓛 (says-rows ν δ μ ε v))))
+    pub calls-rows : {Γ : List (Item 𝓤)} {E : Env 𝓤 H} {C : Calls 𝓤 H} {Λ : Loops 𝓤 H} {p : Post 𝓤 H} {f : Name} {xs : List Operand} {d : Place} {rest : Code} → FmC 𝓤 H 𝓛.laws C → ((ν : ℕ) (δ : GName) (μ : ℕ) (ε : GName) → ent 𝓤 (mean 𝓛 (asks-rows ν δ μ ε)) (C f values (λ v. mean 𝓛 (says-rows ν δ μ ε v))))
         → ((i₀ i₁ i₂ i₃ i₄ : Item 𝓤) → Opds (Go {0}) 𝓛 (i₀ ∷ i₁ ∷ i₂ ∷ i₃ ∷ i₄ ∷ Γ) E xs values)
         → ((h' : Cursor) (r : D.row.Denot) (zs : List ℕ) → length zs ≡ length ys → Fits D r → Rel h' r zs
         → Sq 𝓛 (c.Hold h' ∷ ‵ (flft κ₁ q₁) ∷ ‵ (Slice κ₁ s) ∷ ‵ (Rows κ₂ b₂ o₂ γ₂ zs (length zs)) ∷ ‵ (flft κ₂ q₂) ∷ Γ) (lands C Λ E d (D.low r) rest p))
         → Sq 𝓛 (c.Hold h ∷ ‵ (flft κ₁ q₁) ∷ ‵ (Slice κ₁ s) ∷ ‵ (Rows κ₂ b₂ o₂ γ₂ ys (length ys)) ∷ ‵ (flft κ₂ q₂) ∷ Γ) (runs C Λ E (seq (call f xs d) rest) p)
-    calls_rows {E = E} {C} {Λ} {p} {f} {d = d} {rest} fm known os then =
+    calls-rows {E = E} {C} {Λ} {p} {f} {d = d} {rest} fm known os then =
         lft_new ! tt (λ ν. move ! (1 ∷ []) $ use1 𝓛 (later (some (λ (δ : GName). ‵ (Ref (ν ∷ []) c.at δ h) ⊛ c.Keep ν δ h))) (c.lends ν h) $ await ! tt $ pick ! (λ δ. split ! $
         lft_new ! tt (λ μ. move ! (6 ∷ 7 ∷ []) $ use2 𝓛 (later (some (λ (ε : GName). ‵ ((MutSlice (named 0) (μ ∷ []) u64).own_val (at_out ε) (sv (at_out ε) ∷ [])) ⊛ ‵ (LentAgain u64 κ₂ (μ ∷ []) q₂ γ₂ b₂ o₂ ε ys)))) (lends_again u64 κ₂ (μ ∷ []) q₂ γ₂ b₂ o₂ 𝓛 (named 0) (named 0) ys) $ await ! tt $ pick ! (λ ε. split ! $
         move ! (7 ∷ []) $ use1 𝓛 (‵ (Slice κ₁ s) ⊛ ‵ (Slice κ₁ s)) ((shr_slice_copy 𝓛 (named 0) κ₁ u8).twice s (sv s ∷ [])) $ split ! $ nothing ! $ move ! (8 ∷ 9 ∷ 5 ∷ 6 ∷ 2 ∷ 3 ∷ []) $ group ! 6 $ use1 𝓛 (asks-rows ν δ μ ε) (goes ν δ μ ε) $

@@ -74,9 +74,9 @@ module _ {M : Type 1} {𝓤 : Ura M} (𝓛 : Logic 𝓤) where
       owned ! R (Is R) (LL.makes T.the_type T'.the_plain 𝓛) h _ g $ move ! (1 ∷ 0 ∷ []) $ fjoin ! $ fpack ! (List Val) (λ us. fsep (cell_at full_share R.mir us l 0) (R.own h us)) (T'.lowered h ∷ []) $
       use1 𝓛 (later (some (λ (δ : GName). ‵ (Ref (ν ∷ []) (l, 0) δ h) ⊛ ‵ (flent (ν ∷ []) (Body (mem R) l 0 δ))))) (lends_ref 𝓛 R (named 0) (ν ∷ []) h l 0) $ await ! tt $ at_once ! $ done !)
 
-  pub back_local : (l ν : ℕ) (δ : GName) (h : Cursor) → ent 𝓤 (sep 𝓤 (A.dead (ν ∷ [])) (sep 𝓤 (A.lent (ν ∷ []) (Body (mem R) l 0 δ)) (A.res δ (R.coded.code h)))) (H.⇛ (mean 𝓛 (In l h)))
+  pub back-local : (l ν : ℕ) (δ : GName) (h : Cursor) → ent 𝓤 (sep 𝓤 (A.dead (ν ∷ [])) (sep 𝓤 (A.lent (ν ∷ []) (Body (mem R) l 0 δ)) (A.res δ (R.coded.code h)))) (H.⇛ (mean 𝓛 (In l h)))
   unfolding part_of
-  back_local l ν δ h =
+  back-local l ν δ h =
       qed 𝓛 (‵ (fdead (ν ∷ [])) ∷ ‵ (flent (ν ∷ []) (Body (mem R) l 0 δ)) ∷ ‵ (fres δ (R.coded.code h)) ∷ []) ∵ updating ! $
       use3 𝓛 (later (‵ ((mem R).own_at h l 0))) (ref_back 𝓛 R (ν ∷ []) δ h l 0) $ await ! tt $ fpick ! (λ us. fsplit ! $
       spelt ! R (Is R) (shows 𝓛 R) (LL.vals T.the_type T'.the_laws) (LL.tells T.the_type T'.the_laws) full_share h us l 0 $ move ! (1 ∷ []) $ peeks ! R (Is R) (shows 𝓛 R) h (T'.lowered h ∷ []) (λ g. drop ! $ at_once ! $ check ! g $
@@ -87,7 +87,7 @@ module _ {M : Type 1} {𝓤 : Ura M} (𝓛 : Logic 𝓤) where
   holds l h g = guard_i 𝓤 (Good h) (sem 𝓛 (Cell l h)) g
 
   abbrev pub in-local : ℕ → Holder 𝓛
-  in-local l = record { at = (l, 0); Hold = In l; Keep = λ ν δ h. ‵ (flent (ν ∷ []) (Body (mem R) l 0 δ)); lends = lends_local l; back = λ ν δ h h'. back_local l ν δ h' }
+  in-local l = record { at = (l, 0); Hold = In l; Keep = λ ν δ h. ‵ (flent (ν ∷ []) (Body (mem R) l 0 δ)); lends = lends_local l; back = λ ν δ h h'. back-local l ν δ h' }
 
   -- a `&κ mut` that was lent to the function, which is lent again
   abbrev pub By : Lft → Share → ℕ × ℕ → GName → Cursor → Item 𝓤

@@ -169,9 +169,9 @@ module _ (X D : Carried) (S : Answer D) where
             move ! (17 ∷ 18 ∷ []) $ free1 ! $ move ! (15 ∷ 16 ∷ []) $ free1 ! $ move ! (13 ∷ 14 ∷ []) $ free1 ! $ move ! (11 ∷ 12 ∷ []) $ free1 ! $ move ! (9 ∷ 10 ∷ []) $ free1 ! $ move ! (7 ∷ 8 ∷ []) $ free1 ! $ free0 ! $
             keep ! (0 ∷ 1 ∷ 2 ∷ 4 ∷ []) $ by ! (exits r e (S.found_is r w is))))))))))))))
 
-    pub gives_meets : {M : Type 1} {𝓤 : Ura M} (𝓛 : Logic 𝓤) (𝓣 : Tables 𝓤 𝓛.H) → Triple 𝓤 (𝓣.C f) (Callee 𝓛)
+    pub gives-meets : {M : Type 1} {𝓤 : Ura M} (𝓛 : Logic 𝓤) (𝓣 : Tables 𝓤 𝓛.H) → Triple 𝓤 (𝓣.C f) (Callee 𝓛)
         → Meets 𝓛 Gives.signature (WpFn 𝓤 𝓛.H 𝓣.C 𝓣.Λ (gives f)) (closing 𝓛 Gives (gives-by 𝓤))
-    gives_meets {𝓤 = 𝓤} 𝓛 𝓣 known =
+    gives-meets {𝓤 = 𝓤} 𝓛 𝓣 known =
         walk_Meets 𝓛 Gives stayed (Goes-ref 𝓛 2 0 tt (plain (λ _. R)), (Goes-dropped 𝓛 2 (SliceRefOf (1 ∷ []) tt (plain (λ _. u8)) (λ _. tt)) yes (λ κs x f. refl), (Goes-dropped 𝓛 2 (plain (λ _. X.base.row)) yes (λ κs x f. X.silent x f), tt))) (gives-by 𝓤)
         (WpFn 𝓤 𝓛.H 𝓣.C 𝓣.Λ (gives f)) (WpFn-mono 𝓤 𝓛.H 𝓛.laws 𝓣 (gives f))
         (walked 𝓛 Gives stayed (gives-by 𝓤) (WpFn 𝓤 𝓛.H 𝓣.C 𝓣.Λ (gives f)) (λ κs. (mut_vals, (shr_slice_vals, ((λ x. X.base.low x ∷ []), tt)))) (λ κs. (mut_Tells (named 0) κs.0 R, (shr_slice_Tells (named 1) κs.1.0 u8, (X.base.tells, tt))))

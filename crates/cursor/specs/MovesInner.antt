@@ -7,8 +7,8 @@ use Rattle.formats.specs.Format.{Res, got, bad, bind, pick}
 use Rattle.formats.specs.Combine.{strip, only_parse}
 use Rattle.formats.specs.Words.{words_parse}
 use Rattle.formats.specs.Exactly.{fixed_digits}
-use Rattle.formats.specs.Numbers.{numberParse}
-use Rattle.formats.specs.Name.{name_byte, nameParse}
+use Rattle.formats.specs.Numbers.{number_parse}
+use Rattle.formats.specs.Name.{name_byte, name_parse}
 use Rattle.formats.specs.PlaceInner.{placed}
 use Rattle.cursor.specs.declared.Cursor.{Cursor}
 use Rattle.cursor.specs.declared.Read.{Read}
@@ -63,14 +63,14 @@ past_tag s t c = behind s (read_at (strip t) s c)
 
 -- a number of at most max, which is 9 or more
 abbrev pub number_of : ℕ → ℕ → List ℕ → Res ℕ
-number_of stop max s = pick (leb 9 max) (numberParse stop max s)
+number_of stop max s = pick (leb 9 max) (number_parse stop max s)
 
 unfoldable pub past_number : List ℕ → ℕ → ℕ → Cursor → Read
 past_number s stop max c = taken s (read_at (number_of stop max) s c)
 
 -- a counter is 1 or more
 abbrev pub counter_parse : List ℕ → Res ℕ
-counter_parse = only_parse (λ n. ltb 0 n) (numberParse 60 18446744073709551615)
+counter_parse = only_parse (λ n. ltb 0 n) (number_parse 60 18446744073709551615)
 
 unfoldable pub past_counter : List ℕ → Cursor → Read
 past_counter s c = taken s (read_at counter_parse s c)
@@ -86,4 +86,4 @@ unfoldable pub past_word : List ℕ → List ℕ → List ℕ → Cursor → Rea
 past_word s v w c = taken s (read_at (words_parse (v ∷ w ∷ [])) s c)
 
 unfoldable pub past_name : List ℕ → ℕ → ℕ → ℕ → Cursor → Cursor
-past_name s least most stop c = behind s (read_at (nameParse name_byte least most stop) s c)
+past_name s least most stop c = behind s (read_at (name_parse name_byte least most stop) s c)

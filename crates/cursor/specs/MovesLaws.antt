@@ -11,8 +11,8 @@ use Rattle.formats.specs.Format.{Res, got, bad, bind, pick}
 use Rattle.formats.specs.Combine.{strip, only_parse}
 use Rattle.formats.specs.Words.{words_parse}
 use Rattle.formats.specs.Exactly.{fixed_digits}
-use Rattle.formats.specs.Numbers.{numberParse}
-use Rattle.formats.specs.Name.{name_byte, nameParse}
+use Rattle.formats.specs.Numbers.{number_parse}
+use Rattle.formats.specs.Name.{name_byte, name_parse}
 use Rattle.formats.specs.PlaceInner.{Within, Parsed, placed}
 use Rattle.cursor.specs.declared.Cursor.{Cursor}
 use Rattle.cursor.specs.declared.Read.{Read}
@@ -54,9 +54,9 @@ stands s c n = go (c.good && leb c.at (length s))
 -- ---- from a reading to the move
 
 module _ {A : Type 0} (f : List ℕ → Res A) (s : List ℕ) (c : Cursor) where
-  pub behind_is : (r : Mark) (v : A) → Parsed f s (standing s c) r v → cursor_at r ≡ behind s (read_at f s c)
-  behind_is (At q) v h = rw h.run.run (ap (λ (n : ℕ). cursor_at (At n)) (sym (back s q h.within)))
-  behind_is No v h = rw h.run.run
+  pub behind-is : (r : Mark) (v : A) → Parsed f s (standing s c) r v → cursor_at r ≡ behind s (read_at f s c)
+  behind-is (At q) v h = rw h.run.run (ap (λ (n : ℕ). cursor_at (At n)) (sym (back s q h.within)))
+  behind-is No v h = rw h.run.run
 
 module _ (f : List ℕ → Res ℕ) (s : List ℕ) (c : Cursor) where
   pub taken_is : (r : Mark) (v : ℕ) → Parsed f s (standing s c) r v → read_of v r ≡ taken s (read_at f s c)
@@ -68,41 +68,41 @@ module _ (f : List ℕ → Res ℕ) (s : List ℕ) (c : Cursor) where
 module _ (s : List ℕ) (c : Cursor) where
   pub tag_is : (t : List ℕ) (r : Mark) → Parsed (strip t) s (standing s c) r tt → cursor_at r ≡ past_tag s t c
   unfolding past_tag
-  tag_is t r h = behind_is (strip t) s c r tt h
+  tag_is t r h = behind-is (strip t) s c r tt h
 
   -- a cursor that isn't lost stands at its place
-  pub tag_stands : (t : List ℕ) → (past_tag s t c).good ≡ true → standing s (past_tag s t c) ≡ At (past_tag s t c).at
+  pub tag-stands : (t : List ℕ) → (past_tag s t c).good ≡ true → standing s (past_tag s t c) ≡ At (past_tag s t c).at
   unfolding past_tag
-  tag_stands t = behind-stands (read_at (strip t) s c)
+  tag-stands t = behind-stands (read_at (strip t) s c)
     where
       behind-stands : (x : Res (Unit {0})) → (behind s x).good ≡ true → standing s (behind s x) ≡ At (behind s x).at
       behind-stands (got v rest) e = rw (le-leb (length s - length rest) (length s) (omega arith))
       behind-stands bad e = let z : ◌≡◌ {A = ℕ} 0 1 = cc in absurd (omega arith)
 
-  pub name_is : (least most stop : ℕ) (r : Mark) (v : List ℕ) → Parsed (nameParse name_byte least most stop) s (standing s c) r v → cursor_at r ≡ past_name s least most stop c
+  pub name-is : (least most stop : ℕ) (r : Mark) (v : List ℕ) → Parsed (name_parse name_byte least most stop) s (standing s c) r v → cursor_at r ≡ past_name s least most stop c
   unfolding past_name
-  name_is least most stop r v h = behind_is (nameParse name_byte least most stop) s c r v h
+  name-is least most stop r v h = behind-is (name_parse name_byte least most stop) s c r v h
 
-  pub word_is : (v w : List ℕ) (r : Mark) (x : ℕ) → Parsed (words_parse (v ∷ w ∷ [])) s (standing s c) r x → read_of x r ≡ past_word s v w c
+  pub word-is : (v w : List ℕ) (r : Mark) (x : ℕ) → Parsed (words_parse (v ∷ w ∷ [])) s (standing s c) r x → read_of x r ≡ past_word s v w c
   unfolding past_word
-  word_is v w r x h = taken_is (words_parse (v ∷ w ∷ [])) s c r x h
+  word-is v w r x h = taken_is (words_parse (v ∷ w ∷ [])) s c r x h
 
-  pub number_is : (stop max : ℕ) (r : Mark) (v : ℕ) → 9 ≤ max → Parsed (numberParse stop max) s (standing s c) r v → read_of v r ≡ past_number s stop max c
+  pub number_is : (stop max : ℕ) (r : Mark) (v : ℕ) → 9 ≤ max → Parsed (number_parse stop max) s (standing s c) r v → read_of v r ≡ past_number s stop max c
   unfolding past_number
-  number_is stop max r v k h = rw (le-leb 9 max k) (taken_is (numberParse stop max) s c r v h)
+  number_is stop max r v k h = rw (le-leb 9 max k) (taken_is (number_parse stop max) s c r v h)
 
-  pub fixed_is : (n : ℕ) (r : Mark) (v : ℕ) → n ≤ 18 → Parsed (fixed_digits n).parse s (standing s c) r v → read_of v r ≡ past_fixed s n c
+  pub fixed-is : (n : ℕ) (r : Mark) (v : ℕ) → n ≤ 18 → Parsed (fixed_digits n).parse s (standing s c) r v → read_of v r ≡ past_fixed s n c
   unfolding past_fixed
-  fixed_is n r v k h = rw (le-leb n 18 k) (taken_is (fixed_digits n).parse s c r v h)
+  fixed-is n r v k h = rw (le-leb n 18 k) (taken_is (fixed_digits n).parse s c r v h)
 
   -- a limit below 9, or more than 18 digits, finds nothing
   none : (m : Mark) → read_of 0 No ≡ taken s (bind (placed s m) (λ u q. bad))
   none (At n) = refl
   none No = refl
 
-  pub number_off : (stop max : ℕ) → max < 9 → read_of 0 No ≡ past_number s stop max c
+  pub number-off : (stop max : ℕ) → max < 9 → read_of 0 No ≡ past_number s stop max c
   unfolding past_number
-  number_off stop max k = rw (lt-leb 9 max k) (none (standing s c))
+  number-off stop max k = rw (lt-leb 9 max k) (none (standing s c))
 
   pub fixed_off : (n : ℕ) → 18 < n → read_of 0 No ≡ past_fixed s n c
   unfolding past_fixed
@@ -121,10 +121,10 @@ counts s f (got u q) = go (f q)
     go (got n r) = ((λ e. rw e), λ h. rw (lt-ltb 0 n h))
 
 module _ (s : List ℕ) (c : Cursor) (n : Read) (e : n ≡ past_number s 60 18446744073709551615 c) where
-  pub counter_none : n.value ≡ 0 → read_of 0 No ≡ past_counter s c
+  pub counter-none : n.value ≡ 0 → read_of 0 No ≡ past_counter s c
   unfolding past_number past_counter
-  counter_none z = (counts s (numberParse 60 18446744073709551615) (placed s (standing s c))).0 (ap (λ (r : Read). r.value) (sym e) ∙ z)
+  counter-none z = (counts s (number_parse 60 18446744073709551615) (placed s (standing s c))).0 (ap (λ (r : Read). r.value) (sym e) ∙ z)
 
-  pub counter_some : 0 < n.value → n ≡ past_counter s c
+  pub counter-some : 0 < n.value → n ≡ past_counter s c
   unfolding past_number past_counter
-  counter_some h = e ∙ (counts s (numberParse 60 18446744073709551615) (placed s (standing s c))).1 (subst (λ (r : Read). 0 < r.value) e h)
+  counter-some h = e ∙ (counts s (number_parse 60 18446744073709551615) (placed s (standing s c))).1 (subst (λ (r : Read). 0 < r.value) e h)

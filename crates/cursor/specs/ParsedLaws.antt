@@ -11,8 +11,8 @@ use Rattle.formats.specs.Format.{Res, got, bad, bind, pick, Sound}
 use Rattle.formats.specs.Combine.{strip, strip-sound, only}
 use Rattle.formats.specs.Words.{word_at, words_parse, words-sound}
 use Rattle.formats.specs.Exactly.{fixed_digits}
-use Rattle.formats.specs.Numbers.{numberParse, number, number_sound}
-use Rattle.formats.specs.Name.{name_byte, span, nameParse, Name, name_sound}
+use Rattle.formats.specs.Numbers.{number_parse, number, number-sound}
+use Rattle.formats.specs.Name.{name_byte, span, name_parse, Name, name-sound}
 use Rattle.formats.specs.PlaceInner.{Within, Parsed, placed, left}
 use Rattle.formats.specs.PlaceLaws.{parsed, not_there}
 use Rattle.cursor.specs.declared.Cursor.{Cursor}
@@ -42,8 +42,8 @@ module _ {A : Type 0} (Ok : A → Type 0) (render : A → List ℕ) (f : List �
       let end : rest ≡ drop (p + n) s = sym (drop-append_seam (render a) rest) ∙ ap (drop n) (sym o.0) ∙ drop-drop n p s in
       rw (size, le-leb (p + n) (length s) fits) (parsed f s p v (p + n) (e ∙ ap (λ (b : A). got b rest) (sym k) ∙ ap (got v) end) fits)
 
-  pub move_parsed : ((q : List ℕ) → Sound Ok render q (f q)) → (c : Cursor) (v : A) → Says v (read_at f s c) → Parsed f s (standing s c) (standing s (behind s (read_at f s c))) v
-  move_parsed sound c v k = go (standing s c) (standing-within s c) k
+  pub move-parsed : ((q : List ℕ) → Sound Ok render q (f q)) → (c : Cursor) (v : A) → Says v (read_at f s c) → Parsed f s (standing s c) (standing s (behind s (read_at f s c))) v
+  move-parsed sound c v k = go (standing s c) (standing-within s c) k
     where
       go : (m : Mark) → Within s m → Says v (bind (placed s m) (λ u q. f q)) → Parsed f s m (standing s (behind s (bind (placed s m) (λ u q. f q)))) v
       go No h k = record { run = record { run = refl }; within = tt }
@@ -59,8 +59,8 @@ in-range f render Ok zero_ok sound s (At p) = go (f (drop p s)) (sound (drop p s
     go (got v rest) o = o.1
 
 -- a name is the bytes up to the first that no name has
-says-name : (test : ℕ → Bool) (least most stop : ℕ) (q : List ℕ) → Says (span test q) (nameParse test least most stop q)
-unfolding nameParse
+says-name : (test : ℕ → Bool) (least most stop : ℕ) (q : List ℕ) → Says (span test q) (name_parse test least most stop q)
+unfolding name_parse
 says-name test least most stop q = go (leb least (length (span test q))) (leb (length (span test q)) most) (strip (stop ∷ []) (drop (length (span test q)) q))
   where
     go : (a b : Bool) (x : Res (Unit {0})) → Says (span test q) (pick a (pick b (bind x (λ u r. got (span test q) r))))
@@ -72,42 +72,42 @@ says-name test least most stop q = go (leb least (length (span test q))) (leb (l
 -- ---- by the move
 
 module _ (s : List ℕ) (c : Cursor) where
-  pub tag_parsed : (t : List ℕ) → Parsed (strip t) s (standing s c) (standing s (past_tag s t c)) tt
+  pub tag-parsed : (t : List ℕ) → Parsed (strip t) s (standing s c) (standing s (past_tag s t c)) tt
   unfolding past_tag
-  tag_parsed t = move_parsed (λ u. Unit {0}) (λ u. t) (strip t) s (strip-sound t) c tt (says-tag (read_at (strip t) s c))
+  tag-parsed t = move-parsed (λ u. Unit {0}) (λ u. t) (strip t) s (strip-sound t) c tt (says-tag (read_at (strip t) s c))
 
-  pub word_parsed : (v w : List ℕ) → Parsed (words_parse (v ∷ w ∷ [])) s (standing s c) (standing s (past_word s v w c).to) (past_word s v w c).value
+  pub word-parsed : (v w : List ℕ) → Parsed (words_parse (v ∷ w ∷ [])) s (standing s c) (standing s (past_word s v w c).to) (past_word s v w c).value
   unfolding past_word
-  word_parsed v w = let f = words_parse (v ∷ w ∷ []) in move_parsed (λ n. n < 2) (word_at (v ∷ w ∷ [])) f s (words-sound (v ∷ w ∷ [])) c (value_in (read_at f s c)) (says-value (read_at f s c))
+  word-parsed v w = let f = words_parse (v ∷ w ∷ []) in move-parsed (λ n. n < 2) (word_at (v ∷ w ∷ [])) f s (words-sound (v ∷ w ∷ [])) c (value_in (read_at f s c)) (says-value (read_at f s c))
 
-  pub number_parsed : (stop max : ℕ) → 9 ≤ max → digit stop ≡ false → Parsed (numberParse stop max) s (standing s c) (standing s (past_number s stop max c).to) (past_number s stop max c).value
+  pub number-parsed : (stop max : ℕ) → 9 ≤ max → digit stop ≡ false → Parsed (number_parse stop max) s (standing s c) (standing s (past_number s stop max c).to) (past_number s stop max c).value
   unfolding past_number
-  number_parsed stop max nine off =
-      let f = numberParse stop max in
-      rw (le-leb 9 max nine) (move_parsed (λ v. v ≤ max) (λ v. plain v ++ (stop ∷ [])) f s (number_sound stop max nine off) c (value_in (read_at f s c)) (says-value (read_at f s c)))
+  number-parsed stop max nine off =
+      let f = number_parse stop max in
+      rw (le-leb 9 max nine) (move-parsed (λ v. v ≤ max) (λ v. plain v ++ (stop ∷ [])) f s (number-sound stop max nine off) c (value_in (read_at f s c)) (says-value (read_at f s c)))
 
-  pub counter_parsed : Parsed counter_parse s (standing s c) (standing s (past_counter s c).to) (past_counter s c).value
+  pub counter-parsed : Parsed counter_parse s (standing s c) (standing s (past_counter s c).to) (past_counter s c).value
   unfolding past_counter
   counter-parsed =
       let F = only (λ n. ltb 0 n) (number 60 18446744073709551615 (omega arith) refl) in
-      move_parsed F.Ok F.render counter_parse s F.sound c (value_in (read_at counter_parse s c)) (says-value (read_at counter_parse s c))
+      move-parsed F.Ok F.render counter_parse s F.sound c (value_in (read_at counter_parse s c)) (says-value (read_at counter_parse s c))
 
-  pub fixed_parsed : (n : ℕ) → n ≤ 18 → Parsed (fixed_digits n).parse s (standing s c) (standing s (past_fixed s n c).to) (past_fixed s n c).value
+  pub fixed-parsed : (n : ℕ) → n ≤ 18 → Parsed (fixed_digits n).parse s (standing s c) (standing s (past_fixed s n c).to) (past_fixed s n c).value
   unfolding past_fixed
-  fixed_parsed n few =
+  fixed-parsed n few =
       let f = (fixed_digits n).parse in
-      rw (le-leb n 18 few) (move_parsed (fixed_digits n).Ok (fixed_digits n).render f s (fixed_digits n).sound c (value_in (read_at f s c)) (says-value (read_at f s c)))
+      rw (le-leb n 18 few) (move-parsed (fixed_digits n).Ok (fixed_digits n).render f s (fixed_digits n).sound c (value_in (read_at f s c)) (says-value (read_at f s c)))
 
-  pub name_parsed : (least most stop : ℕ) → Parsed (nameParse name_byte least most stop) s (standing s c) (standing s (past_name s least most stop c)) (span name_byte (left s (standing s c)))
+  pub name-parsed : (least most stop : ℕ) → Parsed (name_parse name_byte least most stop) s (standing s c) (standing s (past_name s least most stop c)) (span name_byte (left s (standing s c)))
   unfolding past_name
-  name_parsed least most stop =
-      let f = nameParse name_byte least most stop in
-      move_parsed (Name name_byte least most stop) (λ l. l ++ (stop ∷ [])) f s (name_sound name_byte least most stop) c (span name_byte (left s (standing s c))) (go (standing s c))
+  name-parsed least most stop =
+      let f = name_parse name_byte least most stop in
+      move-parsed (Name name_byte least most stop) (λ l. l ++ (stop ∷ [])) f s (name-sound name_byte least most stop) c (span name_byte (left s (standing s c))) (go (standing s c))
     where
-      one : (q : List ℕ) → Says (span name_byte q) (nameParse name_byte least most stop q)
+      one : (q : List ℕ) → Says (span name_byte q) (name_parse name_byte least most stop q)
       one q = says-name name_byte least most stop q
 
-      go : (m : Mark) → Says (span name_byte (left s m)) (bind (placed s m) (λ u q. nameParse name_byte least most stop q))
+      go : (m : Mark) → Says (span name_byte (left s m)) (bind (placed s m) (λ u q. name_parse name_byte least most stop q))
       go No = tt
       go (At p) = one (drop p s)
 
@@ -115,11 +115,11 @@ module _ (s : List ℕ) (c : Cursor) where
 
   pub number_fits : (stop max : ℕ) → 9 ≤ max → digit stop ≡ false → (past_number s stop max c).value ≤ max
   unfolding past_number
-  number_fits stop max nine off = rw (le-leb 9 max nine) (in-range (numberParse stop max) (λ v. plain v ++ (stop ∷ [])) (λ n. n ≤ max) (omega arith) (number_sound stop max nine off) s (standing s c))
+  number_fits stop max nine off = rw (le-leb 9 max nine) (in-range (number_parse stop max) (λ v. plain v ++ (stop ∷ [])) (λ n. n ≤ max) (omega arith) (number-sound stop max nine off) s (standing s c))
 
-  pub fixed_fits : (n : ℕ) → n ≤ 18 → 0 < 10 ^ n → (past_fixed s n c).value < 10 ^ n
+  pub fixed-fits : (n : ℕ) → n ≤ 18 → 0 < 10 ^ n → (past_fixed s n c).value < 10 ^ n
   unfolding past_fixed
-  fixed_fits n few pos = rw (le-leb n 18 few) (in-range (fixed_digits n).parse (fixed_digits n).render (λ v. v < 10 ^ n) pos (fixed_digits n).sound s (standing s c))
+  fixed-fits n few pos = rw (le-leb n 18 few) (in-range (fixed_digits n).parse (fixed_digits n).render (λ v. v < 10 ^ n) pos (fixed_digits n).sound s (standing s c))
 
   pub word_fits : (v w : List ℕ) → (past_word s v w c).value < 2
   unfolding past_word

@@ -9,14 +9,14 @@ use reports::FileAnswer;
 use text::Number;
 
 // What a line says at a place, and where its next word starts.
-#[derive(Clone, Copy)]
+#[derive(Drop)]
 pub enum Field {
     Value(u64, usize),
     Nothing,
 }
 
 // What is asked for, and how many numbers and bytes are lent.
-#[derive(Clone, Copy)]
+#[derive(Drop)]
 pub struct Case {
     pub kind: u8,
     pub receiver: u64,

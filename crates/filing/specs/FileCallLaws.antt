@@ -34,24 +34,24 @@ asked_verdict book kind receiver id moment lent =
     (short 0 (row_width * row_count book) lent))
 
 module _ (book : Book) (kind : Kind) (receiver : ℕ) (id moment : List ℕ) (lent : ℕ) where
-  pub asked_other : stands receiver (receivers book kind) ≡ false → refused 11 0 ≡ asked_verdict book kind receiver id moment lent
+  pub asked-other : stands receiver (receivers book kind) ≡ false → refused 11 0 ≡ asked_verdict book kind receiver id moment lent
   unfolding asked_verdict
-  asked_other e = rw e
+  asked-other e = rw e
 
-  pub asked_malformed : stands receiver (receivers book kind) ≡ true → (is_transaction_id id && is_moment moment) ≡ false → refused 12 0 ≡ asked_verdict book kind receiver id moment lent
+  pub asked-malformed : stands receiver (receivers book kind) ≡ true → (is_transaction_id id && is_moment moment) ≡ false → refused 12 0 ≡ asked_verdict book kind receiver id moment lent
   unfolding asked_verdict
-  asked_malformed e f = rw (e, f)
+  asked-malformed e f = rw (e, f)
 
-  pub asked_short : stands receiver (receivers book kind) ≡ true → (is_transaction_id id && is_moment moment) ≡ true → lent < row_width * row_count book → refused 10 0 ≡ asked_verdict book kind receiver id moment lent
+  pub asked-short : stands receiver (receivers book kind) ≡ true → (is_transaction_id id && is_moment moment) ≡ true → lent < row_width * row_count book → refused 10 0 ≡ asked_verdict book kind receiver id moment lent
   unfolding asked_verdict
-  asked_short e f h = rw (e, f, lt-leb (row_width * row_count book) lent h)
+  asked-short e f h = rw (e, f, lt-leb (row_width * row_count book) lent h)
 
-  pub asked_well : stands receiver (receivers book kind) ≡ true → (is_transaction_id id && is_moment moment) ≡ true → row_width * row_count book ≤ lent → none ≡ asked_verdict book kind receiver id moment lent
+  pub asked-well : stands receiver (receivers book kind) ≡ true → (is_transaction_id id && is_moment moment) ≡ true → row_width * row_count book ≤ lent → none ≡ asked_verdict book kind receiver id moment lent
   unfolding asked_verdict
-  asked_well e f h = rw (e, f, le-leb (row_width * row_count book) lent h)
+  asked-well e f h = rw (e, f, le-leb (row_width * row_count book) lent h)
 
   -- the rows have room where nothing is refused
-  pub asked_room : asked_verdict book kind receiver id moment lent ≡ none → row_width * row_count book ≤ lent
+  pub asked-room : asked_verdict book kind receiver id moment lent ≡ none → row_width * row_count book ≤ lent
   unfolding asked_verdict
   asked-room e =
       let room = short 0 (row_width * row_count book) lent in
@@ -87,13 +87,13 @@ module _ (bytes : List ℕ) (kind receiver : ℕ) (id moment : List ℕ) (lent :
   unfolding file_answer file_says afterwards
   refused_as r h = record { answer = rw h; rows = rw h; file = rw h }
 
-  pub call_refused : (r : Refusal) → some r ≡ book_refusal bytes → FileCalled bytes kind receiver id moment lent lent before before (Refused r.number r.item)
+  pub call-refused : (r : Refusal) → some r ≡ book_refusal bytes → FileCalled bytes kind receiver id moment lent lent before before (Refused r.number r.item)
   unfolding file_refusal or_else
-  call_refused r h = refused_as r (rw (← h))
+  call-refused r h = refused_as r (rw (← h))
 
-  pub call_unknown : book_refusal bytes ≡ none → none ≡ kind_numbered kind → FileCalled bytes kind receiver id moment lent lent before before (Refused 12 0)
+  pub call-unknown : book_refusal bytes ≡ none → none ≡ kind_numbered kind → FileCalled bytes kind receiver id moment lent lent before before (Refused 12 0)
   unfolding file_refusal or_else asked_refusal
-  call_unknown h k = refused_as (record { number = 12; item = 0 }) (rw (h, ← k))
+  call-unknown h k = refused_as (record { number = 12; item = 0 }) (rw (h, ← k))
 
   module _ (k : Kind) (passed : book_refusal bytes ≡ none) (known : some k ≡ kind_numbered kind) where
     refusal_is : file_refusal bytes kind receiver id moment (length lent) (length before)
@@ -105,15 +105,15 @@ module _ (bytes : List ℕ) (kind receiver : ℕ) (id moment : List ℕ) (lent :
     unfolding text_of
     text-is = rw (← known)
 
-    pub call_asked : (r : Refusal) → some r ≡ asked_verdict (book_of bytes) k receiver id moment (length lent) → FileCalled bytes kind receiver id moment lent lent before before (Refused r.number r.item)
+    pub call-asked : (r : Refusal) → some r ≡ asked_verdict (book_of bytes) k receiver id moment (length lent) → FileCalled bytes kind receiver id moment lent lent before before (Refused r.number r.item)
     unfolding or_else
-    call_asked r h = refused_as r (refusal_is ∙ rw (← h))
+    call-asked r h = refused_as r (refusal_is ∙ rw (← h))
 
-    pub call_filled : (rows_after : List ℤ) (after : List ℕ) (r : FileAnswer) → asked_verdict (book_of bytes) k receiver id moment (length lent) ≡ none
+    pub call-filled : (rows_after : List ℤ) (after : List ℕ) (r : FileAnswer) → asked_verdict (book_of bytes) k receiver id moment (length lent) ≡ none
         → FileFilled (book_of bytes) (file_text (book_of bytes) k receiver id moment) lent rows_after before after r
         → FileCalled bytes kind receiver id moment lent rows_after before after r
     unfolding file_answer or_else
-    call_filled rows_after after r h f =
+    call-filled rows_after after r h f =
         let e : file_refusal bytes kind receiver id moment (length lent) (length before) ≡ room_for (file_text (book_of bytes) k receiver id moment) before = refusal_is ∙ rw h in
         record { answer = rw (e, text-is) f.answer; rows = rw e f.rows; file = rw (e, text-is) f.file }
 
@@ -121,15 +121,15 @@ module _ (bytes : List ℕ) (kind receiver : ℕ) (id moment : List ℕ) (lent :
 
 module _ (book : Book) (text : List ℕ) (lent : List ℤ) (before : List ℕ) where
   -- measured, the file found no place behind it
-  pub file_short : (dry : List ℕ) (m : Mark) → m ≡ No → Laid false before (At 0) text dry m → FileFilled book text lent lent before dry (Refused 10 1)
+  pub file-short : (dry : List ℕ) (m : Mark) → m ≡ No → Laid false before (At 0) text dry m → FileFilled book text lent lent before dry (Refused 10 1)
   unfolding file_says afterwards room_for
-  file_short dry m e v =
+  file-short dry m e v =
       let n = laid-no-room (rw e at v) in
       let h = lt-leb (length text) (length before) n.short in
       record { answer = rw h; rows = rw h; file = rw h n.same }
 
   -- the rows are filled, and the file written
-  pub file_fits : (count n : ℕ) (rows_after : List ℤ) (dry after : List ℕ) (m r : Mark) → row_width * row_count book ≤ length lent → count ≡ row_count book → m ≡ At n
+  pub file-fits : (count n : ℕ) (rows_after : List ℤ) (dry after : List ℕ) (m r : Mark) → row_width * row_count book ≤ length lent → count ≡ row_count book → m ≡ At n
       → Laid false before (At 0) text dry m → rows_after ≡ sets lent 0 (rows book) → Laid true dry (At 0) text after r
       → FileFilled book text lent rows_after before after (File count n)
   unfolding file_says afterwards room_for

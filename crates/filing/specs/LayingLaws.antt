@@ -15,26 +15,26 @@ use Rattle.emitter.specs.PartsLaws.{file-parts}
 use Rattle.reports.specs.FileRows.{partners_of, file_of, file_text}
 use Rattle.reports.specs.RegisteredInner.{Registered}
 use Rattle.partners.specs.PartnersInner.{points_in, partner_column, no_partner, Next, partner_if, partners_from}
-use Rattle.partners.specs.PartnersLaws.{points-in, partners_next, partners_end}
+use Rattle.partners.specs.PartnersLaws.{points-in, partners-next, partners-end}
 use Rattle.formats.specs.declared.Mark.{Mark}
 use Rattle.emitter.specs.LaidLaws.{Laid, ahead}
-use Rattle.integers.specs.ListsLaws.{flat_map_append}
+use Rattle.integers.specs.ListsLaws.{flat_map-append}
 
 -- ---- all partners
 
 module _ (book : Book) (kind : Kind) (receiver : ℕ) where
   -- the next partner's, and then the others'
-  pub partners_bytes : (low next : ℕ) → Next low (partner_column book.points kind receiver) next → next < no_partner
+  pub partners-bytes : (low next : ℕ) → Next low (partner_column book.points kind receiver) next → next < no_partner
       → flat_map (partner_bytes kind) (partners_from book kind receiver low) ≡ flat_map (partner_bytes kind) (partner_if book kind receiver next) ++ flat_map (partner_bytes kind) (partners_from book kind receiver (next + 1))
-  partners_bytes low next s h = ap (flat_map (partner_bytes kind)) (partners_next book kind receiver low next s h) ∙ flat_map_append (partner_bytes kind) (partner_if book kind receiver next) (partners_from book kind receiver (next + 1))
+  partners-bytes low next s h = ap (flat_map (partner_bytes kind)) (partners-next book kind receiver low next s h) ∙ flat_map-append (partner_bytes kind) (partner_if book kind receiver next) (partners_from book kind receiver (next + 1))
 
-  pub partners_end_bytes : Registered book → (low next : ℕ) → Next low (partner_column book.points kind receiver) next → no_partner ≤ next → flat_map (partner_bytes kind) (partners_from book kind receiver low) ≡ []
+  pub partners-end-bytes : Registered book → (low next : ℕ) → Next low (partner_column book.points kind receiver) next → no_partner ≤ next → flat_map (partner_bytes kind) (partners_from book kind receiver low) ≡ []
   unfolding flat_map
-  partners_end_bytes r low next s h = ap (flat_map (partner_bytes kind)) (partners_end book kind receiver r low next s h)
+  partners-end-bytes r low next s h = ap (flat_map (partner_bytes kind)) (partners-end book kind receiver r low next s h)
 
-  pub partners_count : (low next : ℕ) → Next low (partner_column book.points kind receiver) next → next < no_partner
+  pub partners-count : (low next : ℕ) → Next low (partner_column book.points kind receiver) next → next < no_partner
       → length (partners_from book kind receiver low) ≡ length (partner_if book kind receiver next) + length (partners_from book kind receiver (next + 1))
-  partners_count low next s h = ap length (partners_next book kind receiver low next s h) ∙ length-append (partner_if book kind receiver next) (partners_from book kind receiver (next + 1))
+  partners-count low next s h = ap length (partners-next book kind receiver low next s h) ∙ length-append (partner_if book kind receiver next) (partners_from book kind receiver (next + 1))
 
 -- the register's column is the book's
 pub next-in : (bytes register : List ℕ) (kind : Kind) (receiver low next : ℕ) → refusal_of bytes ≡ none → register ≡ register_section bytes

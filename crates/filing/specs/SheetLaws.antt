@@ -26,25 +26,25 @@ module _ (bytes : List ℕ) (party : ℕ) (lent : List ℤ) where
   unfolding sheet_answer sheet_says afterwards
   refused_as r h = record { answer = rw (← h); sums = rw (← h) }
 
-  pub sheet_refused : (r : Refusal) → some r ≡ book_refusal bytes → SheetCalled bytes party lent lent (Refused r.number r.item)
+  pub sheet-refused : (r : Refusal) → some r ≡ book_refusal bytes → SheetCalled bytes party lent lent (Refused r.number r.item)
   unfolding sheet_refusal or_else
-  sheet_refused r h = refused_as r (rw (← h))
+  sheet-refused r h = refused_as r (rw (← h))
 
   module _ (passed : book_refusal bytes ≡ none) where
-    pub sheet_stranger : stands party (parties (book_of bytes)) ≡ false → SheetCalled bytes party lent lent (Refused 11 0)
+    pub sheet-stranger : stands party (parties (book_of bytes)) ≡ false → SheetCalled bytes party lent lent (Refused 11 0)
     unfolding sheet_refusal or_else
-    sheet_stranger h = refused_as (record { number = 11; item = 0 }) (rw (passed, h))
+    sheet-stranger h = refused_as (record { number = 11; item = 0 }) (rw (passed, h))
 
-    pub sheet_short : stands party (parties (book_of bytes)) ≡ true → length lent < month_quarters (book_of bytes).calendar → SheetCalled bytes party lent lent (Refused 10 0)
+    pub sheet-short : stands party (parties (book_of bytes)) ≡ true → length lent < month_quarters (book_of bytes).calendar → SheetCalled bytes party lent lent (Refused 10 0)
     unfolding sheet_refusal or_else
-    sheet_short h k = refused_as (record { number = 10; item = 0 }) (rw (passed, h, lt-leb (month_quarters (book_of bytes).calendar) (length lent) k))
+    sheet-short h k = refused_as (record { number = 10; item = 0 }) (rw (passed, h, lt-leb (month_quarters (book_of bytes).calendar) (length lent) k))
 
     accepted : stands party (parties (book_of bytes)) ≡ true → month_quarters (book_of bytes).calendar ≤ length lent → sheet_refusal bytes party (length lent) ≡ none
     unfolding sheet_refusal or_else
     accepted h k = rw (passed, h, le-leb (month_quarters (book_of bytes).calendar) (length lent) k)
 
-    pub sheet_filled : (count : ℕ) (left : List ℤ) → stands party (parties (book_of bytes)) ≡ true → month_quarters (book_of bytes).calendar ≤ length lent → count ≡ month_quarters (book_of bytes).calendar → left ≡ sheet (book_of bytes) party ++ drop (month_quarters (book_of bytes).calendar) lent → SheetCalled bytes party lent left (Sheet count)
+    pub sheet-filled : (count : ℕ) (left : List ℤ) → stands party (parties (book_of bytes)) ≡ true → month_quarters (book_of bytes).calendar ≤ length lent → count ≡ month_quarters (book_of bytes).calendar → left ≡ sheet (book_of bytes) party ++ drop (month_quarters (book_of bytes).calendar) lent → SheetCalled bytes party lent left (Sheet count)
     unfolding sheet_answer sheet_says afterwards over
-    sheet_filled count left h k n f =
+    sheet-filled count left h k n f =
         let a = accepted h k in
         record { answer = rw (a, n); sums = rw (a, sheet-length (book_of bytes) party) f }

@@ -18,7 +18,7 @@ use partners::rows::fill_partner;
 use series::Role;
 
 // What is laid: the place behind it, and how many partners it has.
-#[derive(Clone, Copy)]
+#[derive(Drop)]
 pub struct Counted {
     pub mark: Mark,
     pub count: u64,

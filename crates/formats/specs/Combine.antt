@@ -39,27 +39,27 @@ unfoldable pub pre_parse : {A : Type 0} → List ℕ → (List ℕ → Res A) �
 pre_parse t f s = bind (strip t s) (λ u r. f r)
 
 module _ {A : Type 0} (t : List ℕ) (F : Format A) where
-  abbrev preRender : A → List ℕ
-  preRender a = t ++ F.render a
+  abbrev pre_render : A → List ℕ
+  pre_render a = t ++ F.render a
 
-  pre-sound₂ : (s r : List ℕ) → s ≡ t ++ r → (x : Res A) → Sound F.Ok F.render r x → Sound F.Ok preRender s x
+  pre-sound₂ : (s r : List ℕ) → s ≡ t ++ r → (x : Res A) → Sound F.Ok F.render r x → Sound F.Ok pre_render s x
   pre-sound₂ s r e bad h = tt
   pre-sound₂ s r e (got a q) h = (e ∙ ap (λ (l : List ℕ). t ++ l) h.0 ∙ sym (append_assoc t (F.render a) q), h.1)
 
-  pre-sound₁ : (s : List ℕ) (x : Res (Unit {0})) → Sound (λ u. Unit {0}) (λ u. t) s x → Sound F.Ok preRender s (bind x (λ u r. F.parse r))
+  pre-sound₁ : (s : List ℕ) (x : Res (Unit {0})) → Sound (λ u. Unit {0}) (λ u. t) s x → Sound F.Ok pre_render s (bind x (λ u r. F.parse r))
   pre-sound₁ s bad h = tt
   pre-sound₁ s (got u r) h = pre-sound₂ s r h.0 (F.parse r) (F.sound r)
 
-  pub pre_sound : (s : List ℕ) → Sound F.Ok preRender s (pre_parse t F.parse s)
+  pub pre-sound : (s : List ℕ) → Sound F.Ok pre_render s (pre_parse t F.parse s)
   unfolding pre_parse
-  pre_sound s = pre-sound₁ s (strip t s) (strip-sound t s)
+  pre-sound s = pre-sound₁ s (strip t s) (strip-sound t s)
 
-  pub pre_complete : (a : A) (rest : List ℕ) → F.Ok a → pre_parse t F.parse (preRender a ++ rest) ≡ got a rest
+  pub pre-complete : (a : A) (rest : List ℕ) → F.Ok a → pre_parse t F.parse (pre_render a ++ rest) ≡ got a rest
   unfolding pre_parse
-  pre_complete a rest ok = simp (append_assoc, strip-complete t (F.render a ++ rest), F.complete a rest ok)
+  pre-complete a rest ok = simp (append_assoc, strip-complete t (F.render a ++ rest), F.complete a rest ok)
 
   abbrev pub pre : Format A
-  pre = record { Ok = F.Ok; render = λ a. t ++ F.render a; parse = pre_parse t F.parse; sound = pre_sound; complete = pre_complete }
+  pre = record { Ok = F.Ok; render = λ a. t ++ F.render a; parse = pre_parse t F.parse; sound = pre-sound; complete = pre-complete }
 
 -- ---- a tag after, which may hang on what stands before it
 
@@ -67,31 +67,31 @@ unfoldable pub post_parse : {A : Type 0} → (List ℕ → Res A) → (A → Lis
 post_parse f t s = bind (f s) (λ a r. bind (strip (t a) r) (λ u q. got a q))
 
 module _ {A : Type 0} (F : Format A) (t : A → List ℕ) where
-  abbrev postRender : A → List ℕ
-  postRender a = F.render a ++ t a
+  abbrev post_render : A → List ℕ
+  post_render a = F.render a ++ t a
 
   post-sound₂ : (s : List ℕ) (a : A) (r : List ℕ) → s ≡ F.render a ++ r → F.Ok a → (x : Res (Unit {0})) → Sound (λ u. Unit {0}) (λ u. t a) r x
-      → Sound F.Ok postRender s (bind x (λ u q. got a q))
+      → Sound F.Ok post_render s (bind x (λ u q. got a q))
   post-sound₂ s a r e ok bad h = tt
   post-sound₂ s a r e ok (got u q) h = (e ∙ ap (λ (l : List ℕ). F.render a ++ l) h.0 ∙ sym (append_assoc (F.render a) (t a) q), ok)
 
-  post-sound₁ : (s : List ℕ) (x : Res A) → Sound F.Ok F.render s x → Sound F.Ok postRender s (bind x (λ a r. bind (strip (t a) r) (λ u q. got a q)))
+  post-sound₁ : (s : List ℕ) (x : Res A) → Sound F.Ok F.render s x → Sound F.Ok post_render s (bind x (λ a r. bind (strip (t a) r) (λ u q. got a q)))
   post-sound₁ s bad h = tt
   post-sound₁ s (got a r) h = post-sound₂ s a r h.0 h.1 (strip (t a) r) (strip-sound (t a) r)
 
-  pub post_sound : (s : List ℕ) → Sound F.Ok postRender s (post_parse F.parse t s)
+  pub post-sound : (s : List ℕ) → Sound F.Ok post_render s (post_parse F.parse t s)
   unfolding post_parse
-  post_sound s = post-sound₁ s (F.parse s) (F.sound s)
+  post-sound s = post-sound₁ s (F.parse s) (F.sound s)
 
-  pub post_complete : (a : A) (rest : List ℕ) → F.Ok a → post_parse F.parse t (postRender a ++ rest) ≡ got a rest
+  pub post-complete : (a : A) (rest : List ℕ) → F.Ok a → post_parse F.parse t (post_render a ++ rest) ≡ got a rest
   unfolding post_parse
-  post_complete a rest ok = simp (append_assoc, F.complete a (t a ++ rest) ok, strip-complete (t a) rest)
+  post-complete a rest ok = simp (append_assoc, F.complete a (t a ++ rest) ok, strip-complete (t a) rest)
 
-  abbrev pub postBy : Format A
-  postBy = record { Ok = F.Ok; render = λ a. F.render a ++ t a; parse = post_parse F.parse t; sound = post_sound; complete = post_complete }
+  abbrev pub post_by : Format A
+  post_by = record { Ok = F.Ok; render = λ a. F.render a ++ t a; parse = post_parse F.parse t; sound = post-sound; complete = post-complete }
 
 abbrev pub post : {A : Type 0} → Format A → List ℕ → Format A
-post F t = postBy F (λ a. t)
+post F t = post_by F (λ a. t)
 
 -- ---- one after the other; the second may hang on what the first says (a counter, a kind)
 
@@ -99,35 +99,35 @@ unfoldable pub seq_parse : {A B : Type 0} → (List ℕ → Res A) → (A → Li
 seq_parse f g s = bind (f s) (λ a r. bind (g a r) (λ b q. got (a, b) q))
 
 module _ {A B : Type 0} (F : Format A) (G : A → Format B) where
-  abbrev seqRender : A × B → List ℕ
-  seqRender p = F.render p.0 ++ (G p.0).render p.1
+  abbrev seq_render : A × B → List ℕ
+  seq_render p = F.render p.0 ++ (G p.0).render p.1
 
   abbrev SeqOk : A × B → Type 0
   SeqOk p = F.Ok p.0 × (G p.0).Ok p.1
 
   seq-sound₂ : (s : List ℕ) (a : A) (r : List ℕ) → s ≡ F.render a ++ r → F.Ok a → (x : Res B) → Sound (G a).Ok (G a).render r x
-      → Sound SeqOk seqRender s (bind x (λ b q. got (a, b) q))
+      → Sound SeqOk seq_render s (bind x (λ b q. got (a, b) q))
   seq-sound₂ s a r e ok bad h = tt
   seq-sound₂ s a r e ok (got b q) h =
       (e ∙ ap (λ (l : List ℕ). F.render a ++ l) h.0 ∙ sym (append_assoc (F.render a) ((G a).render b) q), (ok, h.1))
 
-  seq-sound₁ : (s : List ℕ) (x : Res A) → Sound F.Ok F.render s x → Sound SeqOk seqRender s (bind x (λ a r. bind ((G a).parse r) (λ b q. got (a, b) q)))
+  seq-sound₁ : (s : List ℕ) (x : Res A) → Sound F.Ok F.render s x → Sound SeqOk seq_render s (bind x (λ a r. bind ((G a).parse r) (λ b q. got (a, b) q)))
   seq-sound₁ s bad h = tt
   seq-sound₁ s (got a r) h = seq-sound₂ s a r h.0 h.1 ((G a).parse r) ((G a).sound r)
 
-  pub seq_sound : (s : List ℕ) → Sound SeqOk seqRender s (seq_parse F.parse (λ a. (G a).parse) s)
+  pub seq-sound : (s : List ℕ) → Sound SeqOk seq_render s (seq_parse F.parse (λ a. (G a).parse) s)
   unfolding seq_parse
-  seq_sound s = seq-sound₁ s (F.parse s) (F.sound s)
+  seq-sound s = seq-sound₁ s (F.parse s) (F.sound s)
 
-  pub seq_complete : (p : A × B) (rest : List ℕ) → SeqOk p → seq_parse F.parse (λ a. (G a).parse) (seqRender p ++ rest) ≡ got p rest
+  pub seq-complete : (p : A × B) (rest : List ℕ) → SeqOk p → seq_parse F.parse (λ a. (G a).parse) (seq_render p ++ rest) ≡ got p rest
   unfolding seq_parse
-  seq_complete p rest ok = simp (append_assoc, F.complete p.0 ((G p.0).render p.1 ++ rest) ok.0, (G p.0).complete p.1 rest ok.1)
+  seq-complete p rest ok = simp (append_assoc, F.complete p.0 ((G p.0).render p.1 ++ rest) ok.0, (G p.0).complete p.1 rest ok.1)
 
-  abbrev pub seqBy : Format (A × B)
-  seqBy = record { Ok = λ p. F.Ok p.0 × (G p.0).Ok p.1; render = λ p. F.render p.0 ++ (G p.0).render p.1; parse = seq_parse F.parse (λ a. (G a).parse); sound = seq_sound; complete = seq_complete }
+  abbrev pub seq_by : Format (A × B)
+  seq_by = record { Ok = λ p. F.Ok p.0 × (G p.0).Ok p.1; render = λ p. F.render p.0 ++ (G p.0).render p.1; parse = seq_parse F.parse (λ a. (G a).parse); sound = seq-sound; complete = seq-complete }
 
 abbrev pub seq : {A B : Type 0} → Format A → Format B → Format (A × B)
-seq F G = seqBy F (λ a. G)
+seq F G = seq_by F (λ a. G)
 
 -- ---- the same bytes for other contents
 
@@ -148,16 +148,16 @@ module _ {A B : Type 0} (F : Format A) (Ok : B → Type 0) (render : B → List 
   recast-sound₁ s (got a r) h =
       (h.0 ∙ ap (λ (x : A). F.render x ++ r) (sym (fits.back a h.1)) ∙ ap (λ (l : List ℕ). l ++ r) (fits.same (f a) (fits.to_ok a h.1)), fits.to_ok a h.1)
 
-  pub recast_sound : (s : List ℕ) → Sound Ok render s (map_parse f F.parse s)
+  pub recast-sound : (s : List ℕ) → Sound Ok render s (map_parse f F.parse s)
   unfolding map_parse
-  recast_sound s = recast-sound₁ s (F.parse s) (F.sound s)
+  recast-sound s = recast-sound₁ s (F.parse s) (F.sound s)
 
-  pub recast_complete : (b : B) (rest : List ℕ) → Ok b → map_parse f F.parse (render b ++ rest) ≡ got b rest
+  pub recast-complete : (b : B) (rest : List ℕ) → Ok b → map_parse f F.parse (render b ++ rest) ≡ got b rest
   unfolding map_parse
-  recast_complete b rest ok = rw (← fits.same b ok) (simp (F.complete (g b) rest (fits.from_ok b ok), fits.forth b ok))
+  recast-complete b rest ok = rw (← fits.same b ok) (simp (F.complete (g b) rest (fits.from_ok b ok), fits.forth b ok))
 
   abbrev pub recast : Format B
-  recast = record { Ok = Ok; render = render; parse = map_parse f F.parse; sound = recast_sound; complete = recast_complete }
+  recast = record { Ok = Ok; render = render; parse = map_parse f F.parse; sound = recast-sound; complete = recast-complete }
 
 -- ---- a test
 
@@ -176,13 +176,13 @@ module _ {A : Type 0} (test : A → Bool) (F : Format A) where
       go false e = tt
       go true e = (h.0, (h.1, e))
 
-  pub only_sound : (s : List ℕ) → Sound OnlyOk F.render s (only_parse test F.parse s)
+  pub only-sound : (s : List ℕ) → Sound OnlyOk F.render s (only_parse test F.parse s)
   unfolding only_parse
-  only_sound s = only-sound₁ s (F.parse s) (F.sound s)
+  only-sound s = only-sound₁ s (F.parse s) (F.sound s)
 
-  pub only_complete : (a : A) (rest : List ℕ) → OnlyOk a → only_parse test F.parse (F.render a ++ rest) ≡ got a rest
+  pub only-complete : (a : A) (rest : List ℕ) → OnlyOk a → only_parse test F.parse (F.render a ++ rest) ≡ got a rest
   unfolding only_parse
-  only_complete a rest ok = simp (F.complete a rest ok.0, ok.1)
+  only-complete a rest ok = simp (F.complete a rest ok.0, ok.1)
 
   abbrev pub only : Format A
-  only = record { Ok = λ a. F.Ok a × (test a ≡ true); render = F.render; parse = only_parse test F.parse; sound = only_sound; complete = only_complete }
+  only = record { Ok = λ a. F.Ok a × (test a ≡ true); render = F.render; parse = only_parse test F.parse; sound = only-sound; complete = only-complete }

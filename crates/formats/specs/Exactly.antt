@@ -18,23 +18,23 @@ module _ (n : ℕ) (test : List ℕ → Bool) where
   abbrev ExactlyOk : List ℕ → Type 0
   ExactlyOk l = (length l ≡ n) × (test l ≡ true)
 
-  pub exactly_sound : (s : List ℕ) → Sound ExactlyOk (λ l. l) s (exactly_parse n test s)
+  pub exactly-sound : (s : List ℕ) → Sound ExactlyOk (λ l. l) s (exactly_parse n test s)
   unfolding exactly_parse
-  exactly_sound s = go (leb n (length s)) refl (test (take n s)) refl
+  exactly-sound s = go (leb n (length s)) refl (test (take n s)) refl
     where
       go : (b : Bool) → leb n (length s) ≡ b → (t : Bool) → test (take n s) ≡ t → Sound ExactlyOk (λ l. l) s (pick b (pick t (got (take n s) (drop n s))))
       go false e t f = tt
       go true e false f = tt
       go true e true f = (sym (take-append-drop n s), (length-take-le n s (leb-true n (length s) e), f))
 
-  pub exactly_complete : (l rest : List ℕ) → ExactlyOk l → exactly_parse n test (l ++ rest) ≡ got l rest
+  pub exactly-complete : (l rest : List ℕ) → ExactlyOk l → exactly_parse n test (l ++ rest) ≡ got l rest
   unfolding exactly_parse
-  exactly_complete l rest ok =
+  exactly-complete l rest ok =
       let h : n ≤ length (l ++ rest) = omega (arith, length-append l rest, ok.0) in
       rw (le-leb n (length (l ++ rest)) h, take_at l rest n ok.0, drop_at l rest n ok.0, ok.1)
 
   abbrev pub exactly : Format (List ℕ)
-  exactly = record { Ok = λ l. (length l ≡ n) × (test l ≡ true); render = λ l. l; parse = exactly_parse n test; sound = exactly_sound; complete = exactly_complete }
+  exactly = record { Ok = λ l. (length l ≡ n) × (test l ≡ true); render = λ l. l; parse = exactly_parse n test; sound = exactly-sound; complete = exactly-complete }
 
 -- ---- a number of n digits
 

@@ -12,22 +12,22 @@ use Rattle.formats.specs.PlaceLaws.{parsed, not_there}
 use Rattle.formats.specs.declared.Mark.TheVariants.{At, No}
 
 module _ (n : ℕ) (test : List ℕ → Bool) (s : List ℕ) (p : ℕ) where
-  pub exactly_there : p + n ≤ length s → test (take n (drop p s)) ≡ true → Parsed (exactly_parse n test) s (At p) (At (p + n)) (take n (drop p s))
+  pub exactly-there : p + n ≤ length s → test (take n (drop p s)) ≡ true → Parsed (exactly_parse n test) s (At p) (At (p + n)) (take n (drop p s))
   unfolding exactly_parse
-  exactly_there h e =
+  exactly-there h e =
       let l : n ≤ length (drop p s) = omega (arith, length-drop p s) in
       parsed (exactly_parse n test) s p (take n (drop p s)) (p + n) (rw (le-leb n (length (drop p s)) l, e) (ap (got (take n (drop p s))) (drop-drop n p s))) h
 
-  pub exactly_none : test (take n (drop p s)) ≡ false → Parsed (exactly_parse n test) s (At p) No (take n (drop p s))
+  pub exactly-none : test (take n (drop p s)) ≡ false → Parsed (exactly_parse n test) s (At p) No (take n (drop p s))
   unfolding exactly_parse
-  exactly_none e = not_there (exactly_parse n test) s p (take n (drop p s)) (rw e (go (leb n (length (drop p s)))))
+  exactly-none e = not_there (exactly_parse n test) s p (take n (drop p s)) (rw e (go (leb n (length (drop p s)))))
     where
       go : (b : Bool) → ◌≡◌ {A = Res (List ℕ)} (pick b bad) bad
       go true = refl
       go false = refl
 
-  pub exactly_short : p ≤ length s → length s < p + n → Parsed (exactly_parse n test) s (At p) No (take n (drop p s))
+  pub exactly-short : p ≤ length s → length s < p + n → Parsed (exactly_parse n test) s (At p) No (take n (drop p s))
   unfolding exactly_parse
-  exactly_short w h =
+  exactly-short w h =
       let l : length (drop p s) < n = omega (arith, length-drop p s) in
       not_there (exactly_parse n test) s p (take n (drop p s)) (rw (lt-leb n (length (drop p s)) l))

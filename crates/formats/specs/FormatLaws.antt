@@ -10,8 +10,8 @@ pub got-bad : {A : Type 0} {a : A} {r : List ℕ} → got a r ≡ bad → ⊥
 got-bad e = let z : ◌≡◌ {A = ℕ} 0 1 = cc in omega arith
 
 module _ {A : Type 0} (F : Format A) where
-  pub sound_of : (s : List ℕ) (a : A) (rest : List ℕ) → F.parse s ≡ got a rest → (s ≡ F.render a ++ rest) × F.Ok a
-  sound_of s a rest e = subst (λ (r : Res A). Sound F.Ok F.render s r) e (F.sound s)
+  pub sound-of : (s : List ℕ) (a : A) (rest : List ℕ) → F.parse s ≡ got a rest → (s ≡ F.render a ++ rest) × F.Ok a
+  sound-of s a rest e = subst (λ (r : Res A). Sound F.Ok F.render s r) e (F.sound s)
 
   -- what is written is read
   pub there_and_back : (a : A) → F.Ok a → read_all F (F.render a) ≡ got a []
@@ -19,9 +19,9 @@ module _ {A : Type 0} (F : Format A) where
   there_and_back a ok = rw (← append-nil (F.render a)) (rw (F.complete a [] ok))
 
   -- what is read, written, gives the same bytes
-  pub back_and_there : (s : List ℕ) (a : A) (r : List ℕ) → read_all F s ≡ got a r → (s ≡ F.render a) × F.Ok a
+  pub back-and-there : (s : List ℕ) (a : A) (r : List ℕ) → read_all F s ≡ got a r → (s ≡ F.render a) × F.Ok a
   unfolding read_all
-  back_and_there s a r e = go (F.parse s) (F.sound s) e
+  back-and-there s a r e = go (F.parse s) (F.sound s) e
     where
       go : (x : Res A) → Sound F.Ok F.render s x → whole x ≡ got a r → (s ≡ F.render a) × F.Ok a
       go bad h e = absurd (got-bad (sym e))
@@ -33,8 +33,8 @@ module _ {A : Type 0} (F : Format A) where
   refused s e a ok f = got-bad (sym (there_and_back a ok) ∙ sym (ap (read_all F) f) ∙ e)
 
   -- two different contents never have the same bytes
-  pub one_contents : (a b : A) → F.Ok a → F.Ok b → F.render a ≡ F.render b → a ≡ b
-  one_contents a b p q e =
+  pub one-contents : (a b : A) → F.Ok a → F.Ok b → F.render a ≡ F.render b → a ≡ b
+  one-contents a b p q e =
       let f : got a [] ≡ got b [] = sym (there_and_back a p) ∙ ap (read_all F) e ∙ there_and_back b q in
       cc
 

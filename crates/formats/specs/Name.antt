@@ -59,8 +59,8 @@ module _ (test : ℕ → Bool) (least most stop : ℕ) where
   abbrev name_of : List ℕ → List ℕ → Res (List ℕ)
   name_of l r = pick (leb least (length l)) (pick (leb (length l) most) (bind (strip (stop ∷ []) r) (λ u q. got l q)))
 
-  unfoldable pub nameParse : List ℕ → Res (List ℕ)
-  nameParse s = name_of (span test s) (drop (length (span test s)) s)
+  unfoldable pub name_parse : List ℕ → Res (List ℕ)
+  name_parse s = name_of (span test s) (drop (length (span test s)) s)
 
   -- what a name is
   pub record Name (l : List ℕ) : Type 0 where
@@ -68,18 +68,18 @@ module _ (test : ℕ → Bool) (least most stop : ℕ) where
     pub long : least ≤ length l
     pub short : length l ≤ most
 
-  abbrev nameRender : List ℕ → List ℕ
-  nameRender l = l ++ (stop ∷ [])
+  abbrev name_render : List ℕ → List ℕ
+  name_render l = l ++ (stop ∷ [])
 
-  pub name_sound : (s : List ℕ) → Sound Name nameRender s (nameParse s)
-  unfolding nameParse
-  name_sound s =
+  pub name-sound : (s : List ℕ) → Sound Name name_render s (name_parse s)
+  unfolding name_parse
+  name-sound s =
       let l = span test s in
       let r = drop (length l) s in
       go (leb least (length l)) refl (leb (length l) most) refl (strip (stop ∷ []) r) (strip-sound (stop ∷ []) r)
     where
       go : (a : Bool) → leb least (length (span test s)) ≡ a → (b : Bool) → leb (length (span test s)) most ≡ b → (x : Res (Unit {0}))
-          → Sound (λ u. Unit {0}) (λ u. stop ∷ []) (drop (length (span test s)) s) x → Sound Name nameRender s (pick a (pick b (bind x (λ u q. got (span test s) q))))
+          → Sound (λ u. Unit {0}) (λ u. stop ∷ []) (drop (length (span test s)) s) x → Sound Name name_render s (pick a (pick b (bind x (λ u q. got (span test s) q))))
       go false e b f x h = tt
       go true e false f x h = tt
       go true e true f bad h = tt
@@ -89,12 +89,12 @@ module _ (test : ℕ → Bool) (least most stop : ℕ) where
       )
 
   module _ (off : test stop ≡ false) where
-    pub name_complete : (l rest : List ℕ) → Name l → nameParse (nameRender l ++ rest) ≡ got l rest
-    unfolding nameParse
-    name_complete l rest ok =
-        let e : span test (nameRender l ++ rest) ≡ l = ap (span test) (append_assoc l (stop ∷ []) rest) ∙ span-is test l stop rest ok.passes off in
-        let f : drop (length l) (nameRender l ++ rest) ≡ (stop ∷ []) ++ rest = ap (drop (length l)) (append_assoc l (stop ∷ []) rest) ∙ drop-append_seam l ((stop ∷ []) ++ rest) in
+    pub name-complete : (l rest : List ℕ) → Name l → name_parse (name_render l ++ rest) ≡ got l rest
+    unfolding name_parse
+    name-complete l rest ok =
+        let e : span test (name_render l ++ rest) ≡ l = ap (span test) (append_assoc l (stop ∷ []) rest) ∙ span-is test l stop rest ok.passes off in
+        let f : drop (length l) (name_render l ++ rest) ≡ (stop ∷ []) ++ rest = ap (drop (length l)) (append_assoc l (stop ∷ []) rest) ∙ drop-append_seam l ((stop ∷ []) ++ rest) in
         rw (e, f, le-leb least (length l) ok.long, le-leb (length l) most ok.short, strip-complete (stop ∷ []) rest)
 
     abbrev pub name : Format (List ℕ)
-    name = record { Ok = Name; render = λ l. l ++ (stop ∷ []); parse = nameParse; sound = name_sound; complete = name_complete }
+    name = record { Ok = Name; render = λ l. l ++ (stop ∷ []); parse = name_parse; sound = name-sound; complete = name-complete }

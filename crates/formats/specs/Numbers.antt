@@ -17,15 +17,15 @@ off-stop stop off x lo hi = ne_eqb x stop (λ e. true-false (sym (is_digit x lo 
 
 module _ (stop max : ℕ) where
   -- behind digits that say acc: the end, or a digit more, which a lone 0 doesn't have and which doesn't lead past max
-  unfoldable pub moreParse : ℕ → List ℕ → Res ℕ
-  moreParse acc [] = bad
-  moreParse acc (x ∷ s) =
+  unfoldable pub more_parse : ℕ → List ℕ → Res ℕ
+  more_parse acc [] = bad
+  more_parse acc (x ∷ s) =
       cond (eqb x stop) (got acc s)
-      (pick (digit x) (pick (ltb 0 acc) (pick (leb (acc * 10 + (x - 48)) max) (moreParse (acc * 10 + (x - 48)) s))))
+      (pick (digit x) (pick (ltb 0 acc) (pick (leb (acc * 10 + (x - 48)) max) (more_parse (acc * 10 + (x - 48)) s))))
 
-  unfoldable pub numberParse : List ℕ → Res ℕ
-  numberParse [] = bad
-  numberParse (x ∷ s) = pick (digit x) (moreParse (x - 48) s)
+  unfoldable pub number_parse : List ℕ → Res ℕ
+  number_parse [] = bad
+  number_parse (x ∷ s) = pick (digit x) (more_parse (x - 48) s)
 
   -- what is read behind acc: n digits more of v
   record Behind (acc : ℕ) (s : List ℕ) (v : ℕ) (rest : List ℕ) : Type 0 where
@@ -39,12 +39,12 @@ module _ (stop max : ℕ) where
   Behinds acc s (got v rest) = Behind acc s v rest
   Behinds acc s bad = Unit {0}
 
-  more-sound : (acc : ℕ) (s : List ℕ) → Behinds acc s (moreParse acc s)
-  unfolding fixed moreParse
+  more-sound : (acc : ℕ) (s : List ℕ) → Behinds acc s (more_parse acc s)
+  unfolding fixed more_parse
   more-sound acc [] = tt
   more-sound acc (x ∷ s) =
       let acc' = acc * 10 + (x - 48) in
-      go (eqb x stop) refl (digit x) refl (ltb 0 acc) refl (leb acc' max) refl (moreParse acc' s) (more-sound acc' s)
+      go (eqb x stop) refl (digit x) refl (ltb 0 acc) refl (leb acc' max) refl (more_parse acc' s) (more-sound acc' s)
     where
       go : (b₀ : Bool) → eqb x stop ≡ b₀ → (b₁ : Bool) → digit x ≡ b₁ → (b₂ : Bool) → ltb 0 acc ≡ b₂
           → (b₃ : Bool) → leb (acc * 10 + (x - 48)) max ≡ b₃ → (r : Res ℕ) → Behinds (acc * 10 + (x - 48)) s r
@@ -67,10 +67,10 @@ module _ (stop max : ℕ) where
           }
 
   module _ (nine : 9 ≤ max) (off : digit stop ≡ false) where
-    pub number_sound : (s : List ℕ) → Sound (λ v. v ≤ max) (λ v. plain v ++ (stop ∷ [])) s (numberParse s)
-    unfolding fixed numberParse
-    number_sound [] = tt
-    number_sound (x ∷ s) = go (digit x) refl (moreParse (x - 48) s) (more-sound (x - 48) s)
+    pub number-sound : (s : List ℕ) → Sound (λ v. v ≤ max) (λ v. plain v ++ (stop ∷ [])) s (number_parse s)
+    unfolding fixed number_parse
+    number-sound [] = tt
+    number-sound (x ∷ s) = go (digit x) refl (more_parse (x - 48) s) (more-sound (x - 48) s)
       where
         go : (b : Bool) → digit x ≡ b → (r : Res ℕ) → Behinds (x - 48) s r → Sound (λ v. v ≤ max) (λ v. plain v ++ (stop ∷ [])) (x ∷ s) (pick b r)
         go false e r h = tt
@@ -84,8 +84,8 @@ module _ (stop max : ℕ) where
               h.small (omega arith),
             )
 
-    more-complete : (n v : ℕ) (rest : List ℕ) → (0 < n → 0 < above n v) → v ≤ max → moreParse (above n v) (fixed n v ++ stop ∷ rest) ≡ got v rest
-    unfolding fixed moreParse
+    more-complete : (n v : ℕ) (rest : List ℕ) → (0 < n → 0 < above n v) → v ≤ max → more_parse (above n v) (fixed n v ++ stop ∷ rest) ≡ got v rest
+    unfolding fixed more_parse
     more-complete zero v rest a b = rw (eq-eqb stop stop refl) (ap (λ (k : ℕ). got k rest) (above_zero v))
     more-complete (suc n) v rest a b =
         let d = 48 + above n v % 10 in
@@ -94,15 +94,15 @@ module _ (stop max : ℕ) where
         simp (is_digit d (omega arith) (omega arith), off-stop stop off d (omega arith) (omega arith), lt-ltb 0 (above (suc n) v) lead, k, le-leb (above n v) max (omega (arith, above-le n v)))
         (more-complete n v rest (λ z. omega (arith, above-suc n v)) b)
 
-    pub number_complete : (v : ℕ) (rest : List ℕ) → v ≤ max → numberParse (plain v ++ (stop ∷ []) ++ rest) ≡ got v rest
-    unfolding fixed numberParse
-    number_complete v rest ok =
+    pub number-complete : (v : ℕ) (rest : List ℕ) → v ≤ max → number_parse (plain v ++ (stop ∷ []) ++ rest) ≡ got v rest
+    unfolding fixed number_parse
+    number-complete v rest ok =
         let n = count v (v / 10) in
         let m = plain-has v in
         let d = 48 + above n v % 10 in
         let k : d - 48 ≡ above n v = omega (arith, m.one) in
-        ap (λ (l : List ℕ). numberParse (l ++ (stop ∷ []) ++ rest)) m.bytes
+        ap (λ (l : List ℕ). number_parse (l ++ (stop ∷ []) ++ rest)) m.bytes
         ∙ simp (append_assoc (fixed n v) (stop ∷ []) rest, is_digit d (omega arith) (omega arith), k) (more-complete n v rest m.lead ok)
 
     abbrev pub number : Format ℕ
-    number = record { Ok = λ v. v ≤ max; render = λ v. plain v ++ (stop ∷ []); parse = numberParse; sound = number_sound; complete = number_complete }
+    number = record { Ok = λ v. v ≤ max; render = λ v. plain v ++ (stop ∷ []); parse = number_parse; sound = number-sound; complete = number-complete }

@@ -19,8 +19,8 @@ use Rattle.formats.specs.FormatLaws.{got-bad}
 use Rattle.formats.specs.Combine.{strip, map_parse}
 use Rattle.formats.specs.Words.{words_parse}
 use Rattle.formats.specs.Exactly.{exactly_parse, fixed_digits}
-use Rattle.formats.specs.Numbers.{moreParse, numberParse}
-use Rattle.formats.specs.Name.{span, span-split, nameParse}
+use Rattle.formats.specs.Numbers.{more_parse, number_parse}
+use Rattle.formats.specs.Name.{span, span-split, name_parse}
 use Rattle.formats.specs.RunLaws.{onward}
 use Rattle.formats.specs.PlaceInner.{Parsed}
 
@@ -44,16 +44,16 @@ module _ {A : Type 0} (f : List ℕ → Res A) (s : List ℕ) (p : ℕ) (v : A) 
 -- ---- a tag
 
 module _ (t s : List ℕ) (p : ℕ) where
-  pub tag_room : p ≤ length s → begins t (drop p s) ≡ true → p + length t ≤ length s
-  tag_room h e = omega (arith, begins-length t (drop p s) e, length-drop p s)
+  pub tag-room : p ≤ length s → begins t (drop p s) ≡ true → p + length t ≤ length s
+  tag-room h e = omega (arith, begins-length t (drop p s) e, length-drop p s)
 
-  pub tag_there : p ≤ length s → begins t (drop p s) ≡ true → Parsed (strip t) s (At p) (At (p + length t)) tt
+  pub tag-there : p ≤ length s → begins t (drop p s) ≡ true → Parsed (strip t) s (At p) (At (p + length t)) tt
   unfolding strip
-  tag_there h e = parsed (strip t) s p tt (p + length t) (rw e (ap (got tt) (drop-drop (length t) p s))) (tag_room h e)
+  tag-there h e = parsed (strip t) s p tt (p + length t) (rw e (ap (got tt) (drop-drop (length t) p s))) (tag-room h e)
 
-  pub tag_none : begins t (drop p s) ≡ false → Parsed (strip t) s (At p) No tt
+  pub tag-none : begins t (drop p s) ≡ false → Parsed (strip t) s (At p) No tt
   unfolding strip
-  tag_none e = not_there (strip t) s p tt (rw e)
+  tag-none e = not_there (strip t) s p tt (rw e)
 
 -- ---- one of two words
 
@@ -63,12 +63,12 @@ module _ (v w s : List ℕ) where
   word_first No q h = absurd (got-bad (sym h.run.run))
   word_first (At p) q h = parsed (words_parse (v ∷ w ∷ [])) s p 0 q (rw h.run.run) h.within
 
-  pub word_second : (m r : Mark) → Parsed (strip v) s m No tt → Parsed (strip w) s m r tt → Parsed (words_parse (v ∷ w ∷ [])) s m r 1
+  pub word-second : (m r : Mark) → Parsed (strip v) s m No tt → Parsed (strip w) s m r tt → Parsed (words_parse (v ∷ w ∷ [])) s m r 1
   unfolding words_parse
-  word_second No No h k = record { run = record { run = refl }; within = tt }
-  word_second No (At q) h k = absurd (got-bad (sym k.run.run))
-  word_second (At p) No h k = not_there (words_parse (v ∷ w ∷ [])) s p 1 (rw (h.run.run, k.run.run))
-  word_second (At p) (At q) h k = parsed (words_parse (v ∷ w ∷ [])) s p 1 q (rw (h.run.run, k.run.run)) k.within
+  word-second No No h k = record { run = record { run = refl }; within = tt }
+  word-second No (At q) h k = absurd (got-bad (sym k.run.run))
+  word-second (At p) No h k = not_there (words_parse (v ∷ w ∷ [])) s p 1 (rw (h.run.run, k.run.run))
+  word-second (At p) (At q) h k = parsed (words_parse (v ∷ w ∷ [])) s p 1 q (rw (h.run.run, k.run.run)) k.within
 
 -- ---- a number of n digits
 
@@ -90,75 +90,75 @@ fixed_told s p n h = go (leb n (length (drop p s))) refl (leb (p + n) (length s)
     go false e true f d = absurd (omega (arith, leb-false n (length (drop p s)) e, leb-true (p + n) (length s) f, length-drop p s))
 
 module _ (s : List ℕ) (p n : ℕ) (h : p ≤ length s) where
-  pub fixed_room : (v : ℕ) → Value v ≡ fixed_at s p n → p + n ≤ length s
+  pub fixed-room : (v : ℕ) → Value v ≡ fixed_at s p n → p + n ≤ length s
   unfolding fixed_at
-  fixed_room v e = go (leb (p + n) (length s)) refl e
+  fixed-room v e = go (leb (p + n) (length s)) refl e
     where
       go : (b : Bool) → leb (p + n) (length s) ≡ b → Value v ≡ pick_number b (pick_number (digits (take n (drop p s))) (Value (value_of (take n (drop p s))))) → p + n ≤ length s
       go true f e = leb-true (p + n) (length s) f
       go false f e = let z : ◌≡◌ {A = ℕ} 0 1 = cc in absurd (omega arith)
 
-  pub fixed_there : (v : ℕ) → Value v ≡ fixed_at s p n → Parsed (fixed_digits n).parse s (At p) (At (p + n)) v
-  fixed_there v e = parsed (fixed_digits n).parse s p v (p + n) (fixed_told s p n h ∙ ap (told s (p + n)) (sym e)) (fixed_room v e)
+  pub fixed-there : (v : ℕ) → Value v ≡ fixed_at s p n → Parsed (fixed_digits n).parse s (At p) (At (p + n)) v
+  fixed-there v e = parsed (fixed_digits n).parse s p v (p + n) (fixed_told s p n h ∙ ap (told s (p + n)) (sym e)) (fixed-room v e)
 
-  pub fixed_none : NotDigits ≡ fixed_at s p n → Parsed (fixed_digits n).parse s (At p) No 0
-  fixed_none e = not_there (fixed_digits n).parse s p 0 (fixed_told s p n h ∙ ap (told s (p + n)) (sym e))
+  pub fixed-none : NotDigits ≡ fixed_at s p n → Parsed (fixed_digits n).parse s (At p) No 0
+  fixed-none e = not_there (fixed_digits n).parse s p 0 (fixed_told s p n h ∙ ap (told s (p + n)) (sym e))
 
 -- ---- a number without leading zeros, one byte on
 
 module _ (stop max : ℕ) (s : List ℕ) (p : ℕ) where
-  pub number_short : length s ≤ p → numberParse stop max (drop p s) ≡ bad
-  unfolding numberParse
+  pub number_short : length s ≤ p → number_parse stop max (drop p s) ≡ bad
+  unfolding number_parse
   number_short k = rw (drop_of_length-le s k)
 
-  pub number_step : p < length s → numberParse stop max (drop p s) ≡ pick (digit (get_or s p 0)) (moreParse stop max (get_or s p 0 - 48) (drop (p + 1) s))
-  unfolding numberParse
+  pub number_step : p < length s → number_parse stop max (drop p s) ≡ pick (digit (get_or s p 0)) (more_parse stop max (get_or s p 0 - 48) (drop (p + 1) s))
+  unfolding number_parse
   number_step k = rw (add-one, drop-cons s p 0)
 
-  pub more_short : (acc : ℕ) → length s ≤ p → moreParse stop max acc (drop p s) ≡ bad
-  unfolding moreParse
-  more_short acc k = rw (drop_of_length-le s k)
+  pub more-short : (acc : ℕ) → length s ≤ p → more_parse stop max acc (drop p s) ≡ bad
+  unfolding more_parse
+  more-short acc k = rw (drop_of_length-le s k)
 
-  pub more_step : (acc : ℕ) → p < length s
-      → moreParse stop max acc (drop p s)
+  pub more-step : (acc : ℕ) → p < length s
+      → more_parse stop max acc (drop p s)
       ≡ cond (eqb (get_or s p 0) stop) (got acc (drop (p + 1) s))
       (pick (digit (get_or s p 0)) (pick (ltb 0 acc) (pick (leb (acc * 10 + (get_or s p 0 - 48)) max)
-      (moreParse stop max (acc * 10 + (get_or s p 0 - 48)) (drop (p + 1) s)))))
-  unfolding moreParse
-  more_step acc k = rw (add-one, drop-cons s p 0)
+      (more_parse stop max (acc * 10 + (get_or s p 0 - 48)) (drop (p + 1) s)))))
+  unfolding more_parse
+  more-step acc k = rw (add-one, drop-cons s p 0)
 
 -- ---- a name, one byte on
 
 module _ (test : ℕ → Bool) (s : List ℕ) (p : ℕ) where
-  pub span_short : length s ≤ p → span test (drop p s) ≡ []
+  pub span-short : length s ≤ p → span test (drop p s) ≡ []
   unfolding span
-  span_short k = rw (drop_of_length-le s k)
+  span-short k = rw (drop_of_length-le s k)
 
-  pub span_stop : p < length s → test (get_or s p 0) ≡ false → span test (drop p s) ≡ []
+  pub span-stop : p < length s → test (get_or s p 0) ≡ false → span test (drop p s) ≡ []
   unfolding span
-  span_stop k e = rw (drop-cons s p 0, e)
+  span-stop k e = rw (drop-cons s p 0, e)
 
-  pub span_step : p < length s → test (get_or s p 0) ≡ true → span test (drop p s) ≡ get_or s p 0 ∷ span test (drop (p + 1) s)
+  pub span-step : p < length s → test (get_or s p 0) ≡ true → span test (drop p s) ≡ get_or s p 0 ∷ span test (drop (p + 1) s)
   unfolding span
-  span_step k e = rw (drop-cons s p 0, e, add-one)
+  span-step k e = rw (drop-cons s p 0, e, add-one)
 
-  pub span_room : p ≤ length s → p + length (span test (drop p s)) ≤ length s
-  span_room h =
+  pub span-room : p ≤ length s → p + length (span test (drop p s)) ≤ length s
+  span-room h =
       omega (arith, length-drop p s, ap length (span-split test (drop p s)), length-append (span test (drop p s)) (drop (length (span test (drop p s))) (drop p s)))
 
   module _ (least most stop : ℕ) where
-    pub name_short : length (span test (drop p s)) < least → nameParse test least most stop (drop p s) ≡ bad
-    unfolding nameParse
-    name_short h = rw (lt-leb least (length (span test (drop p s))) h)
+    pub name-short : length (span test (drop p s)) < least → name_parse test least most stop (drop p s) ≡ bad
+    unfolding name_parse
+    name-short h = rw (lt-leb least (length (span test (drop p s))) h)
 
-    pub name_long : least ≤ length (span test (drop p s)) → most < length (span test (drop p s)) → nameParse test least most stop (drop p s) ≡ bad
-    unfolding nameParse
-    name_long h k = rw (le-leb least (length (span test (drop p s))) h, lt-leb (length (span test (drop p s))) most k)
+    pub name-long : least ≤ length (span test (drop p s)) → most < length (span test (drop p s)) → name_parse test least most stop (drop p s) ≡ bad
+    unfolding name_parse
+    name-long h k = rw (le-leb least (length (span test (drop p s))) h, lt-leb (length (span test (drop p s))) most k)
 
-    pub name_there : (r : Mark) → least ≤ length (span test (drop p s)) → length (span test (drop p s)) ≤ most
-        → Parsed (strip (stop ∷ [])) s (At (p + length (span test (drop p s)))) r tt → Parsed (nameParse test least most stop) s (At p) r (span test (drop p s))
-    unfolding nameParse
-    name_there r h k t =
+    pub name-there : (r : Mark) → least ≤ length (span test (drop p s)) → length (span test (drop p s)) ≤ most
+        → Parsed (strip (stop ∷ [])) s (At (p + length (span test (drop p s)))) r tt → Parsed (name_parse test least most stop) s (At p) r (span test (drop p s))
+    unfolding name_parse
+    name-there r h k t =
         let l = span test (drop p s) in
         record {
           run = record {

@@ -6,24 +6,24 @@ use Rattle.integers.specs.Rises.{rises}
 use Rattle.integers.specs.All.{All}
 use Rattle.formats.specs.Format.{Format}
 use Rattle.formats.specs.Combine.{Recast, recast, only}
-use Rattle.formats.specs.Items.{items, itemsRender, ItemsOk, items-bytes}
+use Rattle.formats.specs.Items.{items, items_render, ItemsOk, items-bytes}
 
 module _ {A S : Type 0} (F : S → Format A) (key : A → ℕ) (next : S → A → S) where
   -- an item under the least key that it may have and the state of the items
-  abbrev pub fromLow : ℕ × S → Format A
-  fromLow st = only (λ a. leb st.0 (key a)) (F st.1)
+  abbrev pub from_low : ℕ × S → Format A
+  from_low st = only (λ a. leb st.0 (key a)) (F st.1)
 
   abbrev pub rise : ℕ × S → A → ℕ × S
   rise st a = (suc (key a), next st.1 a)
 
-  to-rising : (low : ℕ) (st : S) (l : List A) → ItemsOk fromLow rise (low, st) l → (rises low (map key l) ≡ true) × ItemsOk F next st l
+  to-rising : (low : ℕ) (st : S) (l : List A) → ItemsOk from_low rise (low, st) l → (rises low (map key l) ≡ true) × ItemsOk F next st l
   unfolding ItemsOk rises
   to-rising low st [] ok = (refl, tt)
   to-rising low st (a ∷ l) ok =
       let r = to-rising (suc (key a)) (next st a) l ok.1 in
       (and_both ok.0.1 r.0, (ok.0.0, r.1))
 
-  from-rising : (low : ℕ) (st : S) (l : List A) → rises low (map key l) ≡ true → ItemsOk F next st l → ItemsOk fromLow rise (low, st) l
+  from-rising : (low : ℕ) (st : S) (l : List A) → rises low (map key l) ≡ true → ItemsOk F next st l → ItemsOk from_low rise (low, st) l
   unfolding ItemsOk rises
   from-rising low st [] e ok = tt
   from-rising low st (a ∷ l) e ok = (
@@ -38,8 +38,8 @@ module _ {A S : Type 0} (F : S → Format A) (key : A → ℕ) (next : S → A �
     pub each : ItemsOk F next st l
 
   module _ (bytes : A → List ℕ) (same : (st : S) (a : A) → (F st).render a ≡ bytes a) (n low : ℕ) (st : S) where
-    pub rising_recast : Recast (items fromLow rise n (low, st)) (Rising n low st) (flat_map bytes) (λ l. l) (λ l. l)
-    rising_recast =
+    pub rising-recast : Recast (items from_low rise n (low, st)) (Rising n low st) (flat_map bytes) (λ l. l) (λ l. l)
+    rising-recast =
         record {
           to_ok = λ l ok. let r = to-rising low st l ok.1 in record { count = ok.0; rising = r.0; each = r.1 };
           from_ok = λ l ok. (ok.count, from-rising low st l ok.rising ok.each);
@@ -48,19 +48,19 @@ module _ {A S : Type 0} (F : S → Format A) (key : A → ℕ) (next : S → A �
           same = λ l ok. bytes-are (low, st) l;
         }
       where
-        bytes-are : (st : ℕ × S) (l : List A) → itemsRender fromLow rise st l ≡ flat_map bytes l
-        bytes-are st l = items-bytes fromLow rise bytes (λ st a. same st.1 a) st l
+        bytes-are : (st : ℕ × S) (l : List A) → items_render from_low rise st l ≡ flat_map bytes l
+        bytes-are st l = items-bytes from_low rise bytes (λ st a. same st.1 a) st l
 
-    abbrev pub risingItems : Format (List A)
-    risingItems = recast (items fromLow rise n (low, st)) (Rising n low st) (flat_map bytes) (λ l. l) (λ l. l) rising_recast
+    abbrev pub rising_items : Format (List A)
+    rising_items = recast (items from_low rise n (low, st)) (Rising n low st) (flat_map bytes) (λ l. l) (λ l. l) rising-recast
 
 -- ---- each element
 
 module _ {A S : Type 0} (F : Format A) (next : S → A → S) where
-  pub to_all : (st : S) (l : List A) → ItemsOk (λ st. F) next st l → All F.Ok l
+  pub to-all : (st : S) (l : List A) → ItemsOk (λ st. F) next st l → All F.Ok l
   unfolding ItemsOk All
-  to_all st [] ok = tt
-  to_all st (a ∷ l) ok = (ok.0, to_all (next st a) l ok.1)
+  to-all st [] ok = tt
+  to-all st (a ∷ l) ok = (ok.0, to-all (next st a) l ok.1)
 
   pub from_all : (st : S) (l : List A) → All F.Ok l → ItemsOk (λ st. F) next st l
   unfolding ItemsOk All

@@ -23,19 +23,19 @@ onward {f = f} {x} {y} {a} k r = sym (bind_assoc x (λ u q. f q) k) ∙ ap (λ z
 -- ---- by the shape of the format
 
 module _ {A B : Type 0} {f : List ℕ → Res A} (g : A → List ℕ → Res B) {x y z : Res (Unit {0})} {a : A} {b : B} where
-  pub run_seq : Run f x y a → Run (g a) y z b → Run (seq_parse f g) x z (a, b)
+  pub run-seq : Run f x y a → Run (g a) y z b → Run (seq_parse f g) x z (a, b)
   unfolding seq_parse
-  run_seq r t = record { run = onward (λ a q. bind (g a q) (λ b q. got (a, b) q)) r ∙ onward (λ b q. got (a, b) q) t }
+  run-seq r t = record { run = onward (λ a q. bind (g a q) (λ b q. got (a, b) q)) r ∙ onward (λ b q. got (a, b) q) t }
 
 module _ {A B : Type 0} (h : A → B) {f : List ℕ → Res A} {x y : Res (Unit {0})} {a : A} where
-  pub run_map : Run f x y a → Run (map_parse h f) x y (h a)
+  pub run-map : Run f x y a → Run (map_parse h f) x y (h a)
   unfolding map_parse
-  run_map r = record { run = onward (λ a q. got (h a) q) r }
+  run-map r = record { run = onward (λ a q. got (h a) q) r }
 
 module _ {A : Type 0} {f : List ℕ → Res A} (t : List ℕ) {x y z : Res (Unit {0})} {a : A} where
-  pub run_pre : Run (strip t) x y tt → Run f y z a → Run (pre_parse t f) x z a
+  pub run-pre : Run (strip t) x y tt → Run f y z a → Run (pre_parse t f) x z a
   unfolding pre_parse
-  run_pre r k = record { run = onward (λ u q. f q) r ∙ k.run }
+  run-pre r k = record { run = onward (λ u q. f q) r ∙ k.run }
 
 -- a tag of two parts
 pub run-tags : (a b : List ℕ) {x y z : Res (Unit {0})} → Run (strip a) x y tt → Run (strip b) y z tt → Run (strip (a ++ b)) x z tt
@@ -46,9 +46,9 @@ run-tags a b {x} r t = record { run = both x ∙ onward (λ u q. strip b q) r �
     both (got u q) = strip-both a b q
 
 module _ {A : Type 0} {f : List ℕ → Res A} (t : A → List ℕ) {x y z : Res (Unit {0})} {a : A} where
-  pub run_post : Run f x y a → Run (strip (t a)) y z tt → Run (post_parse f t) x z a
+  pub run-post : Run f x y a → Run (strip (t a)) y z tt → Run (post_parse f t) x z a
   unfolding post_parse
-  run_post r k = record { run = onward (λ a q. bind (strip (t a) q) (λ u q. got a q)) r ∙ onward (λ u q. got a q) k }
+  run-post r k = record { run = onward (λ a q. bind (strip (t a) q) (λ u q. got a q)) r ∙ onward (λ u q. got a q) k }
 
 module _ {A : Type 0} {f : List ℕ → Res A} (test : A → Bool) {x y : Res (Unit {0})} {a : A} where
   -- a test that holds, and one that doesn't
@@ -56,9 +56,9 @@ module _ {A : Type 0} {f : List ℕ → Res A} (test : A → Bool) {x y : Res (U
   unfolding only_parse
   run_only r e = record { run = onward (λ a q. pick (test a) (got a q)) r ∙ ap (λ (t : Bool). bind y (λ u q. pick t (got a q))) e }
 
-  pub run_fail : Run f x y a → test a ≡ false → Run (only_parse test f) x bad a
+  pub run-fail : Run f x y a → test a ≡ false → Run (only_parse test f) x bad a
   unfolding only_parse
-  run_fail r e = record { run = onward (λ a q. pick (test a) (got a q)) r ∙ ap (λ (t : Bool). bind y (λ u q. pick t (got a q))) e ∙ none y }
+  run-fail r e = record { run = onward (λ a q. pick (test a) (got a q)) r ∙ ap (λ (t : Bool). bind y (λ u q. pick t (got a q))) e ∙ none y }
     where
       none : (y : Res (Unit {0})) → ◌≡◌ {A = Res A} (bind y (λ u q. bad)) bad
       none bad = refl

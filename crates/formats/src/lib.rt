@@ -4,18 +4,18 @@ ghost use Rattle.std.specs.Prelude.{◌≡◌, [], ◌∷◌, ◌+◌, ◌≤◌
 ghost use Rattle.formats.specs.Combine.{strip};
 ghost use Rattle.formats.specs.Words.{words_parse};
 ghost use Rattle.formats.specs.Exactly.{fixed_digits};
-ghost use Rattle.formats.specs.Numbers.{numberParse};
-ghost use Rattle.formats.specs.Name.{name_byte, span, nameParse};
+ghost use Rattle.formats.specs.Numbers.{number_parse};
+ghost use Rattle.formats.specs.Name.{name_byte, span, name_parse};
 ghost use Rattle.formats.specs.PlaceInner.{Within, Parsed, left};
 
-#[derive(Clone, Copy)]
+#[derive(Drop)]
 pub enum Mark {
     At(usize),
     No,
 }
 
 // A value that was read, and the place behind it.
-#[derive(Clone, Copy)]
+#[derive(Drop)]
 pub struct Val {
     pub value: u64,
     pub next: Mark,
@@ -74,7 +74,7 @@ pub fn fixed(s: &[u8], m: Mark, n: usize) -> Val
 // The number without leading zeros that stands at `at`, and the byte that ends it.
 fn number_at(s: &[u8], at: usize, stop: u8, max: u64) -> Val
     requires { 9 ≤ max }
-    ensures { Parsed (numberParse stop max) s.now (Mark.At at) result.next result.value }
+    ensures { Parsed (number_parse stop max) s.now (Mark.At at) result.next result.value }
 {
     if s.len() <= at {
         return Val {
@@ -130,7 +130,7 @@ fn number_at(s: &[u8], at: usize, stop: u8, max: u64) -> Val
 // A number without leading zeros, at most max, and the byte that ends it.
 pub fn number(s: &[u8], m: Mark, stop: u8, max: u64) -> Val
     requires { 9 ≤ max }
-    ensures { Parsed (numberParse stop max) s.now m result.next result.value }
+    ensures { Parsed (number_parse stop max) s.now m result.next result.value }
 {
     let Mark::At(p) = m else {
         return Val {
@@ -184,7 +184,7 @@ pub fn name_end(s: &[u8], at: usize) -> usize
 // A name of `least` to `most` bytes, and the byte that ends it. The name's bytes end before the last.
 pub fn name(s: &[u8], m: Mark, least: usize, most: usize, stop: u8) -> Mark
     requires { Within s.now m }
-    ensures { Parsed (nameParse name_byte least most stop) s.now m result (span name_byte (left s.now m)) }
+    ensures { Parsed (name_parse name_byte least most stop) s.now m result (span name_byte (left s.now m)) }
 {
     let Mark::At(p) = m else {
         return Mark::No;

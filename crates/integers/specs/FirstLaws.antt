@@ -9,17 +9,17 @@ use Rattle.integers.specs.TestsLaws.{neither}
 use Rattle.integers.specs.First.{first, any_of, any_below}
 
 module _ (test : ℕ → Bool) (n i : ℕ) where
-  pub first_end : n ≤ i → first test i (n - i) ≡ none
+  pub first-end : n ≤ i → first test i (n - i) ≡ none
   unfolding first
-  first_end h = let e : n - i ≡ 0 = omega arith in rw e
+  first-end h = let e : n - i ≡ 0 = omega arith in rw e
 
-  pub first_here : i < n → test i ≡ true → first test i (n - i) ≡ some i
+  pub first-here : i < n → test i ≡ true → first test i (n - i) ≡ some i
   unfolding first
-  first_here h t = let e : n - i ≡ suc (n - (i + 1)) = omega arith in rw (e, t)
+  first-here h t = let e : n - i ≡ suc (n - (i + 1)) = omega arith in rw (e, t)
 
-  pub first_later : i < n → test i ≡ false → first test i (n - i) ≡ first test (i + 1) (n - (i + 1))
+  pub first-later : i < n → test i ≡ false → first test i (n - i) ≡ first test (i + 1) (n - (i + 1))
   unfolding first
-  first_later h t = let e : n - i ≡ suc (n - (i + 1)) = omega arith in let s : i + 1 ≡ suc i = omega arith in rw (e, t, s)
+  first-later h t = let e : n - i ≡ suc (n - (i + 1)) = omega arith in let s : i + 1 ≡ suc i = omega arith in rw (e, t, s)
 
 pub any-more : (test : ℕ → Bool) (i : ℕ) → test i ≡ false → any_below test i ≡ false → any_below test (i + 1) ≡ false
 unfolding any_below

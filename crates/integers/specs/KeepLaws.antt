@@ -18,10 +18,10 @@ use Rattle.integers.specs.Keep.{keep, is_some}
 use Rattle.integers.specs.RisesLaws.{rises-earlier}
 
 module _ {A : Type 0} (test : A → Bool) where
-  pub keep_length : (l : List A) → length (keep test l) ≤ length l
+  pub keep-length : (l : List A) → length (keep test l) ≤ length l
   unfolding keep
-  keep_length [] = omega arith
-  keep_length (a ∷ l) = go (test a) (keep_length l)
+  keep-length [] = omega arith
+  keep-length (a ∷ l) = go (test a) (keep-length l)
     where
       go : (t : Bool) → length (keep test l) ≤ length l → length (cond t (a ∷ keep test l) (keep test l)) ≤ suc (length l)
       go true h = omega arith
@@ -37,19 +37,19 @@ module _ {A : Type 0} (test : A → Bool) where
       go false e = e
 
   -- what fails the test adds nothing
-  pub keep_sum : {M : Type 0} (S : Adding M) (f : A → M) → ((a : A) → test a ≡ false → f a ≡ S.none) → (l : List A) → sum_by S f (keep test l) ≡ sum_by S f l
+  pub keep-sum : {M : Type 0} (S : Adding M) (f : A → M) → ((a : A) → test a ≡ false → f a ≡ S.none) → (l : List A) → sum_by S f (keep test l) ≡ sum_by S f l
   unfolding keep sum_by
-  keep_sum S f h [] = refl
-  keep_sum S f h (a ∷ l) = go (test a) refl (keep_sum S f h l)
+  keep-sum S f h [] = refl
+  keep-sum S f h (a ∷ l) = go (test a) refl (keep-sum S f h l)
     where
       go : (t : Bool) → test a ≡ t → sum_by S f (keep test l) ≡ sum_by S f l → sum_by S f (cond t (a ∷ keep test l) (keep test l)) ≡ S.plus (f a) (sum_by S f l)
       go true e i = ap (S.plus (f a)) i
       go false e i = i ∙ sym (S.left (sum_by S f l)) ∙ ap (λ n. S.plus n (sum_by S f l)) (sym (h a e))
 
-  pub mem_keep : (l : List A) (x : A) → Memᴰ x (keep test l) → Memᴰ x l × (test x ≡ true)
+  pub mem-keep : (l : List A) (x : A) → Memᴰ x (keep test l) → Memᴰ x l × (test x ≡ true)
   unfolding keep
-  mem_keep [] x m = absurd (Memᴰ.not-nil m)
-  mem_keep (a ∷ l) x m = go (test a) refl m (mem_keep l x)
+  mem-keep [] x m = absurd (Memᴰ.not-nil m)
+  mem-keep (a ∷ l) x m = go (test a) refl m (mem-keep l x)
     where
       later : Memᴰ x l × (test x ≡ true) → Memᴰ x (a ∷ l) × (test x ≡ true)
       later k = (Memᴰ.tail k.0, k.1)
@@ -58,10 +58,10 @@ module _ {A : Type 0} (test : A → Bool) where
       go true e m i = ⊎_elim (λ q. (Memᴰ.head q, ap test q ∙ e)) (λ k. later (i k)) (Memᴰ.cases_cons m)
       go false e m i = later (i m)
 
-  pub keep_mem : (l : List A) (x : A) → Memᴰ x l → test x ≡ true → Memᴰ x (keep test l)
+  pub keep-mem : (l : List A) (x : A) → Memᴰ x l → test x ≡ true → Memᴰ x (keep test l)
   unfolding keep
-  keep_mem [] x m e = absurd (Memᴰ.not-nil m)
-  keep_mem (a ∷ l) x m e = ⊎_elim (λ q. here q) (λ k. there (test a) (keep_mem l x k e)) (Memᴰ.cases_cons m)
+  keep-mem [] x m e = absurd (Memᴰ.not-nil m)
+  keep-mem (a ∷ l) x m e = ⊎_elim (λ q. here q) (λ k. there (test a) (keep-mem l x k e)) (Memᴰ.cases_cons m)
     where
       here : x ≡ a → Memᴰ x (cond (test a) (a ∷ keep test l) (keep test l))
       here q = rw (sym (ap test q) ∙ e) (Memᴰ.head q)
@@ -71,10 +71,10 @@ module _ {A : Type 0} (test : A → Bool) where
       there false k = k
 
   -- what rises still does
-  pub keep_rises : (key : A → ℕ) (low : ℕ) (l : List A) → rises low (map key l) ≡ true → rises low (map key (keep test l)) ≡ true
+  pub keep-rises : (key : A → ℕ) (low : ℕ) (l : List A) → rises low (map key l) ≡ true → rises low (map key (keep test l)) ≡ true
   unfolding keep rises
-  keep_rises key low [] e = refl
-  keep_rises key low (a ∷ l) e = go (test a) (both (leb low (key a)) (rises (suc (key a)) (map key l)) e) (keep_rises key (suc (key a)) l)
+  keep-rises key low [] e = refl
+  keep-rises key low (a ∷ l) e = go (test a) (both (leb low (key a)) (rises (suc (key a)) (map key l)) e) (keep-rises key (suc (key a)) l)
     where
       go : (t : Bool) → (leb low (key a) ≡ true) × (rises (suc (key a)) (map key l) ≡ true) → (rises (suc (key a)) (map key l) ≡ true → rises (suc (key a)) (map key (keep test l)) ≡ true) → rises low (map key (cond t (a ∷ keep test l) (keep test l))) ≡ true
       go true b i = and_both b.0 (i b.1)

@@ -8,15 +8,15 @@ use Rattle.std.proofs.lemmas.List.{length-replicate, replicate-append-replicate,
 use Rattle.std.proofs.Math.Seq.{append_snoc}
 
 module _ {ℓ κ} {A : Type ℓ} {B : Type κ} where
-  pub flat_map_append : (f : A → List B) (l m : List A) → flat_map f (l ++ m) ≡ flat_map f l ++ flat_map f m
+  pub flat_map-append : (f : A → List B) (l m : List A) → flat_map f (l ++ m) ≡ flat_map f l ++ flat_map f m
   unfolding flat_map
-  flat_map_append f [] m = refl
-  flat_map_append f (a ∷ l) m = ap (λ z. f a ++ z) (flat_map_append f l m) ∙ sym (append_assoc (f a) (flat_map f l) (flat_map f m))
+  flat_map-append f [] m = refl
+  flat_map-append f (a ∷ l) m = ap (λ z. f a ++ z) (flat_map-append f l m) ∙ sym (append_assoc (f a) (flat_map f l) (flat_map f m))
 
-  pub length_flat_map : (n : ℕ) (f : A → List B) → ((a : A) → length (f a) ≡ n) → (l : List A) → length (flat_map f l) ≡ n * length l
+  pub length-flat_map : (n : ℕ) (f : A → List B) → ((a : A) → length (f a) ≡ n) → (l : List A) → length (flat_map f l) ≡ n * length l
   unfolding flat_map
-  length_flat_map n f h [] = omega (arith, mul-zero n)
-  length_flat_map n f h (a ∷ l) = simp (length-append, h, length_flat_map n f h l) (omega (arith, mul-suc n (length l)))
+  length-flat_map n f h [] = omega (arith, mul-zero n)
+  length-flat_map n f h (a ∷ l) = simp (length-append, h, length-flat_map n f h l) (omega (arith, mul-suc n (length l)))
 
 -- the place behind those that are stored is the next one
 pub next-cell : {A : Type 0} (stored l : List A) (i : ℕ) (x : A) → length stored ≡ i → i < length l → set (stored ++ drop i l) i x ≡ stored ++ (x ∷ []) ++ drop (i + 1) l

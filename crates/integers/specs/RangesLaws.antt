@@ -24,14 +24,14 @@ range-next a zero = ap (λ m. m ∷ []) (omega arith)
 range-next a (suc n) = ap (λ l. a ∷ l) (range-next (suc a) n ∙ ap (λ m. range (suc a) n ++ (m ∷ [])) (omega arith))
 
 module _ {ℓ} {A : Type ℓ} where
-  pub map_range_next : (f : ℕ → A) (a n : ℕ) → map f (range a (suc n)) ≡ map f (range a n) ++ (f (a + n) ∷ [])
-  map_range_next f a n = ap (map f) (range-next a n) ∙ map-append f (range a n) ((a + n) ∷ [])
+  pub map-range-next : (f : ℕ → A) (a n : ℕ) → map f (range a (suc n)) ≡ map f (range a n) ++ (f (a + n) ∷ [])
+  map-range-next f a n = ap (map f) (range-next a n) ∙ map-append f (range a n) ((a + n) ∷ [])
 
   -- functions that agree on the numbers
-  pub map_range_cong : (f g : ℕ → A) (a n : ℕ) → ((i : ℕ) → a ≤ i → i < a + n → f i ≡ g i) → map f (range a n) ≡ map g (range a n)
+  pub map-range-cong : (f g : ℕ → A) (a n : ℕ) → ((i : ℕ) → a ≤ i → i < a + n → f i ≡ g i) → map f (range a n) ≡ map g (range a n)
   unfolding range
-  map_range_cong f g a zero h = refl
-  map_range_cong f g a (suc n) h = ap₂ ◌∷◌ (h a (omega arith) (omega arith)) (map_range_cong f g (suc a) n (λ i p q. h i (omega arith) (omega arith)))
+  map-range-cong f g a zero h = refl
+  map-range-cong f g a (suc n) h = ap₂ ◌∷◌ (h a (omega arith) (omega arith)) (map-range-cong f g (suc a) n (λ i p q. h i (omega arith) (omega arith)))
 
 pub range_split : (a m n : ℕ) → range a (m + n) ≡ range a m ++ range (a + m) n
 unfolding range

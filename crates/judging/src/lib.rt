@@ -4,7 +4,7 @@ pub mod judge;
 mod tables;
 
 // What judging a book finds, in the order in which it is tried.
-#[derive(Clone, Copy)]
+#[derive(Drop)]
 pub enum Judged {
     Passed,
     Header,

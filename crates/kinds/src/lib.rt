@@ -3,7 +3,7 @@ ghost use Rattle.std.specs.Prelude.{◌≡◌};
 ghost use Rattle.kinds.specs.Numbers.{kind_numbered, kind_number};
 ghost use Rattle.kinds.specs.NumbersInner.{kind_in};
 
-#[derive(Clone, Copy)]
+#[derive(Drop)]
 pub enum Kind {
     Toe01,
     Toe02,
@@ -11,7 +11,7 @@ pub enum Kind {
 }
 
 // The kind that a number names, if there is one.
-#[derive(Clone, Copy)]
+#[derive(Drop)]
 pub enum Numbered {
     Of(Kind),
     Unknown,

@@ -26,20 +26,20 @@ use Rattle.message.specs.Calls.{id_place, moment_place, facts_of, read_refusal, 
 
 module _ (file : List ℕ) (lent : ℕ) where
   -- 13
-  pub says_no_file : read_message file ≡ bad → Refused 13 0 ≡ read_answer file lent
+  pub says-no-file : read_message file ≡ bad → Refused 13 0 ≡ read_answer file lent
   unfolding read_answer read_refusal read_says
-  says_no_file e = rw e
+  says-no-file e = rw e
 
   module _ (m : Message) (rest : List ℕ) (e : read_message file ≡ got m rest) where
     -- 10
-    pub says_short : lent < 6 * length m.rows → Refused 10 0 ≡ read_answer file lent
+    pub says-short : lent < 6 * length m.rows → Refused 10 0 ≡ read_answer file lent
     unfolding read_answer read_refusal read_says
-    says_short h = rw (e, lt-leb (6 * length m.rows) lent h)
+    says-short h = rw (e, lt-leb (6 * length m.rows) lent h)
 
     -- what the file says
-    pub says_file : 6 * length m.rows ≤ lent → File (facts_of m) ≡ read_answer file lent
+    pub says-file : 6 * length m.rows ≤ lent → File (facts_of m) ≡ read_answer file lent
     unfolding read_answer read_refusal read_says message_in
-    says_file h = rw (e, le-leb (6 * length m.rows) lent h)
+    says-file h = rw (e, le-leb (6 * length m.rows) lent h)
 
 module _ (file before : List ℕ) where
   -- a refusal leaves the rows
@@ -48,13 +48,13 @@ module _ (file before : List ℕ) where
   kept-rows number item none facts new e = let z : ◌≡◌ {A = ℕ} 0 1 = cc in absurd (omega arith)
   kept-rows number item (some r) facts new e = refl
 
-  pub called_refused : (number item : ℕ) → Refused number item ≡ read_answer file (length before) → ReadCalled file before before (Refused number item)
+  pub called-refused : (number item : ℕ) → Refused number item ≡ read_answer file (length before) → ReadCalled file before before (Refused number item)
   unfolding read_answer
-  called_refused number item e = record { answer = e; rows = kept-rows number item (read_refusal (read_message file) (length before)) _ _ e }
+  called-refused number item e = record { answer = e; rows = kept-rows number item (read_refusal (read_message file) (length before)) _ _ e }
 
-  pub called_file : (m : Message) (rest : List ℕ) → read_message file ≡ got m rest → 6 * length m.rows ≤ length before → ReadCalled file before (over (numbers m.rows) before) (File (facts_of m))
+  pub called-file : (m : Message) (rest : List ℕ) → read_message file ≡ got m rest → 6 * length m.rows ≤ length before → ReadCalled file before (over (numbers m.rows) before) (File (facts_of m))
   unfolding read_refusal message_in afterwards
-  called_file m rest e h = record { answer = says_file file (length before) m rest e h; rows = rw (e, le-leb (6 * length m.rows) (length before) h) }
+  called-file m rest e h = record { answer = says-file file (length before) m rest e h; rows = rw (e, le-leb (6 * length m.rows) (length before) h) }
 
 -- ---- from the record to what was read
 
@@ -80,9 +80,9 @@ module _ (file before after : List ℕ) (facts : FileFacts) where
   accepted-reading bad e a w = let z : ◌≡◌ {A = ℕ} 0 1 = cc in absurd (omega arith)
   accepted-reading (got m rest) e a w = accepted-message m rest e (leb (6 * length m.rows) (length before)) refl a w
 
-  pub accepted_is : ReadCalled file before after (File facts) → ReadAccepted file before after facts
+  pub accepted-is : ReadCalled file before after (File facts) → ReadAccepted file before after facts
   unfolding read_answer
-  accepted_is c = accepted-reading (read_message file) refl c.answer c.rows
+  accepted-is c = accepted-reading (read_message file) refl c.answer c.rows
 
 -- 13 is answered of no file only
 module _ (file before after : List ℕ) where
@@ -96,9 +96,9 @@ module _ (file before after : List ℕ) where
   refused-reading bad e = refl
   refused-reading (got m rest) e = absurd (refused-message _ (leb (6 * length m.rows) (length before)) e)
 
-  pub refused_is : ReadCalled file before after (Refused 13 0) → read_message file ≡ bad
+  pub refused-is : ReadCalled file before after (Refused 13 0) → read_message file ≡ bad
   unfolding read_answer
-  refused_is c = refused-reading (read_message file) c.answer
+  refused-is c = refused-reading (read_message file) c.answer
 
 -- ---- buffers
 
@@ -123,9 +123,9 @@ moment-join : (r t o x c v n l e : List ℕ) → r ++ (t ++ (o ++ x ++ c) ++ v +
 moment-join r t o x c v n l e = simp append_assoc
 
 module _ (m : Message) where
-  pub id_stands : take (length m.id) (drop (id_place m.kind) (message_bytes m)) ≡ m.id
+  pub id-stands : take (length m.id) (drop (id_place m.kind) (message_bytes m)) ≡ m.id
   unfolding id_place file_bytes contents
-  id_stands =
+  id-stands =
       let k = m.kind in
       let l = partners_of (m.year, m.month) m.rows in
       ap (λ (s : List ℕ). take (length m.id) (drop (length (opening (root k) ++ opening "TransactionID")) s))
@@ -133,9 +133,9 @@ module _ (m : Message) where
       (element (counter k) (plain (length l))) (flat_map (partner_bytes k) l) (closing (root k)))
       ∙ part_at (opening (root k) ++ opening "TransactionID") m.id _
 
-  pub moment_stands : take (length m.moment) (drop (moment_place m.kind m.id) (message_bytes m)) ≡ m.moment
+  pub moment-stands : take (length m.moment) (drop (moment_place m.kind m.id) (message_bytes m)) ≡ m.moment
   unfolding moment_place file_bytes contents
-  moment_stands =
+  moment-stands =
       let k = m.kind in
       let l = partners_of (m.year, m.month) m.rows in
       ap (λ (s : List ℕ). take (length m.moment) (drop (length (opening (root k) ++ element "TransactionID" m.id ++ opening "MessageCreateDateTime")) s))

@@ -4,7 +4,7 @@ use Rattle.std.proofs.Common.{ap, ap₂, arith, le-leb, lt-ltb}
 use mathlib.Core.List.{List, [], ◌∷◌, ◌++◌, flat_map}
 use Rattle.text.specs.Ascii.{bytes}
 use Rattle.text.specs.Decimal.{above, fixed, plain, count, value_from, fixed_at}
-use Rattle.text.specs.Decimal.{digits as isDigits}
+use Rattle.text.specs.Decimal.{digits as is_digits}
 use Rattle.text.specs.Tag.{begins}
 use Rattle.integers.specs.Running.{up_to}
 use Rattle.integers.specs.Rises.{rises}
@@ -106,7 +106,7 @@ volume =
     }
 
 moment : is_moment (bytes "2021-08-02T09:00:00.000+02:00") ≡ true
-unfolding moment_of parts value_at fixed_at isDigits value_from real real_date real_time month_length leap moment_bytes date_bytes time_bytes tail_bytes fixed above bytes begins
+unfolding moment_of parts value_at fixed_at is_digits value_from real real_date real_time month_length leap moment_bytes date_bytes time_bytes tail_bytes fixed above bytes begins
 moment = refl
 
 pub valid : IsFile case_f

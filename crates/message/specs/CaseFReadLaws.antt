@@ -18,7 +18,7 @@ use Rattle.message.specs.FileLaws.{written-is-read}
 use Rattle.message.specs.CaseFLaws.{observations, series, case_f, text, renders, valid}
 use Rattle.refusals.specs.Buffers.{over}
 use Rattle.message.specs.Calls.{id_place, moment_place, facts_of, ReadCalled}
-use Rattle.message.specs.CallsLaws.{called_file}
+use Rattle.message.specs.CallsLaws.{called-file}
 
 abbrev pub facts : FileFacts
 facts = record { kind = Toe01; receiver = 7; year = 2021; month = 6; rows = 2; id = 43; id_length = 3; moment = 85 }
@@ -51,4 +51,4 @@ count = refl
 
 -- twelve numbers are enough
 pub case-F-read : (lent : List ℕ) → 12 ≤ length lent → ReadCalled text lent (over row_numbers_f lent) (File facts)
-case-F-read lent h = rw (← says, ← filled) (called_file text lent (message case_f) [] reads (omega (arith, count)))
+case-F-read lent h = rw (← says, ← filled) (called-file text lent (message case_f) [] reads (omega (arith, count)))

@@ -14,7 +14,7 @@ use Rattle.message.specs.MessageForm.{message-recast}
 use Rattle.message.specs.Messages.{message_bytes, read_message}
 use Rattle.message.specs.FileLaws.{written-is-read, read-is-written, refused-is-none}
 use Rattle.message.specs.Calls.{ReadCalled}
-use Rattle.message.specs.CallsLaws.{says_no_file, says_file, refused_is}
+use Rattle.message.specs.CallsLaws.{says-no-file, says-file, refused-is}
 use Rattle.message.specs.Exact.{OfValidFile, ReaderExact}
 
 -- a valid file, by its rows
@@ -34,7 +34,7 @@ read_of : (bytes before after : List ℕ) (r : ReadAnswer) → ReadCalled bytes 
 read_of bytes before after r c other = go (read_message bytes) refl
   where
     go : (x : Res Message) → read_message bytes ≡ x → OfValidFile bytes
-    go bad e = absurd (other (c.answer ∙ sym (says_no_file bytes (length before) e)))
+    go bad e = absurd (other (c.answer ∙ sym (says-no-file bytes (length before) e)))
     go (got m rest) e = let w = read-is-written bytes m rest e in record { file = contents m; valid = w.1.file; is = w.0 }
 
 pub reader-exact : ReaderExact
@@ -42,7 +42,7 @@ unfolding message
 reader-exact =
     record {
       valid_not_refused = λ f ok before after r c e.
-          refused-is-none (file_bytes f) (refused_is (file_bytes f) before after (subst (ReadCalled (file_bytes f) before after) e c)) (message f) (by_rows f ok) (sym (same_bytes f ok));
-      valid_accepted = λ f ok before after r c h. c.answer ∙ sym (says_file (file_bytes f) (length before) (message f) [] (is_read f ok) h);
+          refused-is-none (file_bytes f) (refused-is (file_bytes f) before after (subst (ReadCalled (file_bytes f) before after) e c)) (message f) (by_rows f ok) (sym (same_bytes f ok));
+      valid_accepted = λ f ok before after r c h. c.answer ∙ sym (says-file (file_bytes f) (length before) (message f) [] (is_read f ok) h);
       only_valid = read_of;
     }

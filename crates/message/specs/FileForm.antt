@@ -9,10 +9,10 @@ use Rattle.text.specs.Decimal.{fixed, plain}
 use Rattle.text.specs.DecimalLaws.{true-false}
 use Rattle.formats.specs.Format.{Format, bad}
 use Rattle.formats.specs.Words.{Apart, word_at, words}
-use Rattle.formats.specs.Combine.{strip, pre, post, seq, seqBy, Recast, recast}
+use Rattle.formats.specs.Combine.{strip, pre, post, seq, seq_by, Recast, recast}
 use Rattle.formats.specs.Exactly.{exactly, fixed_digits}
 use Rattle.formats.specs.Name.{name_byte, each, Name, name}
-use Rattle.formats.specs.Rising.{risingItems}
+use Rattle.formats.specs.Rising.{rising_items}
 use Rattle.moments.specs.declared.MomentRead.{MomentRead}
 use Rattle.moments.specs.declared.MomentRead.TheVariants.{Real, Malformed}
 use Rattle.moments.specs.Moments.{moment_of}
@@ -91,7 +91,7 @@ kind_form = recast (words roots apart-roots) (λ k. Unit {0}) (λ k. opening (ro
 -- ---- the partners
 
 unfoldable pub partners_form : Kind → ℕ → Format (List Partner)
-partners_form k n = risingItems (partner_form k) number next_months (partner_bytes k) (λ seen p. partner-bytes k seen p) n 0 (0, 0)
+partners_form k n = rising_items (partner_form k) number next_months (partner_bytes k) (λ seen p. partner-bytes k seen p) n 0 (0, 0)
 
 -- ---- the file
 
@@ -133,11 +133,11 @@ moment-length s e = go (moment_of s) refl e
 
 unfoldable pub file_body : Format Parts
 file_body =
-    seqBy kind_form (λ k. pre (opening "TransactionID")
+    seq_by kind_form (λ k. pre (opening "TransactionID")
     (seq (post (name name_byte 1 36 60 refl) (ending "TransactionID" ++ opening "MessageCreateDateTime"))
     (seq (post (exactly 29 is_moment) (closing "MessageCreateDateTime" ++ opening "ReceiverID"))
     (seq (post (fixed_digits 10) (closing "ReceiverID" ++ opening (counter k)))
-    (seqBy (post plain_number (ending (counter k))) (λ n. post (partners_form k n) (closing (root k))))))))
+    (seq_by (post plain_number (ending (counter k))) (λ n. post (partners_form k n) (closing (root k))))))))
 
 file-to : (p : Parts) → file_body.Ok p → IsFile (file_of p)
 unfolding file_body file_of partners_form

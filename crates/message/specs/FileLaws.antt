@@ -1,7 +1,7 @@
 -- The file's laws, by its rows: what is written is read, what is read is written again, and no two contents have one file.
 use Rattle.std.specs.Prelude.{◌≡◌, List, [], ℕ}
 use Rattle.formats.specs.Format.{got, bad}
-use Rattle.formats.specs.FormatLaws.{there_and_back, back_and_there, refused, one_contents}
+use Rattle.formats.specs.FormatLaws.{there_and_back, back-and-there, refused, one-contents}
 use Rattle.message.specs.Rows.{Message, IsMessage}
 use Rattle.message.specs.MessageForm.{message_form}
 use Rattle.message.specs.Messages.{message_bytes, read_message}
@@ -12,7 +12,7 @@ written-is-read m ok = there_and_back message_form m ok
 
 pub read-is-written : (s : List ℕ) (m : Message) (r : List ℕ) → read_message s ≡ got m r → (s ≡ message_bytes m) × IsMessage m
 unfolding message_form
-read-is-written s m r e = back_and_there message_form s m r e
+read-is-written s m r e = back-and-there message_form s m r e
 
 pub refused-is-none : (s : List ℕ) → read_message s ≡ bad → (m : Message) → IsMessage m → s ≡ message_bytes m → ⊥
 unfolding message_form
@@ -20,4 +20,4 @@ refused-is-none s e m ok f = refused message_form s e m ok f
 
 pub one-message : (m n : Message) → IsMessage m → IsMessage n → message_bytes m ≡ message_bytes n → m ≡ n
 unfolding message_form
-one-message m n p q e = one_contents message_form m n p q e
+one-message m n p q e = one-contents message_form m n p q e

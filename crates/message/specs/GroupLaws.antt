@@ -21,10 +21,10 @@ module _ {K A : Type 0} (E : Keys K) where
       go false e = refl
       go true e = ap (λ (j : K). (k, a) ∷ (map (λ x. (j, x)) g.1 ++ spread gs)) (E.alike k g.0 e)
 
-  pub spread_group : (l : List (K × A)) → spread (group E l) ≡ l
+  pub spread-group : (l : List (K × A)) → spread (group E l) ≡ l
   unfolding group spread flat_map
-  spread_group [] = refl
-  spread_group (x ∷ l) = spread-push x.0 x.1 (group E l) ∙ ap (λ (r : List (K × A)). x ∷ r) (spread_group l)
+  spread-group [] = refl
+  spread-group (x ∷ l) = spread-push x.0 x.1 (group E l) ∙ ap (λ (r : List (K × A)). x ∷ r) (spread-group l)
 
   -- groups that aren't empty, each of another key than the next
   unfoldable pub Apart : K → List (K × List A) → Type 0
@@ -41,10 +41,10 @@ module _ {K A : Type 0} (E : Keys K) where
   group-rows k a [] r (g ∷ gs) e h = ap (push E k a) e ∙ rw h
   group-rows k a (b ∷ l) r gs e h = ap (push E k a) (group-rows k b l r gs e h) ∙ rw (E.itself k)
 
-  pub group_spread : (gs : List (K × List A)) → Groups gs → group E (spread gs) ≡ gs
+  pub group-spread : (gs : List (K × List A)) → Groups gs → group E (spread gs) ≡ gs
   unfolding group spread flat_map Groups
-  group_spread [] h = refl
-  group_spread (g ∷ gs) h = go g.1 refl (group_spread gs h.2)
+  group-spread [] h = refl
+  group-spread (g ∷ gs) h = go g.1 refl (group-spread gs h.2)
     where
       go : (l : List A) → g.1 ≡ l → group E (spread gs) ≡ gs → group E (map (λ a. (g.0, a)) g.1 ++ spread gs) ≡ g ∷ gs
       go [] e rec = absurd (omega (arith, ap length e, h.0))
@@ -81,14 +81,14 @@ module _ {B K A : Type 0} (E : Keys K) (f : B → K × List A) (number : B → �
       go false e = refl
       go true e = absurd (omega (arith, one a b e))
 
-  pub rising_groups : (low : ℕ) (l : List B) → rises low (map number l) ≡ true → All (λ b. 1 ≤ length (f b).1) l → Groups E (map f l)
+  pub rising-groups : (low : ℕ) (l : List B) → rises low (map number l) ≡ true → All (λ b. 1 ≤ length (f b).1) l → Groups E (map f l)
   unfolding Groups Apart rises All
-  rising_groups low [] r a = tt
-  rising_groups low (b ∷ []) r a = (a.0, tt, tt)
-  rising_groups low (b ∷ c ∷ l) r a =
+  rising-groups low [] r a = tt
+  rising-groups low (b ∷ []) r a = (a.0, tt, tt)
+  rising-groups low (b ∷ c ∷ l) r a =
       let q = and_right (leb low (number b)) (leb (suc (number b)) (number c) && rises (suc (number c)) (map number l)) r in
       let h = leb-true (suc (number b)) (number c) (and_left (leb (suc (number b)) (number c)) (rises (suc (number c)) (map number l)) q) in
-      (a.0, different b c h, rising_groups (suc (number b)) (c ∷ l) q a.1)
+      (a.0, different b c h, rising-groups (suc (number b)) (c ∷ l) q a.1)
 
 module _ {K A : Type 0} (E : Keys K) where
   -- rows that don't begin with a key

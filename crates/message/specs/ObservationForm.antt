@@ -9,10 +9,10 @@ use Rattle.integers.specs.All.{All}
 use Rattle.text.specs.Ascii.{bytes}
 use Rattle.text.specs.Decimal.{fixed}
 use Rattle.formats.specs.Format.{Format}
-use Rattle.formats.specs.Combine.{pre, post, postBy, seq, only, Recast, recast}
+use Rattle.formats.specs.Combine.{pre, post, post_by, seq, only, Recast, recast}
 use Rattle.formats.specs.Exactly.{fixed_digits}
 use Rattle.formats.specs.Numbers.{number}
-use Rattle.formats.specs.Rising.{risingItems, to_all, from_all}
+use Rattle.formats.specs.Rising.{rising_items, to-all, from_all}
 use Rattle.moments.specs.Moments.{moment_bytes, date_bytes, time_bytes, tail_bytes, period_start, period_end}
 use Rattle.message.specs.Contents.{Observation, position}
 use Rattle.message.specs.Bytes.{opening, ending, closing, element, quantity_bytes, observation_bytes, period_bytes}
@@ -62,10 +62,10 @@ abbrev pub observed : ℕ × ℕ → Observation
 observed p = record { position = p.0; watts = p.1 }
 
 module _ (last : ℕ) (fits : last ≤ most) where
-  pub observation_recast : Recast (only (observable last) observation_body) (IsObservation last) observation_bytes
+  pub observation-recast : Recast (only (observable last) observation_body) (IsObservation last) observation_bytes
       observed (λ o. (o.position, o.watts))
   unfolding observation_body quantity observation_bytes closing
-  observation_recast =
+  observation-recast =
       record {
         to_ok = λ p ok.
             record {
@@ -81,23 +81,23 @@ module _ (last : ℕ) (fits : last ≤ most) where
 
   unfoldable pub observation : Format Observation
   observation =
-      recast (only (observable last) observation_body) (IsObservation last) observation_bytes observed (λ o. (o.position, o.watts)) observation_recast
+      recast (only (observable last) observation_body) (IsObservation last) observation_bytes observed (λ o. (o.position, o.watts)) observation-recast
 
-  pub observation_bytes : (u : Unit {0}) (o : Observation) → observation.render o ≡ observation_bytes o
+  pub observation-bytes : (u : Unit {0}) (o : Observation) → observation.render o ≡ observation_bytes o
   unfolding observation
-  observation_bytes u o = refl
+  observation-bytes u o = refl
 
   -- n of them, from position 1 on
   unfoldable pub observations : ℕ → Format (List Observation)
-  observations n = risingItems (λ u. observation) position (λ u o. u) observation_bytes observation_bytes n 1 tt
+  observations n = rising_items (λ u. observation) position (λ u o. u) observation_bytes observation-bytes n 1 tt
 
-  pub observations_ok : (n : ℕ) (l : List Observation) → (observations n).Ok l → (length l ≡ n) × (rises 1 (map position l) ≡ true) × All (IsObservation last) l
+  pub observations-ok : (n : ℕ) (l : List Observation) → (observations n).Ok l → (length l ≡ n) × (rises 1 (map position l) ≡ true) × All (IsObservation last) l
   unfolding observations observation
-  observations_ok n l ok = (ok.count, ok.rising, to_all observation (λ u o. u) tt l ok.each)
+  observations-ok n l ok = (ok.count, ok.rising, to-all observation (λ u o. u) tt l ok.each)
 
-  pub ok_observations : (n : ℕ) (l : List Observation) → length l ≡ n → rises 1 (map position l) ≡ true → All (IsObservation last) l → (observations n).Ok l
+  pub ok-observations : (n : ℕ) (l : List Observation) → length l ≡ n → rises 1 (map position l) ≡ true → All (IsObservation last) l → (observations n).Ok l
   unfolding observations observation
-  ok_observations n l e r a = record { count = e; rising = r; each = from_all observation (λ u o. u) tt l a }
+  ok-observations n l e r a = record { count = e; rising = r; each = from_all observation (λ u o. u) tt l a }
 
 -- ---- the period
 
@@ -140,7 +140,7 @@ month-split year month = refl
 join : (o x t c e r m : List ℕ) → m ≡ x ++ t → o ++ x ++ (t ++ c ++ e ++ r) ≡ (o ++ m ++ c) ++ e ++ r
 join o x t c e r m h = rw h (simp append_assoc)
 
-pub period-recast : Recast (postBy month_body behind_month) (λ q. IsPeriod q.0 q.1) (λ q. period_bytes q.0 q.1) (λ q. q) (λ q. q)
+pub period-recast : Recast (post_by month_body behind_month) (λ q. IsPeriod q.0 q.1) (λ q. period_bytes q.0 q.1) (λ q. q) (λ q. q)
 unfolding month_body behind_month period_bytes
 period-recast =
     record {
@@ -154,4 +154,4 @@ period-recast =
     }
 
 unfoldable pub period : Format (ℕ × ℕ)
-period = recast (postBy month_body behind_month) (λ q. IsPeriod q.0 q.1) (λ q. period_bytes q.0 q.1) (λ q. q) (λ q. q) period-recast
+period = recast (post_by month_body behind_month) (λ q. IsPeriod q.0 q.1) (λ q. period_bytes q.0 q.1) (λ q. q) (λ q. q) period-recast

@@ -13,7 +13,7 @@ use Rattle.message.specs.Keys.{number_keys, directions_keys}
 use Rattle.message.specs.Group.{group, spread}
 use Rattle.message.specs.Rows.{Row, series_rows, partner_rows, rows_of, series_of, partner_of, partners_of}
 use Rattle.integers.specs.AllLaws.{all_map, all_of, all_left, all_right, map-all}
-use Rattle.message.specs.GroupLaws.{spread_group, group_spread, rising_groups, first_group}
+use Rattle.message.specs.GroupLaws.{spread-group, group-spread, rising-groups, first_group}
 
 map-undo : {A B : Type 0} (f : A → B) (g : B → A) (l : List A) → All (λ a. g (f a) ≡ a) l → map g (map f l) ≡ l
 unfolding All
@@ -25,12 +25,12 @@ map-undo f g (a ∷ l) h = ap₂ ◌∷◌ h.0 (map-undo f g l h.1)
 partner-undo : (q : ℕ × ℕ) (g : ℕ × List ((ℕ × ℕ) × Observation)) → partner_rows (partner_of q g) ≡ g
 partner-undo q g =
     ap (λ (l : List ((ℕ × ℕ) × Observation)). (g.0, l))
-    (ap spread (map-undo (series_of q) series_rows (group directions_keys g.1) (all_of _ (λ h. refl) (group directions_keys g.1))) ∙ spread_group directions_keys g.1)
+    (ap spread (map-undo (series_of q) series_rows (group directions_keys g.1) (all_of _ (λ h. refl) (group directions_keys g.1))) ∙ spread-group directions_keys g.1)
 
 pub rows-undo : (q : ℕ × ℕ) (rows : List Row) → rows_of (partners_of q rows) ≡ rows
 unfolding rows_of partners_of
 rows-undo q rows =
-    ap spread (map-undo (partner_of q) partner_rows (group number_keys rows) (all_of _ (partner-undo q) (group number_keys rows))) ∙ spread_group number_keys rows
+    ap spread (map-undo (partner_of q) partner_rows (group number_keys rows) (all_of _ (partner-undo q) (group number_keys rows))) ∙ spread-group number_keys rows
 
 -- ---- partners of one month, their rows, and the partners again
 
@@ -43,7 +43,7 @@ one_place a b e =
 series-undo : (q : ℕ × ℕ) (l : List TimeSeries) → rises 0 (map place l) ≡ true → All IsSeries l → All (λ (s : TimeSeries). month_of s ≡ q) l
     → map (series_of q) (group directions_keys (spread (map series_rows l))) ≡ l
 series-undo q l r v m =
-    ap (map (series_of q)) (group_spread directions_keys (map series_rows l) (rising_groups directions_keys series_rows place one_place 0 l r (all_map (λ s h. h.volume.counted.some) l v)))
+    ap (map (series_of q)) (group-spread directions_keys (map series_rows l) (rising-groups directions_keys series_rows place one_place 0 l r (all_map (λ s h. h.volume.counted.some) l v)))
     ∙ map-undo series_rows (series_of q) l (all_map (λ s e. ap (λ (p : ℕ × ℕ). series_of p (series_rows s)) (sym e)) l m)
 
 -- a partner has rows
@@ -68,8 +68,8 @@ pub partners-undo : (k : Kind) (q : ℕ × ℕ) (ps : List Partner) → rises 0 
 unfolding rows_of partners_of
 partners-undo k q ps r v m =
     ap (map (partner_of q))
-    (group_spread number_keys (map partner_rows ps)
-    (rising_groups number_keys partner_rows number (λ a b e. eqb-true a.number b.number e) 0 ps r (all_map (λ p h. some-rows p.series h.counted.some h.each) ps v)))
+    (group-spread number_keys (map partner_rows ps)
+    (rising-groups number_keys partner_rows number (λ a b e. eqb-true a.number b.number e) 0 ps r (all_map (λ p h. some-rows p.series h.counted.some h.each) ps v)))
     ∙ map-undo partner_rows (partner_of q) ps (partner-again k q ps v m)
 
 -- ---- the month

@@ -8,14 +8,14 @@ use Rattle.text.specs.Decimal.{plain}
 use Rattle.text.specs.Tag.{begins}
 use Rattle.formats.specs.Format.{Format}
 use Rattle.formats.specs.Words.{Apart, apart-two, word_at, words}
-use Rattle.formats.specs.Combine.{strip, pre, post, seq, seqBy, only, Recast, recast}
+use Rattle.formats.specs.Combine.{strip, pre, post, seq, seq_by, only, Recast, recast}
 use Rattle.kinds.specs.declared.Kind.{Kind}
 use Rattle.kinds.specs.declared.Kind.TheVariants.{Toe03}
 use Rattle.message.specs.Contents.{Observation, TimeSeries}
 use Rattle.message.specs.Bytes.{opening, ending, closing, element, observation_bytes, period_bytes, supplies, deliveries, supply_bytes, volume_bytes, series_bytes, in_series}
 use Rattle.message.specs.PositionsLaws.{position-small}
 use Rattle.message.specs.Valid.{most, IsVolume, IsSeries, IsCounter, last_position}
-use Rattle.message.specs.ObservationForm.{plain_number, observations, observations_ok, ok_observations, period}
+use Rattle.message.specs.ObservationForm.{plain_number, observations, observations-ok, ok-observations, period}
 
 -- ---- a time series
 
@@ -42,8 +42,8 @@ unfoldable pub volume_body : Format Volume
 volume_body =
     pre (opening "DeliveryDirection")
     (seq (post (words deliveries apart-deliveries) (closing "DeliveryDirection" ++ element "UnitType" (bytes "KWT") ++ opening "ObservationCounter"))
-    (seqBy (post counted (ending "ObservationCounter" ++ opening "TimeSeriesPeriod"))
-    (λ n. seqBy period (λ q. post (observations (last_position q.0 q.1) (position-fits q.0 q.1) n) (closing "TimeSeriesPeriod")))))
+    (seq_by (post counted (ending "ObservationCounter" ++ opening "TimeSeriesPeriod"))
+    (λ n. seq_by period (λ q. post (observations (last_position q.0 q.1) (position-fits q.0 q.1) n) (closing "TimeSeriesPeriod")))))
 
 -- a series of any supply direction
 unfoldable pub of_volume : ℕ → Volume → TimeSeries
@@ -62,7 +62,7 @@ counted-from n c = (c.fits, lt-ltb 0 n c.some)
 pub volume-to : (supply : ℕ) (v : Volume) → volume_body.Ok v → IsVolume (of_volume supply v)
 unfolding volume_body of_volume period deliveries
 volume-to supply v ok =
-    let o = observations_ok (last_position v.1.1.0.0 v.1.1.0.1) (position-fits v.1.1.0.0 v.1.1.0.1) v.1.0 v.1.1.1 ok.1.1.1 in
+    let o = observations-ok (last_position v.1.1.0.0 v.1.1.0.1) (position-fits v.1.1.0.0 v.1.1.0.1) v.1.0 v.1.1.1 ok.1.1.1 in
     record {
       delivery = ok.0;
       period = ok.1.1.0;
@@ -74,14 +74,14 @@ volume-to supply v ok =
 pub volume-back : (supply : ℕ) (v : Volume) → volume_body.Ok v → volume_of (of_volume supply v) ≡ v
 unfolding volume_body of_volume volume_of
 volume-back supply v ok =
-    let o = observations_ok (last_position v.1.1.0.0 v.1.1.0.1) (position-fits v.1.1.0.0 v.1.1.0.1) v.1.0 v.1.1.1 ok.1.1.1 in
+    let o = observations-ok (last_position v.1.1.0.0 v.1.1.0.1) (position-fits v.1.1.0.0 v.1.1.0.1) v.1.0 v.1.1.1 ok.1.1.1 in
     ap (λ (n : ℕ). (v.0, (n, v.1.1))) o.0
 
 pub volume-from : (s : TimeSeries) → IsVolume s → volume_body.Ok (volume_of s)
 unfolding volume_body volume_of period deliveries
 volume-from s ok =
     let n = length s.observations in
-    let l = ok_observations (last_position s.year s.month) (position-fits s.year s.month) n s.observations refl ok.rising ok.each in
+    let l = ok-observations (last_position s.year s.month) (position-fits s.year s.month) n s.observations refl ok.rising ok.each in
     (ok.delivery, (counted-from n ok.counted, (ok.period, l)))
 
 volume-join : (a w b u c n e t q o f : List ℕ) → a ++ (w ++ (b ++ u ++ c) ++ (n ++ (60 ∷ []) ++ (e ++ t) ++ (q ++ (o ++ f)))) ≡ (a ++ w ++ b) ++ u ++ (c ++ n ++ (60 ∷ e)) ++ (t ++ (q ++ o) ++ f)
@@ -101,9 +101,9 @@ own_body =
     (seq (post (words supplies apart-supplies) (closing "SupplyDirection")) (post volume_body (closing "ToETimeSeries")))
 
 module _ (k : Kind) (own : (b : List ℕ) → in_series k b ≡ b) where
-  pub own_recast : Recast own_body IsSeries (series_bytes k) (λ p. of_volume p.0 p.1) (λ s. (s.supply, volume_of s))
+  pub own-recast : Recast own_body IsSeries (series_bytes k) (λ p. of_volume p.0 p.1) (λ s. (s.supply, volume_of s))
   unfolding own_body series_bytes supply_bytes supplies of_volume volume_of
-  own_recast =
+  own-recast =
       record {
         to_ok = λ p ok. record { supply = ok.0; volume = volume-to p.0 p.1 ok.1 };
         from_ok = λ s ok. (ok.supply, volume-from s ok.volume);
@@ -112,8 +112,8 @@ module _ (k : Kind) (own : (b : List ℕ) → in_series k b ≡ b) where
         same = λ s ok. rw (own, volume-bytes) (simp append_assoc);
       }
 
-  abbrev pub ownSeries : Format TimeSeries
-  ownSeries = recast own_body IsSeries (series_bytes k) (λ p. of_volume p.0 p.1) (λ s. (s.supply, volume_of s)) own_recast
+  abbrev pub own_series : Format TimeSeries
+  own_series = recast own_body IsSeries (series_bytes k) (λ p. of_volume p.0 p.1) (λ s. (s.supply, volume_of s)) own-recast
 
 -- a series whose supply direction is x
 pub record Supplied (x : ℕ) (s : TimeSeries) : Type 0 where
@@ -124,9 +124,9 @@ unfoldable pub shared_body : Format Volume
 shared_body = pre (opening "ToETimeSeries") (post volume_body (closing "ToETimeSeries"))
 
 module _ (x : ℕ) where
-  pub shared_recast : Recast shared_body (Supplied x) (series_bytes Toe03) (of_volume x) volume_of
+  pub shared-recast : Recast shared_body (Supplied x) (series_bytes Toe03) (of_volume x) volume_of
   unfolding shared_body series_bytes supply_bytes of_volume volume_of
-  shared_recast =
+  shared-recast =
       record {
         to_ok = λ v ok. record { supply = refl; volume = volume-to x v ok };
         from_ok = λ s ok. volume-from s ok.volume;
@@ -135,5 +135,5 @@ module _ (x : ℕ) where
         same = λ s ok. rw volume-bytes (simp append_assoc);
       }
 
-  abbrev pub sharedSeries : Format TimeSeries
-  sharedSeries = recast shared_body (Supplied x) (series_bytes Toe03) (of_volume x) volume_of shared_recast
+  abbrev pub shared_series : Format TimeSeries
+  shared_series = recast shared_body (Supplied x) (series_bytes Toe03) (of_volume x) volume_of shared-recast

@@ -8,7 +8,7 @@ use Rattle.text.specs.Ascii.{bytes}
 use Rattle.formats.specs.Format.{Format}
 use Rattle.formats.specs.Combine.{only, Recast, recast}
 use Rattle.formats.specs.Items.{ItemsOk}
-use Rattle.formats.specs.Rising.{risingItems}
+use Rattle.formats.specs.Rising.{rising_items}
 use Rattle.message.specs.Contents.{TimeSeries, place}
 use Rattle.message.specs.Valid.{month_of}
 
@@ -53,10 +53,10 @@ module _ (F : Format TimeSeries) (bytes : TimeSeries → List ℕ) (same : (s : 
     pub agrees : agree seen (map month_of l) ≡ true
 
   abbrev items_of : ℕ → ℕ × ℕ → Format (List TimeSeries)
-  items_of n seen = risingItems following place (λ seen s. month_of s) bytes (λ st s. same s) n 0 seen
+  items_of n seen = rising_items following place (λ seen s. month_of s) bytes (λ st s. same s) n 0 seen
 
-  pub list_recast : (n : ℕ) (seen : ℕ × ℕ) → Recast (items_of n seen) (SeriesList n seen) (flat_map bytes) (λ l. l) (λ l. l)
-  list_recast n seen =
+  pub list-recast : (n : ℕ) (seen : ℕ × ℕ) → Recast (items_of n seen) (SeriesList n seen) (flat_map bytes) (λ l. l) (λ l. l)
+  list-recast n seen =
       record {
         to_ok = λ l ok. let r = to-agree seen l ok.each in record { count = ok.count; rising = ok.rising; each = r.0; agrees = r.1 };
         from_ok = λ l ok. record { count = ok.count; rising = ok.rising; each = from-agree seen l ok.each ok.agrees };
@@ -65,5 +65,5 @@ module _ (F : Format TimeSeries) (bytes : TimeSeries → List ℕ) (same : (s : 
         same = λ l ok. refl;
       }
 
-  unfoldable pub seriesList : ℕ → ℕ × ℕ → Format (List TimeSeries)
-  seriesList n seen = recast (items_of n seen) (SeriesList n seen) (flat_map bytes) (λ l. l) (λ l. l) (list_recast n seen)
+  unfoldable pub series_list : ℕ → ℕ × ℕ → Format (List TimeSeries)
+  series_list n seen = recast (items_of n seen) (SeriesList n seen) (flat_map bytes) (λ l. l) (λ l. l) (list-recast n seen)

@@ -5,7 +5,7 @@ use Rattle.std.proofs.Common.{sym, ap, ◌∙◌, append_assoc, take-append-drop
 use Rattle.std.proofs.Math.Seq.{take-append-add}
 use Rattle.std.proofs.lemmas.Bool.{lt-leb}
 use Rattle.formats.specs.Format.{Res, got, bad}
-use Rattle.formats.specs.FormatLaws.{got-bad, sound_of}
+use Rattle.formats.specs.FormatLaws.{got-bad, sound-of}
 use Rattle.requests.specs.Line.{Words, line}
 use Rattle.requests.specs.LineLaws.{line-length}
 use Rattle.outputs.specs.Output.{input_most, input_read, refused_line, refusal_for, output}
@@ -20,7 +20,7 @@ module _ (input : List ℕ) (n : ℕ) where
   -- a line that is read in a part is read in the whole
   line-in-whole : (w : Words) (rest : List ℕ) → line.parse (take n input) ≡ got w rest → line.parse input ≡ got w (rest ++ drop n input)
   line-in-whole w rest e =
-      let f = sound_of line (take n input) w rest e in
+      let f = sound-of line (take n input) w rest e in
       let all : input ≡ line.render w ++ (rest ++ drop n input)
       = sym (take-append-drop n input) ∙ ap (λ (l : List ℕ). l ++ drop n input) f.0 ∙ append_assoc (line.render w) rest (drop n input) in
       ap line.parse all ∙ line.complete w (rest ++ drop n input) f.1
@@ -28,7 +28,7 @@ module _ (input : List ℕ) (n : ℕ) where
   -- and a line of the whole is read in a part that is long enough
   line-in-part : (w : Words) (rest : List ℕ) → 81 ≤ n → line.parse input ≡ got w rest → line.parse (take n input) ≡ got w (take (n - length (line.render w)) rest)
   line-in-part w rest h e =
-      let f = sound_of line input w rest e in
+      let f = sound-of line input w rest e in
       let k = length (line.render w) in
       let m : n ≡ k + (n - k) = omega (arith, line-most w f.1) in
       let part : take n input ≡ line.render w ++ take (n - k) rest

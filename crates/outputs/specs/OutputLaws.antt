@@ -33,10 +33,10 @@ digits-few v h = few-digits 20 v (omega arith) (omega arith)
 -- ---- what is printed
 
 module _ (input : List ℕ) where
-  pub printed_refused : (r : Refusal) (rows : List ℤ) (before after : List ℕ) (q : ℕ) → judged (length input) (line.parse input) ≡ some r
+  pub printed-refused : (r : Refusal) (rows : List ℤ) (before after : List ℕ) (q : ℕ) → judged (length input) (line.parse input) ≡ some r
       → Wrote before 0 (refused_line r.number r.item) after q → Printed input rows rows before after q
   unfolding output afterwards
-  printed_refused r rows before after q e w =
+  printed-refused r rows before after q e w =
       record {
         counted = rw e (w.behind ∙ zero-add (length (refused_line r.number r.item)));
         file = rw e (w.list ∙ written_over before (refused_line r.number r.item));
@@ -44,13 +44,13 @@ module _ (input : List ℕ) where
       }
 
   pub no_line : (rows : List ℤ) (before after : List ℕ) (q : ℕ) → NoLine ≡ request_of input → Wrote before 0 (refused_line 12 0) after q → Printed input rows rows before after q
-  no_line rows before after q e w = printed_refused (record { number = 12; item = 0 }) rows before after q (ap (judged (length input)) (found_none input e)) w
+  no_line rows before after q e w = printed-refused (record { number = 12; item = 0 }) rows before after q (ap (judged (length input)) (found_none input e)) w
 
   pub too_long : (a : Asked) (rows : List ℤ) (before after : List ℕ) (q : ℕ) → Line a ≡ request_of input → input_most < length input
       → Wrote before 0 (refused_line 2 0) after q → Printed input rows rows before after q
   unfolding refusal_for
   too_long a rows before after q l h w =
-      printed_refused (record { number = 2; item = 0 }) rows before after q (ap (judged (length input)) (found input a l).parsed ∙ rw (lt-leb (length input) input_most h)) w
+      printed-refused (record { number = 2; item = 0 }) rows before after q (ap (judged (length input)) (found input a l).parsed ∙ rw (lt-leb (length input) input_most h)) w
 
 -- the output lies in the buffer
 pub printed-fits : {input : List ℕ} {rows_before rows_after : List ℤ} {before after : List ℕ} {count : ℕ} → Printed input rows_before rows_after before after count → count ≤ length after
@@ -111,10 +111,10 @@ inside input a l =
 
 module _ (input : List ℕ) (a : Asked) (l : Line a ≡ request_of input) where
   -- they are what the slices hold
-  pub parts_on : (kind receiver : ℕ) (rows_before rows_after : List ℤ) (before after : List ℕ) (r : FileAnswer)
+  pub parts-on : (kind receiver : ℕ) (rows_before rows_after : List ℤ) (before after : List ℕ) (r : FileAnswer)
       → FileCalled (take (length input - a.book) (drop a.book input)) kind receiver (take (a.id + a.id_length - a.id) (drop a.id input)) (take (a.moment + 29 - a.moment) (drop a.moment input)) rows_before rows_after before after r
       → FileCalled (book_part input a) kind receiver (id_part input a) (moment_part input a) rows_before rows_after before after r
-  parts_on kind receiver rows_before rows_after before after r c =
+  parts-on kind receiver rows_before rows_after before after r c =
       let b : take (length input - a.book) (drop a.book input) ≡ book_part input a = take_all (length input - a.book) (drop a.book input) (omega (arith, length-drop a.book input)) in
       let i : a.id + a.id_length - a.id ≡ a.id_length = omega arith in
       let m : a.moment + 29 - a.moment ≡ 29 = omega arith in
@@ -159,8 +159,8 @@ module _ (input : List ℕ) (a : Asked) (l : Line a ≡ request_of input) where
         }
     accepted-by (some r) e n count k = let z : ◌≡◌ {A = ℕ} 0 1 = cc k.answer in absurd (omega arith)
 
-    pub file_accepted : (n count : ℕ) → Called (File n count) → Printed input rows_before rows_after before after count
-    file_accepted n count c = accepted-by (refusal_on input a) refl n count (left (File n count) c)
+    pub file-accepted : (n count : ℕ) → Called (File n count) → Printed input rows_before rows_after before after count
+    file-accepted n count c = accepted-by (refusal_on input a) refl n count (left (File n count) c)
 
     refused-by : (x : Option Refusal) → refusal_on input a ≡ x → (number item : ℕ) (out : List ℕ) (q : ℕ) → Left x (Refused number item)
         → Wrote after 0 (refused_line number item) out q → Printed input rows_before rows_after before out q
@@ -170,7 +170,7 @@ module _ (input : List ℕ) (a : Asked) (l : Line a ≡ request_of input) where
         let f : number ≡ r.number = cc k.answer in
         let g : item ≡ r.item = cc k.answer in
         let w' : Wrote before 0 (refused_line r.number r.item) out q = rw (← f, ← g, ← k.file) w in
-        rw k.rows (printed_refused input r rows_before before out q (judged-on ∙ e) w')
+        rw k.rows (printed-refused input r rows_before before out q (judged-on ∙ e) w')
 
-    pub file_refused : (number item : ℕ) (out : List ℕ) (q : ℕ) → Called (Refused number item) → Wrote after 0 (refused_line number item) out q → Printed input rows_before rows_after before out q
-    file_refused number item out q c w = refused-by (refusal_on input a) refl number item out q (left (Refused number item) c) w
+    pub file-refused : (number item : ℕ) (out : List ℕ) (q : ℕ) → Called (Refused number item) → Wrote after 0 (refused_line number item) out q → Printed input rows_before rows_after before out q
+    file-refused number item out q c w = refused-by (refusal_on input a) refl number item out q (left (Refused number item) c) w

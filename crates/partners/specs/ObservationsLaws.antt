@@ -21,7 +21,7 @@ use Rattle.reports.specs.FileRows.{is_written, observation_by, observations_by}
 use Rattle.series.specs.SumsInner.{by_position, cell_at, DeliveredIn}
 use Rattle.series.specs.SumsLaws.{parts-of, cell-is}
 use Rattle.partners.specs.ObservationsInner.{observation_if, observations_in}
-use Rattle.integers.specs.RangesLaws.{range-more, map_range_cong}
+use Rattle.integers.specs.RangesLaws.{range-more, map-range-cong}
 use Rattle.quarters.specs.QuartersInner.{Ranged, longest_month}
 use Rattle.reports.specs.FileRowsInner.{observations_of}
 
@@ -58,7 +58,7 @@ pub observations-are : (book : Book) (kind : Kind) (receiver : ℕ) (s : Series)
 unfolding observations_in observations_of observations_by observation_by series_watts
 observations-are book kind receiver s before l n month e =
     rw (← month)
-    (ap (keep is_written) (map_range_cong (λ p. observed (p, cell_at l p)) (λ p. observed (p, series_watts book kind receiver s p)) 1 n (λ p low high.
+    (ap (keep is_written) (map-range-cong (λ p. observed (p, cell_at l p)) (λ p. observed (p, series_watts book kind receiver s p)) 1 n (λ p low high.
     ap (λ (w : ℕ). observed (p, w)) (ap (λ (t : List ℕ). cell_at t p) e ∙ cell-is (series_watts book kind receiver s) n before p low (omega arith)))))
 
 -- ---- the month

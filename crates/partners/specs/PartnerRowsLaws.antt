@@ -15,12 +15,12 @@ use Rattle.integers.specs.Ranges.{range}
 use Rattle.integers.specs.Rises.{rises}
 use Rattle.integers.specs.All.{All}
 use Rattle.integers.specs.Keep.{keep, is_some}
-use Rattle.integers.specs.KeepLaws.{keep_mem, mem_keep, keep_rises, keep_length}
+use Rattle.integers.specs.KeepLaws.{keep-mem, mem-keep, keep-rises, keep-length}
 use Rattle.integers.specs.Ascending.{ascending}
 use Rattle.integers.specs.AscendingLaws.{ascending-once}
 use Rattle.message.specs.Keys.{number_keys}
 use Rattle.message.specs.Group.{group}
-use Rattle.message.specs.Rows.{partner_of as regroupedOne}
+use Rattle.message.specs.Rows.{partner_of as regrouped_one}
 use Rattle.book.specs.declared.Supply.{Supply}
 use Rattle.book.specs.declared.Supply.TheVariants.{OffTake, Injection}
 use Rattle.book.specs.declared.Direction.{Direction}
@@ -30,7 +30,7 @@ use Rattle.volumes.specs.declared.Series.{Series}
 use Rattle.volumes.specs.Series.{Kind, grains_at, series_of}
 use Rattle.volumes.specs.SoundInner.{Sound}
 use Rattle.volumes.specs.Settlement.{rows}
-use Rattle.settlement.specs.StoresLaws.{sets_append}
+use Rattle.settlement.specs.StoresLaws.{sets-append}
 use Rattle.message.specs.Contents.{Observation, TimeSeries, Partner, number}
 use Rattle.message.specs.Valid.{month_of, periods, IsPartner, IsPeriod}
 use Rattle.message.specs.Bytes.{partner_bytes}
@@ -46,7 +46,7 @@ use Rattle.series.specs.SumsInner.{cell_at}
 use Rattle.partners.specs.ObservationsInner.{observation_if, observations_in}
 use Rattle.partners.specs.ObservationsLaws.{no-observation, one-observation, observations-none, observations-more}
 use Rattle.reports.specs.RegisteredInner.{Registered}
-use Rattle.reports.specs.FormLaws.{partners_valid}
+use Rattle.reports.specs.FormLaws.{partners-valid}
 use Rattle.partners.specs.PartnerRowsInner.{row_of, rows_by, series_rows_of, partner_rows_of, FileRowsFilled, series_rows_by, partner_rows_by}
 use Rattle.quarters.specs.Quarters.{month_quarters}
 use Rattle.integers.specs.AllLaws.{each_all, all-each, all_append}
@@ -55,7 +55,7 @@ use Rattle.integers.specs.RangesLaws.{length-range}
 use Rattle.message.specs.GroupLaws.{first_group}
 use Rattle.reports.specs.FileRowsInner.{observations_of, partner_at}
 use Rattle.writer.specs.RowsInner.{row_at, Directed}
-use Rattle.integers.specs.ListsLaws.{flat_map_append}
+use Rattle.integers.specs.ListsLaws.{flat_map-append}
 
 -- ---- lists
 
@@ -130,24 +130,24 @@ partner-month volumes q last partner = one-month _ q (partner_by volumes q last 
 module _ (book : Book) (kind : Kind) (receiver partner : ℕ) where
   partner-rises : rises 0 (map number (partner_if book kind receiver partner)) ≡ true
   unfolding partner_if rises
-  partner-rises = keep_rises (λ (p : Partner). is_some p.series) number 0 (partner_at book kind receiver partner ∷ []) (and_both (le-leb 0 (partner_at book kind receiver partner).number (omega arith)) refl)
+  partner-rises = keep-rises (λ (p : Partner). is_some p.series) number 0 (partner_at book kind receiver partner ∷ []) (and_both (le-leb 0 (partner_at book kind receiver partner).number (omega arith)) refl)
 
   module _ (sound : Sound book) (registered : Registered book) (known : Memᴰ partner (partner_numbers book kind receiver)) where
     partner-ok : All (IsPartner kind) (partner_if book kind receiver partner)
     unfolding partner_if partners_of partners_by partner_at
-    partner-ok = each_all (IsPartner kind) _ (λ p m. go p (mem_keep (λ (p : Partner). is_some p.series) (partner_at book kind receiver partner ∷ []) p m))
+    partner-ok = each_all (IsPartner kind) _ (λ p m. go p (mem-keep (λ (p : Partner). is_some p.series) (partner_at book kind receiver partner ∷ []) p m))
       where
         all : All (IsPartner kind) (partners_of book kind receiver)
-        all = partners_valid book sound registered kind receiver
+        all = partners-valid book sound registered kind receiver
 
         go : (p : Partner) → Memᴰ p (partner_at book kind receiver partner ∷ []) × (is_some p.series ≡ true) → IsPartner kind p
         go p (m, e) =
             let q : p ≡ partner_at book kind receiver partner = ⊎_elim (λ x. x) (λ k. absurd (Memᴰ.not-nil k)) (Memᴰ.cases_cons m) in
             all-each (IsPartner kind) (keep (λ (p : Partner). is_some p.series) (map (partner_at book kind receiver) (partner_numbers book kind receiver))) p all
-            (keep_mem (λ (p : Partner). is_some p.series) (map (partner_at book kind receiver) (partner_numbers book kind receiver)) p (subst (λ (x : Partner). Memᴰ x (map (partner_at book kind receiver) (partner_numbers book kind receiver))) (sym q) (Memᴰ.map (partner_at book kind receiver) known)) e)
+            (keep-mem (λ (p : Partner). is_some p.series) (map (partner_at book kind receiver) (partner_numbers book kind receiver)) p (subst (λ (x : Partner). Memᴰ x (map (partner_at book kind receiver) (partner_numbers book kind receiver))) (sym q) (Memᴰ.map (partner_at book kind receiver) known)) e)
 
     -- the rows filled, grouped as the writer groups them, are the partner, or none
-    pub partner_again : regrouped (book.calendar.year, book.calendar.month) (partner_rows_of book kind receiver partner) ≡ partner_if book kind receiver partner
+    pub partner-again : regrouped (book.calendar.year, book.calendar.month) (partner_rows_of book kind receiver partner) ≡ partner_if book kind receiver partner
     unfolding partner_if partner_at
     partner-again =
         let volumes = grains_at book kind receiver in
@@ -156,7 +156,7 @@ module _ (book : Book) (kind : Kind) (receiver partner : ℕ) where
         ∙ partners-undo kind q (partner_if book kind receiver partner) partner-rises partner-ok (partner-month volumes q (month_quarters book.calendar) partner)
 
     -- what the writer's emitter lays of them
-    pub partner_bytes : (l : List ℕ) (n : ℕ) → rows_from l 0 n ≡ partner_rows_of book kind receiver partner
+    pub partner-bytes : (l : List ℕ) (n : ℕ) → rows_from l 0 n ≡ partner_rows_of book kind receiver partner
         → flat_map (partner_bytes kind) (partners_in (book.calendar.year, book.calendar.month) l 0 n) ≡ flat_map (partner_bytes kind) (partner_if book kind receiver partner)
     partner-bytes l n e = ap (flat_map (partner_bytes kind)) (ap (regrouped (book.calendar.year, book.calendar.month)) e ∙ partner-again)
 
@@ -167,16 +167,16 @@ unfolding regrouped
 group-some {n} q x rows h =
     let f = first_group number_keys x rows in
     let e = ap length f.is in
-    omega (arith, h, e, length-map (group number_keys (x ∷ rows)) (regroupedOne q))
+    omega (arith, h, e, length-map (group number_keys (x ∷ rows)) (regrouped_one q))
 
 module _ (book : Book) (kind : Kind) (receiver partner : ℕ) (sound : Sound book) (registered : Registered book) (known : Memᴰ partner (partner_numbers book kind receiver)) where
   one-partner : length (partner_if book kind receiver partner) ≤ 1
   unfolding partner_if
-  one-partner = keep_length (λ (p : Partner). is_some p.series) (partner_at book kind receiver partner ∷ [])
+  one-partner = keep-length (λ (p : Partner). is_some p.series) (partner_at book kind receiver partner ∷ [])
 
-  pub partner_count : (end : ℕ) → end ≡ 6 * length (partner_rows_of book kind receiver partner) → cond (ltb 0 end) 1 0 ≡ length (partner_if book kind receiver partner)
+  pub partner-count : (end : ℕ) → end ≡ 6 * length (partner_rows_of book kind receiver partner) → cond (ltb 0 end) 1 0 ≡ length (partner_if book kind receiver partner)
   unfolding regrouped group
-  partner_count end e = go (partner_rows_of book kind receiver partner) e (ap length (partner-again book kind receiver partner sound registered known))
+  partner-count end e = go (partner_rows_of book kind receiver partner) e (ap length (partner-again book kind receiver partner sound registered known))
     where
       go : (rows : List Row) → end ≡ 6 * length rows → length (regrouped (book.calendar.year, book.calendar.month) rows) ≡ length (partner_if book kind receiver partner) → cond (ltb 0 end) 1 0 ≡ length (partner_if book kind receiver partner)
       go [] e f = rw (le-ltb 0 end (omega arith)) f
@@ -239,8 +239,8 @@ filled-then {a} {b} {before} {mid} {after} {at} {next} {last} f g =
       list =
           g.list
           ∙ ap₂ (λ (t : List ℕ) (k : ℕ). sets t k (numbers b)) f.list e
-          ∙ sets_append before at (numbers a) (numbers b)
-          ∙ ap (sets before at) (sym (flat_map_append row_numbers a b));
+          ∙ sets-append before at (numbers a) (numbers b)
+          ∙ ap (sets before at) (sym (flat_map-append row_numbers a b));
     }
 
 pub filled_is : {a : List Row} {before after : List ℕ} {at next : ℕ} (b : List Row) → a ≡ b → FileRowsFilled a before at after next → FileRowsFilled b before at after next
@@ -261,36 +261,36 @@ filled_row l at s u v p w f g =
 -- ---- the rows of a series, position by position
 
 module _ (s : Series) where
-  pub position_none : (p watts : ℕ) → watts ≡ 0 → [] ≡ rows_by s (observation_if p watts)
+  pub position-none : (p watts : ℕ) → watts ≡ 0 → [] ≡ rows_by s (observation_if p watts)
   unfolding rows_by
-  position_none p watts e = sym (ap (map (row_of s)) (no-observation p watts e))
+  position-none p watts e = sym (ap (map (row_of s)) (no-observation p watts e))
 
-  pub position_one : (p watts : ℕ) → 0 < watts → (row_of s (observed (p, watts)) ∷ []) ≡ rows_by s (observation_if p watts)
+  pub position-one : (p watts : ℕ) → 0 < watts → (row_of s (observed (p, watts)) ∷ []) ≡ rows_by s (observation_if p watts)
   unfolding rows_by
-  position_one p watts h = sym (ap (map (row_of s)) (one-observation p watts h))
+  position-one p watts h = sym (ap (map (row_of s)) (one-observation p watts h))
 
-  pub positions_none : (l : List ℕ) → [] ≡ rows_by s (observations_in l 0)
+  pub positions-none : (l : List ℕ) → [] ≡ rows_by s (observations_in l 0)
   unfolding rows_by
-  positions_none l = sym (ap (map (row_of s)) (observations-none l))
+  positions-none l = sym (ap (map (row_of s)) (observations-none l))
 
-  pub positions_more : (l : List ℕ) (i : ℕ) → rows_by s (observations_in l i) ++ rows_by s (observation_if (i + 1) (get_or l i 0)) ≡ rows_by s (observations_in l (i + 1))
+  pub positions-more : (l : List ℕ) (i : ℕ) → rows_by s (observations_in l i) ++ rows_by s (observation_if (i + 1) (get_or l i 0)) ≡ rows_by s (observations_in l (i + 1))
   unfolding rows_by
-  positions_more l i = sym (ap (map (row_of s)) (observations-more l i) ∙ map-append (row_of s) (observations_in l i) (observation_if (i + 1) (get_or l i 0)))
+  positions-more l i = sym (ap (map (row_of s)) (observations-more l i) ∙ map-append (row_of s) (observations_in l i) (observation_if (i + 1) (get_or l i 0)))
 
   -- one a position at most
-  pub positions_few : (l : List ℕ) (n : ℕ) → length (rows_by s (observations_in l n)) ≤ n
+  pub positions-few : (l : List ℕ) (n : ℕ) → length (rows_by s (observations_in l n)) ≤ n
   unfolding rows_by observations_in
-  positions_few l n =
+  positions-few l n =
       let all = map (λ p. observed (p, cell_at l p)) (range 1 n) in
-      omega (arith, length-map (keep is_written all) (row_of s), keep_length is_written all, length-map (range 1 n) (λ p. observed (p, cell_at l p)), length-range 1 n)
+      omega (arith, length-map (keep is_written all) (row_of s), keep-length is_written all, length-map (range 1 n) (λ p. observed (p, cell_at l p)), length-range 1 n)
 
 -- the rows of a series' own observations, and of the four series
 module _ (book : Book) (kind : Kind) (receiver : ℕ) where
-  pub series_rows_are : (s : Series) (l : List Observation) → l ≡ observations_of book kind receiver s → rows_by s l ≡ series_rows_of book kind receiver s
+  pub series-rows-are : (s : Series) (l : List Observation) → l ≡ observations_of book kind receiver s → rows_by s l ≡ series_rows_of book kind receiver s
   unfolding series_rows_by observations_of
-  series_rows_are s l e = ap (rows_by s) e
+  series-rows-are s l e = ap (rows_by s) e
 
-  pub partner_parts : (partner : ℕ)
+  pub partner-parts : (partner : ℕ)
       → ((series_rows_of book kind receiver (series_of partner OffTake Up) ++ series_rows_of book kind receiver (series_of partner OffTake Down)) ++ series_rows_of book kind receiver (series_of partner Injection Up)) ++ series_rows_of book kind receiver (series_of partner Injection Down)
       ≡ partner_rows_of book kind receiver partner
   unfolding partner_rows_by directions flat_map
@@ -338,7 +338,7 @@ module _ (book : Book) (kind : Kind) (receiver partner : ℕ) where
       (by-small s (observations_by (grains_at book kind receiver s) (month_quarters book.calendar)))
       (series-small l)
 
-  pub partner_writable : (l : List ℕ) (n year month : ℕ) → 6 * n ≤ length l → rows_from l 0 n ≡ partner_rows_of book kind receiver partner → IsPeriod year month → Writable l 0 n year month
+  pub partner-writable : (l : List ℕ) (n year month : ℕ) → 6 * n ≤ length l → rows_from l 0 n ≡ partner_rows_of book kind receiver partner → IsPeriod year month → Writable l 0 n year month
   unfolding partner_rows_by
-  partner_writable l n year month w e p =
+  partner-writable l n year month w e p =
       record { within = omega arith; directed = directed-all l 0 n (subst (All Small) (sym e) (series-small directions)); period = λ h. p }

@@ -11,7 +11,7 @@ use borrow.Author.Tests.{leb-true, leb-false, ltb-true, ltb-false, le-leb}
 use Rattle.integers.specs.Ranges.{range}
 use Rattle.integers.specs.TestsLaws.{both}
 use Rattle.integers.specs.Keep.{keep, is_some}
-use Rattle.integers.specs.KeepLaws.{mem_keep, keep_mem}
+use Rattle.integers.specs.KeepLaws.{mem-keep, keep-mem}
 use Rattle.integers.specs.ScanLaws.{next-least, all_from, no-next}
 use Rattle.book.specs.declared.Point.{Point}
 use Rattle.book.specs.Header.{register_section}
@@ -52,11 +52,11 @@ mem-point register point m = go (Memᴰ.of_map (point_at register) (range 0 (poi
 -- ---- who is in a role
 
 module _ (register : List ℕ) (kind : Kind) (receiver : ℕ) where
-  pub role_found : (i : ℕ) → i < point_count_in register → receiver_of kind (point_at register i) ≡ receiver → stands receiver (map (receiver_of kind) (points_in register)) ≡ true
-  role_found i h e = mem-stands receiver (map (receiver_of kind) (points_in register)) (Memᴰ.cast (sym e) (Memᴰ.map (receiver_of kind) (point-mem register i h)))
+  pub role-found : (i : ℕ) → i < point_count_in register → receiver_of kind (point_at register i) ≡ receiver → stands receiver (map (receiver_of kind) (points_in register)) ≡ true
+  role-found i h e = mem-stands receiver (map (receiver_of kind) (points_in register)) (Memᴰ.cast (sym e) (Memᴰ.map (receiver_of kind) (point-mem register i h)))
 
-  pub role_none : ((i : ℕ) → i < point_count_in register → receiver_of kind (point_at register i) ≡ receiver → ⊥) → stands receiver (map (receiver_of kind) (points_in register)) ≡ false
-  role_none h = go (stands receiver (map (receiver_of kind) (points_in register))) refl
+  pub role-none : ((i : ℕ) → i < point_count_in register → receiver_of kind (point_at register i) ≡ receiver → ⊥) → stands receiver (map (receiver_of kind) (points_in register)) ≡ false
+  role-none h = go (stands receiver (map (receiver_of kind) (points_in register))) refl
     where
       at : (point : Point) × Memᴰ point (points_in register) × (receiver_of kind point ≡ receiver) → ⊥
       at (point, m, e) = let i = mem-point register point m in h i.0 i.1 (ap (receiver_of kind) i.2 ∙ e)
@@ -86,12 +86,12 @@ unfoldable pub nearer : Bool → ℕ → ℕ → ℕ → ℕ
 nearer taken low partner next = cond (taken && (leb low partner && ltb partner next)) partner next
 
 module _ (register : List ℕ) (kind : Kind) (receiver low : ℕ) where
-  pub scanned_none : PartnersScanned register kind receiver low 0 no_partner
-  scanned_none = record { found = λ h. absurd (omega arith); least = λ j h. absurd (omega arith) }
+  pub scanned-none : PartnersScanned register kind receiver low 0 no_partner
+  scanned-none = record { found = λ h. absurd (omega arith); least = λ j h. absurd (omega arith) }
 
-  pub scanned_more : (i next : ℕ) → PartnersScanned register kind receiver low i next → PartnersScanned register kind receiver low (i + 1) (nearer (is_taken kind receiver (point_at register i)) low (partner_of kind (point_at register i)) next)
+  pub scanned-more : (i next : ℕ) → PartnersScanned register kind receiver low i next → PartnersScanned register kind receiver low (i + 1) (nearer (is_taken kind receiver (point_at register i)) low (partner_of kind (point_at register i)) next)
   unfolding nearer
-  scanned_more i next s = go (is_taken kind receiver (point_at register i) && (leb low (partner_of kind (point_at register i)) && ltb (partner_of kind (point_at register i)) next)) refl
+  scanned-more i next s = go (is_taken kind receiver (point_at register i) && (leb low (partner_of kind (point_at register i)) && ltb (partner_of kind (point_at register i)) next)) refl
     where
       taken : Bool
       taken = is_taken kind receiver (point_at register i)
@@ -119,7 +119,7 @@ unfolding partner_column
 scanned-all register kind receiver low next s = record { member = λ h. found (s.found h); least = λ x m l. at x l (Memᴰ.of_map (partner_of kind) (keep (is_taken kind receiver) (points_in register)) m) }
   where
     found : (j : ℕ) × (j < point_count_in register) × (is_taken kind receiver (point_at register j) ≡ true) × (partner_of kind (point_at register j) ≡ next) × (low ≤ next) → Memᴰ next (map (partner_of kind) (keep (is_taken kind receiver) (points_in register))) × (low ≤ next)
-    found (j, h, t, e, l) = (Memᴰ.cast (sym e) (Memᴰ.map (partner_of kind) (keep_mem (is_taken kind receiver) (points_in register) (point_at register j) (point-mem register j h) t)), l)
+    found (j, h, t, e, l) = (Memᴰ.cast (sym e) (Memᴰ.map (partner_of kind) (keep-mem (is_taken kind receiver) (points_in register) (point_at register j) (point-mem register j h) t)), l)
 
     row : (x : ℕ) → low ≤ x → (point : Point) → (is_taken kind receiver point ≡ true) → partner_of kind point ≡ x → (i : ℕ) × (i < point_count_in register) × (point_at register i ≡ point) → next ≤ x
     row x l point t e (i, h, q) =
@@ -127,14 +127,14 @@ scanned-all register kind receiver low next s = record { member = λ h. found (s
         omega (arith, s.least i h (ap (is_taken kind receiver) q ∙ t) (omega arith))
 
     at : (x : ℕ) → low ≤ x → (point : Point) × Memᴰ point (keep (is_taken kind receiver) (points_in register)) × (partner_of kind point ≡ x) → next ≤ x
-    at x l (point, m, e) = let k = mem_keep (is_taken kind receiver) (points_in register) point m in row x l point k.1 e (mem-point register point k.0)
+    at x l (point, m, e) = let k = mem-keep (is_taken kind receiver) (points_in register) point m in row x l point k.1 e (mem-point register point k.0)
 
 -- ---- the partners that a file has, one after another
 
 module _ (book : Book) (kind : Kind) (receiver : ℕ) where
-  pub partners_all : partners_from book kind receiver 0 ≡ partners_of book kind receiver
+  pub partners-all : partners_from book kind receiver 0 ≡ partners_of book kind receiver
   unfolding partners_from partners_of partners_by partner_at partner_numbers
-  partners_all = rw (all_from (map (partner_of kind) (keep (is_taken kind receiver) book.points)))
+  partners-all = rw (all_from (map (partner_of kind) (keep (is_taken kind receiver) book.points)))
 
   keep-first : (p : Partner) (l : List Partner) → keep (λ q. is_some q.series) (p ∷ l) ≡ keep (λ q. is_some q.series) (p ∷ []) ++ keep (λ q. is_some q.series) l
   unfolding keep
@@ -144,9 +144,9 @@ module _ (book : Book) (kind : Kind) (receiver : ℕ) where
       go true = refl
       go false = refl
 
-  pub partners_next : (low next : ℕ) → Next low (partner_column book.points kind receiver) next → next < no_partner → partners_from book kind receiver low ≡ partner_if book kind receiver next ++ partners_from book kind receiver (next + 1)
+  pub partners-next : (low next : ℕ) → Next low (partner_column book.points kind receiver) next → next < no_partner → partners_from book kind receiver low ≡ partner_if book kind receiver next ++ partners_from book kind receiver (next + 1)
   unfolding partners_from partner_if partner_numbers partner_column
-  partners_next low next s h =
+  partners-next low next s h =
       let m = s.member h in
       rw (add-one, next-least low next (partner_column book.points kind receiver) (record { member = m.0; from = m.1; least = s.least }))
       (keep-first (partner_at book kind receiver next) (map (partner_at book kind receiver) (keep (leb (suc next)) (partner_numbers book kind receiver))))
@@ -157,17 +157,17 @@ module _ (book : Book) (kind : Kind) (receiver : ℕ) where
   below Toe02 point n = omega (arith, n.fsp)
   below Toe03 point n = omega (arith, n.access)
 
-  pub column_below : Registered book → (x : ℕ) → Memᴰ x (partner_column book.points kind receiver) → x < no_partner
+  pub column-below : Registered book → (x : ℕ) → Memᴰ x (partner_column book.points kind receiver) → x < no_partner
   unfolding partner_column
-  column_below r x m = at (Memᴰ.of_map (partner_of kind) (keep (is_taken kind receiver) book.points) m)
+  column-below r x m = at (Memᴰ.of_map (partner_of kind) (keep (is_taken kind receiver) book.points) m)
     where
       at : (point : Point) × Memᴰ point (keep (is_taken kind receiver) book.points) × (partner_of kind point ≡ x) → x < no_partner
-      at (point, k, e) = omega (arith, below kind point (r.numbered point (mem_keep (is_taken kind receiver) book.points point k).0))
+      at (point, k, e) = omega (arith, below kind point (r.numbered point (mem-keep (is_taken kind receiver) book.points point k).0))
 
-  pub partners_end : Registered book → (low next : ℕ) → Next low (partner_column book.points kind receiver) next → no_partner ≤ next → partners_from book kind receiver low ≡ []
+  pub partners-end : Registered book → (low next : ℕ) → Next low (partner_column book.points kind receiver) next → no_partner ≤ next → partners_from book kind receiver low ≡ []
   unfolding partners_from partner_numbers partner_column keep
-  partners_end r low next s h = rw (no-next low (partner_column book.points kind receiver) (λ x m. left x m (leb low x) refl))
+  partners-end r low next s h = rw (no-next low (partner_column book.points kind receiver) (λ x m. left x m (leb low x) refl))
     where
       left : (x : ℕ) → Memᴰ x (partner_column book.points kind receiver) → (b : Bool) → leb low x ≡ b → x < low
-      left x m true e = absurd (omega (arith, s.least x m (leb-true low x e), column_below r x m))
+      left x m true e = absurd (omega (arith, s.least x m (leb-true low x e), column-below r x m))
       left x m false e = leb-false low x e

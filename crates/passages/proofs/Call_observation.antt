@@ -1,4 +1,4 @@
--- The rule by which a walk calls `passages::observation` on a cursor that it holds: `calls_bare` of `cursor` Lends, at the cursor and the answer that the contract's equations name. Assumes `Logic`.
+-- The rule by which a walk calls `passages::observation` on a cursor that it holds: `calls-bare` of `cursor` Lends, at the cursor and the answer that the contract's equations name. Assumes `Logic`.
 use mathlib.Core.Path.{◌≡◌, refl, subst}
 use Prim.Native.Nat.{ℕ}
 use mathlib.Core.List.{[], ◌∷◌, List}
@@ -22,9 +22,9 @@ use denote.Triple.Statement.{Contract, Triple}
 use denote.Triple.Spec.{triple_of}
 use Rattle.cursor.specs.declared.Cursor.{Cursor}
 use Rattle.cursor.proofs.Lent.{sv, Slice, ref-at, Holder}
-use Rattle.cursor.proofs.Lends.{Plain, Fits, calls_bare}
+use Rattle.cursor.proofs.Lends.{Plain, Fits, calls-bare}
 use Rattle.passages.specs.declared.ObservationFound.{ObservationFound}
-use Rattle.passages.specs.PassagesInner.{observationFound, observationTo}
+use Rattle.passages.specs.PassagesInner.{observation_found, observation_to}
 use Rattle.passages.specs.contracts.ObservationFound as N
 use Rattle.passages.proofs.ObservationFound.TheLaws as N'
 use Rattle.passages.specs.contracts.observation as me
@@ -43,9 +43,9 @@ module _ {M : Type 1} {𝓤 : Ura M} (𝓛 : Logic 𝓤) {Γ : List (Item 𝓤)}
     (fm : FmC 𝓤 𝓛.H 𝓛.laws C) (at_mem : Memory → SProp 𝓤) (run : Routine → Fun 𝓤) where
   pub calls : Triple 𝓤 (C #me) (Contract-of 𝓛 at_mem run) → (c : Holder 𝓛) (h : Cursor) (κ₁ : Lft) (q₁ : Share) (s : Bor (List ℕ))
       → ((i₀ i₁ i₂ : Item 𝓤) → Opds (Go {0}) 𝓛 (i₀ ∷ i₁ ∷ i₂ ∷ Γ) E xs (vptr c.at.0 c.at.1 ∷ sv s ∷ []))
-      → (Found (observationFound s.now h) → Sq 𝓛 (c.Hold (observationTo s.now h) ∷ ‵ (flft κ₁ q₁) ∷ ‵ (Slice κ₁ s) ∷ Γ) (lands C Λ E d (N'.lowered (observationFound s.now h)) rest p))
+      → (Found (observation_found s.now h) → Sq 𝓛 (c.Hold (observation_to s.now h) ∷ ‵ (flft κ₁ q₁) ∷ ‵ (Slice κ₁ s) ∷ Γ) (lands C Λ E d (N'.lowered (observation_found s.now h)) rest p))
       → Sq 𝓛 (c.Hold h ∷ ‵ (flft κ₁ q₁) ∷ ‵ (Slice κ₁ s) ∷ Γ) (runs C Λ E (seq (call #me xs d) rest) p)
   calls known c h κ₁ q₁ s os then =
-      calls_bare 𝓛 answer (λ (h' : Cursor) (r : ObservationFound). (h' ≡ observationTo s.now h) × (r ≡ observationFound s.now h)) c h κ₁ q₁ s fm
+      calls-bare 𝓛 answer (λ (h' : Cursor) (r : ObservationFound). (h' ≡ observation_to s.now h) × (r ≡ observation_found s.now h)) c h κ₁ q₁ s fm
       (λ ν δ. known (((ν ∷ [], (κ₁, tt)), (full_share, (q₁, tt)), tt, (ref-at c.at δ h, (s, tt)), (vptr c.at.0 c.at.1 ∷ [], (sv s ∷ [], tt))), tt)) os (λ h' r is e.
       rewrite ! 0 (λ (z : Cursor). c.Hold z) e.0 refl $ regoal ! (λ (z : ObservationFound). lands C Λ E d (N'.lowered z) rest p) e.1 refl $ then (subst Found e.1 is))

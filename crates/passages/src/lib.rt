@@ -1,12 +1,12 @@
 // Passages: parts of a file that are passed in one go. The cursor that was lent is lent on, to one call after another, and what they find is told. What a
 // file's kind decides is read by value (`.._by`), so that covered code can choose.
 ghost use Rattle.std.specs.Prelude.{◌≡◌};
-ghost use Rattle.passages.specs.PassagesInner.{observationFound, observationTo, monthFound, monthTo, volumeFound, volumeTo, messageFound, messageTo, behindMonthBy, ownStart, sharedStart, companyFound, accessFound, receiverFound};
+ghost use Rattle.passages.specs.PassagesInner.{observation_found, observation_to, month_found, month_to, volume_found, volume_to, message_found, message_to, behind_month_by, own_start, shared_start, company_found, access_found, receiver_found};
 
 use cursor::{Cursor, Read};
 
 // An observation's position and its kilowatts, whole and three decimals.
-#[derive(Clone, Copy)]
+#[derive(Drop)]
 pub struct ObservationFound {
     pub position: u64,
     pub whole: u64,
@@ -15,7 +15,7 @@ pub struct ObservationFound {
 
 // Past an observation.
 pub fn observation(c: &mut Cursor, s: &[u8]) -> ObservationFound
-    ensures { (c.new ≡ observationTo s.now c.old) × (result ≡ observationFound s.now c.old) }
+    ensures { (c.new ≡ observation_to s.now c.old) × (result ≡ observation_found s.now c.old) }
 {
     cursor::past_tag(c, s, b"<Observation><Position>");
     let position = cursor::past_number(c, s, 60, 18446744073709551615);
@@ -31,7 +31,7 @@ pub fn observation(c: &mut Cursor, s: &[u8]) -> ObservationFound
 }
 
 // The month in which a period starts.
-#[derive(Clone, Copy)]
+#[derive(Drop)]
 pub struct MonthFound {
     pub year: u64,
     pub month: u64,
@@ -39,7 +39,7 @@ pub struct MonthFound {
 
 // Past the year and the month of a period's first moment.
 pub fn month(c: &mut Cursor, s: &[u8]) -> MonthFound
-    ensures { (c.new ≡ monthTo s.now c.old) × (result ≡ monthFound s.now c.old) }
+    ensures { (c.new ≡ month_to s.now c.old) × (result ≡ month_found s.now c.old) }
 {
     cursor::past_tag(c, s, b"<PeriodStart>");
     let year = cursor::past_fixed(c, s, 4);
@@ -49,7 +49,7 @@ pub fn month(c: &mut Cursor, s: &[u8]) -> MonthFound
 }
 
 // A time series' delivery direction and its counter of observations.
-#[derive(Clone, Copy)]
+#[derive(Drop)]
 pub struct VolumeFound {
     pub delivery: u64,
     pub count: u64,
@@ -57,7 +57,7 @@ pub struct VolumeFound {
 
 // Past the start of a time series' volume.
 pub fn volume(c: &mut Cursor, s: &[u8]) -> VolumeFound
-    ensures { (c.new ≡ volumeTo s.now c.old) × (result ≡ volumeFound s.now c.old) }
+    ensures { (c.new ≡ volume_to s.now c.old) × (result ≡ volume_found s.now c.old) }
 {
     cursor::past_tag(c, s, b"<DeliveryDirection>");
     let delivery = cursor::past_word(c, s, b"DeliveryUp", b"DeliveryDown");
@@ -72,7 +72,7 @@ pub fn volume(c: &mut Cursor, s: &[u8]) -> VolumeFound
 }
 
 // Where a file's ID starts and ends, and where its moment starts.
-#[derive(Clone, Copy)]
+#[derive(Drop)]
 pub struct MessageFound {
     pub id: Cursor,
     pub end: Cursor,
@@ -81,7 +81,7 @@ pub struct MessageFound {
 
 // Past a file's ID, up to its moment.
 pub fn message(c: &mut Cursor, s: &[u8]) -> MessageFound
-    ensures { (c.new ≡ messageTo s.now c.old) × (result ≡ messageFound s.now c.old) }
+    ensures { (c.new ≡ message_to s.now c.old) × (result ≡ message_found s.now c.old) }
 {
     cursor::past_tag(c, s, b"<TransactionID>");
     let id = *c;
@@ -94,7 +94,7 @@ pub fn message(c: &mut Cursor, s: &[u8]) -> MessageFound
 
 // What stands behind the year and month of a period: the rest of its first moment, and its end.
 pub fn behind_month_by(c: Cursor, s: &[u8], rest: &[u8], end: &[u8]) -> Cursor
-    ensures { result ≡ behindMonthBy s.now c rest.now end.now }
+    ensures { result ≡ behind_month_by s.now c rest.now end.now }
 {
     let a = cursor::tag_by(c, s, rest);
     let b = cursor::tag_by(a, s, b"</PeriodStart><PeriodEnd>");
@@ -108,7 +108,7 @@ pub fn behind_month_by(c: Cursor, s: &[u8], rest: &[u8], end: &[u8]) -> Cursor
 
 // The start of a time series that has its own supply direction.
 pub fn own_start_by(c: Cursor, s: &[u8]) -> Read
-    ensures { result ≡ ownStart s.now c }
+    ensures { result ≡ own_start s.now c }
 {
     let a = cursor::tag_by(c, s, b"<ToETimeSeries><SupplyDirection>");
     let x = cursor::word_by(a, s, b"Off-take", b"Injection");
@@ -119,14 +119,14 @@ pub fn own_start_by(c: Cursor, s: &[u8]) -> Read
 
 // The start of a time series that has the supply direction of its access point.
 pub fn shared_start_by(c: Cursor, s: &[u8], supply: u64) -> Read
-    ensures { result ≡ sharedStart s.now c supply }
+    ensures { result ≡ shared_start s.now c supply }
 {
     let to = cursor::tag_by(c, s, b"<ToETimeSeries>");
     Read { to, value: supply }
 }
 
 // The number of a supplier or an FSP and its counter of series.
-#[derive(Clone, Copy)]
+#[derive(Drop)]
 pub struct CompanyFound {
     pub number: u64,
     pub count: u64,
@@ -134,7 +134,7 @@ pub struct CompanyFound {
 }
 
 pub fn company_by(c: Cursor, s: &[u8], before: &[u8], behind: &[u8]) -> CompanyFound
-    ensures { result ≡ companyFound s.now c before.now behind.now }
+    ensures { result ≡ company_found s.now c before.now behind.now }
 {
     let a = cursor::tag_by(c, s, before);
     let k = cursor::fixed_by(a, s, 10);
@@ -151,7 +151,7 @@ pub fn company_by(c: Cursor, s: &[u8], before: &[u8], behind: &[u8]) -> CompanyF
 }
 
 // An access point's EAN, its supply direction and its counter of series.
-#[derive(Clone, Copy)]
+#[derive(Drop)]
 pub struct AccessFound {
     pub number: u64,
     pub supply: u64,
@@ -160,7 +160,7 @@ pub struct AccessFound {
 }
 
 pub fn access_by(c: Cursor, s: &[u8]) -> AccessFound
-    ensures { result ≡ accessFound s.now c }
+    ensures { result ≡ access_found s.now c }
 {
     let a = cursor::tag_by(c, s, b"<SDPSupplySeries><SDPSupply>");
     let k = cursor::fixed_by(a, s, 18);
@@ -181,7 +181,7 @@ pub fn access_by(c: Cursor, s: &[u8]) -> AccessFound
 }
 
 // A file's receiver and its counter of partners, by the tags around the counter.
-#[derive(Clone, Copy)]
+#[derive(Drop)]
 pub struct ReceiverFound {
     pub receiver: u64,
     pub count: u64,
@@ -189,7 +189,7 @@ pub struct ReceiverFound {
 }
 
 pub fn receiver_by(c: Cursor, s: &[u8], before: &[u8], behind: &[u8]) -> ReceiverFound
-    ensures { result ≡ receiverFound s.now c before.now behind.now }
+    ensures { result ≡ receiver_found s.now c before.now behind.now }
 {
     let a = cursor::tag_by(c, s, b"</MessageCreateDateTime><ReceiverID>");
     let k = cursor::fixed_by(a, s, 10);

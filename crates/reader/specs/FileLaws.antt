@@ -8,7 +8,7 @@ use Rattle.formats.specs.FormatLaws.{got-bad}
 use Rattle.formats.specs.Combine.{strip}
 use Rattle.formats.specs.Words.{words_parse}
 use Rattle.formats.specs.Name.{name_byte, span}
-use Rattle.formats.specs.RunLaws.{run_map, run_seq, run_pre, run_post}
+use Rattle.formats.specs.RunLaws.{run-map, run-seq, run-pre, run-post}
 use Rattle.formats.specs.PlaceInner.{Parsed, left}
 use Rattle.formats.specs.PlaceLaws.{parsed, not_there}
 use Rattle.formats.specs.declared.Mark.{Mark}
@@ -50,14 +50,14 @@ pub root-first : (s : List ℕ) (m : Mark) (q : ℕ) → Parsed (strip (opening 
 unfolding kind_form roots kind_of
 root-first s m q h =
     let p = words-first (opening (root Toe01)) (opening (root Toe02) ∷ opening (root Toe03) ∷ []) s m q h in
-    record { run = run_map kind_of p.run; within = p.within }
+    record { run = run-map kind_of p.run; within = p.within }
 
 pub root-rest : (s : List ℕ) (m r : Mark) (n : ℕ) → Parsed (strip (opening (root Toe01))) s m No tt → Parsed (words_parse (opening (root Toe02) ∷ opening (root Toe03) ∷ [])) s m r n
     → Parsed kind_form.parse s m r (kind_of (suc n))
 unfolding kind_form roots
 root-rest s m r n h k =
     let p = words-rest (opening (root Toe01)) (opening (root Toe02) ∷ opening (root Toe03) ∷ []) s m r n h k in
-    record { run = run_map kind_of p.run; within = p.within }
+    record { run = run-map kind_of p.run; within = p.within }
 
 pub kind-second : (n : ℕ) → n ≡ 0 → Toe02 ≡ kind_of (suc n)
 unfolding kind_of
@@ -76,9 +76,9 @@ file-parsed : {s : List ℕ} {a b c d e f g h i j l o : Mark} {k : Kind} {receiv
 unfolding file_body
 file-parsed p q =
     record {
-      run = run_seq _ p.kind.run (run_pre (opening "TransactionID") p.before_id.run
-          (run_seq _ (run_post _ p.id.run p.before_moment.run) (run_seq _ (run_post _ p.moment.run p.before_receiver.run)
-          (run_seq _ (run_post _ p.receiver.run p.before_count.run) (run_seq _ (run_post _ p.count.run p.behind_count.run) (run_post _ q.run p.end.run))))));
+      run = run-seq _ p.kind.run (run-pre (opening "TransactionID") p.before_id.run
+          (run-seq _ (run-post _ p.id.run p.before_moment.run) (run-seq _ (run-post _ p.moment.run p.before_receiver.run)
+          (run-seq _ (run-post _ p.receiver.run p.before_count.run) (run-seq _ (run-post _ p.count.run p.behind_count.run) (run-post _ q.run p.end.run))))));
       within = p.end.within;
     }
 
@@ -96,8 +96,8 @@ module _ {s : List ℕ} {a b c d e f g h i j l o : Mark} {k : Kind} {receiver n 
         places = placed p;
       }
 
-  pub filed_fills : {before after : List ℕ} → Fills (partners_form k n).parse (flat_map rows_of_partner) s j 0 before after → Fills file_body.parse rows_of_parts s (At 0) 0 before after
-  filed_fills fills =
+  pub filed-fills : {before after : List ℕ} → Fills (partners_form k n).parse (flat_map rows_of_partner) s j 0 before after → Fills file_body.parse rows_of_parts s (At 0) 0 before after
+  filed-fills fills =
       let u = unview (folded adding ((0, 0), 0)) [] (partners_form k n).parse s j l t p.partners in
       fills-within (partners_form k n).parse file_body.parse rows_of_parts (closing (root k)) u.value (k, (span name_byte (left s b), (take 29 (left s d), (receiver, (n, u.value)))))
       fills (file-parsed p u.parsed) u.parsed p.end (λ q e. sym (rows-filled u.value))

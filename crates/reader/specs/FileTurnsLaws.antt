@@ -11,8 +11,8 @@ use Rattle.formats.specs.declared.Mark.TheVariants.{At, No}
 use Rattle.cursor.specs.declared.Cursor.{Cursor}
 use Rattle.cursor.specs.declared.Read.{Read}
 use Rattle.cursor.specs.MovesInner.{standing, cursor_at, past_tag, past_word}
-use Rattle.cursor.specs.MovesLaws.{stands_at, tag_stands}
-use Rattle.cursor.specs.ParsedLaws.{tag_parsed, word_parsed}
+use Rattle.cursor.specs.MovesLaws.{stands_at, tag-stands}
+use Rattle.cursor.specs.ParsedLaws.{tag-parsed, word-parsed}
 use Rattle.kinds.specs.declared.Kind.{Kind}
 use Rattle.kinds.specs.declared.Kind.TheVariants.{Toe01, Toe02, Toe03}
 use Rattle.message.specs.Bytes.{opening, closing, ending, root, counter}
@@ -23,14 +23,14 @@ use Rattle.passages.specs.declared.ReceiverFound.{ReceiverFound}
 use Rattle.reader.specs.declared.partners.PartnersTodo.{PartnersTodo}
 use Rattle.reader.specs.declared.file.Root.{Root}
 use Rattle.reader.specs.declared.file.Receiver.{Receiver}
-use Rattle.passages.specs.PassagesInner.{messageFound, messageTo, receiverFound}
-use Rattle.reader.specs.PassagesLaws.{MessageSteps, message_steps, receiver_steps}
+use Rattle.passages.specs.PassagesInner.{message_found, message_to, receiver_found}
+use Rattle.reader.specs.PassagesLaws.{MessageSteps, message-steps, receiver-steps}
 use Rattle.reader.specs.FileTurnsInner.{ReceiverSteps, Rooted, Received, root_end, FileDone}
 use Rattle.series_reader.specs.ReadingInner.{folded}
 use Rattle.reader.specs.PartnersInner.{adding}
 use Rattle.series_reader.specs.FillingInner.{Fills, rows_of_partner}
 use Rattle.reader.specs.PlacesLaws.{Steps}
-use Rattle.reader.specs.FileLaws.{root-first, root-rest, filed, filed_fills}
+use Rattle.reader.specs.FileLaws.{root-first, root-rest, filed, filed-fills}
 use Rattle.reader.specs.PartnerTurnsInner.{PartnersWhole}
 
 -- ---- the root
@@ -38,9 +38,9 @@ use Rattle.reader.specs.PartnerTurnsInner.{PartnersWhole}
 pub root-found : (s : List ℕ) (c a : Cursor) → a ≡ past_tag s (bytes "<AggregatedToEVolumesForFSP>") c → a.good ≡ true → Parsed kind_form.parse s (standing s c) (standing s a) Toe01
 unfolding opening root bytes
 root-found s c a e g =
-    let i = tag_stands s c (bytes "<AggregatedToEVolumesForFSP>") (rw e at g) in
+    let i = tag-stands s c (bytes "<AggregatedToEVolumesForFSP>") (rw e at g) in
     rw e (subst (λ (m : Mark). Parsed kind_form.parse s (standing s c) m Toe01) (sym i)
-    (root-first s (standing s c) (past_tag s (bytes "<AggregatedToEVolumesForFSP>") c).at (subst (λ (m : Mark). Parsed (strip (opening (root Toe01))) s (standing s c) m tt) i (tag_parsed s c (bytes "<AggregatedToEVolumesForFSP>")))))
+    (root-first s (standing s c) (past_tag s (bytes "<AggregatedToEVolumesForFSP>") c).at (subst (λ (m : Mark). Parsed (strip (opening (root Toe01))) s (standing s c) m tt) i (tag-parsed s c (bytes "<AggregatedToEVolumesForFSP>")))))
 
 pub root-other : (s : List ℕ) (c a : Cursor) → a ≡ past_tag s (bytes "<AggregatedToEVolumesForFSP>") c → a.good ≡ false → (w : Read) → w ≡ past_word s (bytes "<AggregatedToEVolumesForSupplier>") (bytes "<IndividualToEVolumesForSupplier>") c
     → Parsed kind_form.parse s (standing s c) (standing s w.to) (kind_of (suc w.value))
@@ -48,40 +48,40 @@ unfolding opening root bytes
 root-other s c a e g w f =
     let i : standing s (past_tag s (bytes "<AggregatedToEVolumesForFSP>") c) ≡ No = rw (rw e at g) in
     rw f (root-rest s (standing s c) (standing s (past_word s (bytes "<AggregatedToEVolumesForSupplier>") (bytes "<IndividualToEVolumesForSupplier>") c).to) (past_word s (bytes "<AggregatedToEVolumesForSupplier>") (bytes "<IndividualToEVolumesForSupplier>") c).value
-    (subst (λ (m : Mark). Parsed (strip (opening (root Toe01))) s (standing s c) m tt) i (tag_parsed s c (bytes "<AggregatedToEVolumesForFSP>")))
-    (word_parsed s c (bytes "<AggregatedToEVolumesForSupplier>") (bytes "<IndividualToEVolumesForSupplier>")))
+    (subst (λ (m : Mark). Parsed (strip (opening (root Toe01))) s (standing s c) m tt) i (tag-parsed s c (bytes "<AggregatedToEVolumesForFSP>")))
+    (word-parsed s c (bytes "<AggregatedToEVolumesForSupplier>") (bytes "<IndividualToEVolumesForSupplier>")))
 
 -- ---- the receiver
 
 pub received : (s : List ℕ) (r : Root) (c : Cursor) (m b : Mark) (f : Cursor) (v : ReceiverFound) → m ≡ standing s c → Parsed (exactly_parse 29 is_moment) s m b (take 29 (left s m)) → f ≡ cursor_at b
-    → v ≡ receiverFound s f (closing "ReceiverID" ++ opening (counter r.kind)) (ending (counter r.kind))
+    → v ≡ receiver_found s f (closing "ReceiverID" ++ opening (counter r.kind)) (ending (counter r.kind))
     → Received s r c v.to (record { receiver = v.receiver; todo = record { kind = r.kind; left = v.count; low = 0; year = 0; month = 0; rows = 0 } })
 received s r c m b f v e p i j =
     record {
       behind = b;
       moment = rw e at p;
-      receiver = rw j (subst (λ (k : Mark). ReceiverSteps s k (standing s found.to) r.kind found.receiver found.count) (ap (standing s) i ∙ stands_at s b p.within) (receiver_steps s f r.kind));
+      receiver = rw j (subst (λ (k : Mark). ReceiverSteps s k (standing s found.to) r.kind found.receiver found.count) (ap (standing s) i ∙ stands_at s b p.within) (receiver-steps s f r.kind));
       todo = refl;
     }
   where
     found : ReceiverFound
-    found = receiverFound s f (closing "ReceiverID" ++ opening (counter r.kind)) (ending (counter r.kind))
+    found = receiver_found s f (closing "ReceiverID" ++ opening (counter r.kind)) (ending (counter r.kind))
 
 -- ---- the end
 
 root-end : (s : List ℕ) (k : Kind) (c : Cursor) → Parsed (strip (closing (root k))) s (standing s c) (standing s (root_end s k c)) tt
 unfolding closing ending root bytes
-root-end s Toe01 c = tag_parsed s c (bytes "</AggregatedToEVolumesForFSP>")
-root-end s Toe02 c = tag_parsed s c (bytes "</AggregatedToEVolumesForSupplier>")
-root-end s Toe03 c = tag_parsed s c (bytes "</IndividualToEVolumesForSupplier>")
+root-end s Toe01 c = tag-parsed s c (bytes "</AggregatedToEVolumesForFSP>")
+root-end s Toe02 c = tag-parsed s c (bytes "</AggregatedToEVolumesForSupplier>")
+root-end s Toe03 c = tag-parsed s c (bytes "</IndividualToEVolumesForSupplier>")
 
-pub file-done : (s ys : List ℕ) (h₁ : Cursor) (r : Root) → Rooted s (cursor_at (At 0)) h₁ r → (h₂ : Cursor) (m : MessageFound) → (h₂ ≡ messageTo s h₁) × (m ≡ messageFound s h₁)
+pub file-done : (s ys : List ℕ) (h₁ : Cursor) (r : Root) → Rooted s (cursor_at (At 0)) h₁ r → (h₂ : Cursor) (m : MessageFound) → (h₂ ≡ message_to s h₁) × (m ≡ message_found s h₁)
     → (h₃ : Cursor) (v : Receiver) → Received s r h₂ h₃ v → (h₄ : Cursor) (told : PartnersTodo) (zs : List ℕ) → PartnersWhole s v.todo h₃ ys h₄ told zs → (h₅ : Cursor) → h₅ ≡ root_end s r.kind h₄ → length s < 2 ^ 64
     → FileDone s ys (record { root = r; receiver = v.receiver; told = told; message = m; to = h₅ }) zs
-file-done s ys h₁ r e₁ h₂ m e₂ h₃ v e₃ h₄ told zs e₄ h₅ e₅ long = (filed steps, filed_fills steps whole.1)
+file-done s ys h₁ r e₁ h₂ m e₂ h₃ v e₃ h₄ told zs e₄ h₅ e₅ long = (filed steps, filed-fills steps whole.1)
   where
     message : MessageSteps s (standing s h₁) (standing s m.id) (standing s m.end) (standing s m.moment)
-    message = rw e₂.1 (message_steps s h₁)
+    message = rw e₂.1 (message-steps s h₁)
 
     same : h₂ ≡ m.moment
     same = rw (e₂.0, e₂.1)

@@ -4,7 +4,7 @@ use Rattle.std.proofs.Math.Path.{sym, ap}
 use Rattle.std.proofs.Common.{◌∙◌, length-append, drop_of_length-le, drop-cons, arith}
 use mathlib.Core.List.{List, [], ◌∷◌, ◌++◌}
 use Rattle.formats.specs.Format.{Res, got, bad, read_all}
-use Rattle.formats.specs.FormatLaws.{got-bad, sound_of}
+use Rattle.formats.specs.FormatLaws.{got-bad, sound-of}
 use Rattle.formats.specs.Combine.{map_parse}
 use Rattle.formats.specs.PlaceInner.{Parsed}
 use Rattle.formats.specs.declared.Mark.TheVariants.{At, No}
@@ -18,7 +18,7 @@ use Rattle.message.specs.MessageForm.{message_form}
 use Rattle.message.specs.Rows.{rows_of, Message, message}
 use Rattle.message.specs.Messages.{read_message}
 use Rattle.message.specs.Calls.{id_place, moment_place, facts_of, read_answer}
-use Rattle.message.specs.CallsLaws.{says_no_file, says_short, says_file}
+use Rattle.message.specs.CallsLaws.{says-no-file, says-short, says-file}
 use Rattle.series_reader.specs.ReadingInner.{folded}
 use Rattle.reader.specs.PartnersInner.{adding}
 use Rattle.reader.specs.FileLaws.{partners-rows, partners-month}
@@ -32,7 +32,7 @@ module _ (s : List ℕ) where
 
   valid-file : (p : Parts) (r : List ℕ) → file_body.parse s ≡ got p r → IsFile (file_of p)
   unfolding file map_parse
-  valid-file p r e = (sound_of file s (file_of p) r (rw e)).1
+  valid-file p r e = (sound-of file s (file_of p) r (rw e)).1
 
   no_body : file_body.parse s ≡ bad → read_message s ≡ bad
   unfolding read_all message_form file map_parse
@@ -45,14 +45,14 @@ module _ (s : List ℕ) where
 -- ---- 13
 
 module _ (s : List ℕ) (lent : ℕ) (p : Parts) where
-  pub judged_none : Parsed file_body.parse s (At 0) No p → Refused 13 0 ≡ read_answer s lent
-  judged_none h = says_no_file s lent (no_body s h.run.run)
+  pub judged-none : Parsed file_body.parse s (At 0) No p → Refused 13 0 ≡ read_answer s lent
+  judged-none h = says-no-file s lent (no_body s h.run.run)
 
   -- bytes are left behind the file
-  pub judged_left : (q : ℕ) → Parsed file_body.parse s (At 0) (At q) p → (q ≡ length s → ⊥) → Refused 13 0 ≡ read_answer s lent
-  judged_left q h n =
+  pub judged-left : (q : ℕ) → Parsed file_body.parse s (At 0) (At q) p → (q ≡ length s → ⊥) → Refused 13 0 ≡ read_answer s lent
+  judged-left q h n =
       let k : q < length s = omega (arith, h.within, n) in
-      says_no_file s lent (bytes_left s p (get_or s q 0) (drop (suc q) s) (h.run.run ∙ ap (got p) (drop-cons s q 0 k)))
+      says-no-file s lent (bytes_left s p (get_or s q 0) (drop (suc q) s) (h.run.run ∙ ap (got p) (drop-cons s q 0 k)))
 
 -- ---- a file
 
@@ -64,22 +64,22 @@ module _ (s : List ℕ) (q : ℕ) (k : Kind) (id moment : List ℕ) (receiver co
   body-read : file_body.parse s ≡ got parts []
   body-read = h.run.run ∙ ap (got parts) (drop_of_length-le s {i = q} (omega arith))
 
-  abbrev judgedMessage : Message
-  judgedMessage = message (file_of parts)
+  abbrev judged_message : Message
+  judged_message = message (file_of parts)
 
-  message-read : read_message s ≡ got judgedMessage []
+  message-read : read_message s ≡ got judged_message []
   message-read = whole-file s parts body-read
 
   module _ (lent : ℕ) (t : (ℕ × ℕ) × ℕ) (is : folded adding ((0, 0), 0) partners ≡ t) where
     row-count : length (rows_of partners) ≡ t.1
     row-count = omega (arith, partners-rows ((0, 0), 0) partners, ap (λ (x : (ℕ × ℕ) × ℕ). x.1) is)
 
-    pub judged_short : lent < 6 * t.1 → Refused 10 0 ≡ read_answer s lent
+    pub judged-short : lent < 6 * t.1 → Refused 10 0 ≡ read_answer s lent
     unfolding message file_of
-    judged_short l = says_short s lent judgedMessage [] message-read (omega (arith, row-count))
+    judged-short l = says-short s lent judged_message [] message-read (omega (arith, row-count))
 
     judged-facts : (i n p : ℕ) → i ≡ id_place k → n ≡ length id → p ≡ moment_place k id
-        → facts_of judgedMessage ≡ record { kind = k; receiver = receiver; year = t.0.0; month = t.0.1; rows = t.1; id = i; id_length = n; moment = p }
+        → facts_of judged_message ≡ record { kind = k; receiver = receiver; year = t.0.0; month = t.0.1; rows = t.1; id = i; id_length = n; moment = p }
     unfolding facts_of message file_of
     judged-facts i n p a b c =
         let month = sym (partners-month (file_of parts) (valid-file s parts [] body-read)) ∙ ap (λ (x : (ℕ × ℕ) × ℕ). x.0) is in
@@ -94,10 +94,10 @@ module _ (s : List ℕ) (q : ℕ) (k : Kind) (id moment : List ℕ) (receiver co
           moment = sym c j;
         }
 
-    pub judged_file : (i n p : ℕ) → i ≡ id_place k → n ≡ length id → p ≡ moment_place k id → 6 * t.1 ≤ lent
+    pub judged-file : (i n p : ℕ) → i ≡ id_place k → n ≡ length id → p ≡ moment_place k id → 6 * t.1 ≤ lent
         → File (record { kind = k; receiver = receiver; year = t.0.0; month = t.0.1; rows = t.1; id = i; id_length = n; moment = p }) ≡ read_answer s lent
     unfolding message file_of
-    judged_file i n p a b c l = sym (ap File (judged-facts i n p a b c)) ∙ says_file s lent judgedMessage [] message-read (omega (arith, row-count))
+    judged-file i n p a b c l = sym (ap File (judged-facts i n p a b c)) ∙ says-file s lent judged_message [] message-read (omega (arith, row-count))
 
 -- ---- the rows of what was judged a file
 

@@ -6,7 +6,7 @@ use Rattle.formats.specs.FormatLaws.{got-bad}
 use Rattle.formats.specs.Combine.{strip, strip-sound, strip-complete, pre, post, seq, pre_parse, post_parse, seq_parse, map_parse}
 use Rattle.formats.specs.Exactly.{fixed_digits}
 use Rattle.formats.specs.Words.{words, words_parse}
-use Rattle.formats.specs.RunLaws.{run_pre, run_post, run_seq, run_map}
+use Rattle.formats.specs.RunLaws.{run-pre, run-post, run-seq, run-map}
 use Rattle.formats.specs.PlaceInner.{Within, Parsed}
 use Rattle.formats.specs.declared.Mark.{Mark}
 use Rattle.formats.specs.declared.Mark.TheVariants.{At, No}
@@ -15,8 +15,8 @@ use Rattle.kinds.specs.declared.Kind.TheVariants.{Toe01, Toe02, Toe03}
 use Rattle.message.specs.Contents.{TimeSeries}
 use Rattle.message.specs.Bytes.{opening, ending, closing, group, partner, digits, supplies}
 use Rattle.message.specs.SeriesForm.{counted, apart-supplies}
-use Rattle.message.specs.SeriesListForm.{seriesList}
-use Rattle.message.specs.PartnerForm.{ownPartner, ownPartnerBody, sharedPartner, sharedPartnerBody, partner_form}
+use Rattle.message.specs.SeriesListForm.{series_list}
+use Rattle.message.specs.PartnerForm.{own_partner, own_partner_body, shared_partner, shared_partner_body, partner_form}
 use Rattle.cursor.specs.MovesInner.{keep}
 use Rattle.series_reader.specs.ItemsLaws.{run-same, viewed, read-long}
 use Rattle.series_reader.specs.ReadingInner.{folded}
@@ -42,7 +42,7 @@ direction_counter = post counted (ending "DirectionCounter")
 
 pub counter-parsed : (s : List ℕ) (m a b : Mark) (n : ℕ) → Parsed counted.parse s m a n → Parsed (strip (ending "DirectionCounter")) s a b tt → Parsed direction_counter.parse s m b n
 unfolding direction_counter
-counter-parsed s m a b n h i = record { run = run_post _ h.run i.run; within = i.within }
+counter-parsed s m a b n h i = record { run = run-post _ h.run i.run; within = i.within }
 
 -- ---- a partner's head: number, supply direction (0 where each series has its own), how many series follow
 
@@ -71,19 +71,19 @@ head_parse Toe02 = map_parse of_company (company_head Toe02).parse
 head_parse Toe03 = access_form.parse
 
 module _ (s : List ℕ) {m a b c d : Mark} {number n : ℕ} where
-  pub company_parsed : (before behind : List ℕ) → Parsed (strip before) s m a tt → Parsed (fixed_digits 10).parse s a b number → Parsed (strip behind) s b c tt
+  pub company-parsed : (before behind : List ℕ) → Parsed (strip before) s m a tt → Parsed (fixed_digits 10).parse s a b number → Parsed (strip behind) s b c tt
       → Parsed direction_counter.parse s c d n → Parsed (company_form before behind).parse s m d (number, n)
   unfolding company_form
-  company_parsed before behind i j k l = record { run = run_pre before i.run (run_seq _ (run_post _ j.run k.run) l.run); within = l.within }
+  company-parsed before behind i j k l = record { run = run-pre before i.run (run-seq _ (run-post _ j.run k.run) l.run); within = l.within }
 
 module _ (s : List ℕ) {m a b c d e f : Mark} {number supply n : ℕ} where
-  pub access_parsed : Parsed (strip (opening (group Toe03) ++ opening (partner Toe03))) s m a tt → Parsed (fixed_digits 18).parse s a b number
+  pub access-parsed : Parsed (strip (opening (group Toe03) ++ opening (partner Toe03))) s m a tt → Parsed (fixed_digits 18).parse s a b number
       → Parsed (strip (closing (partner Toe03) ++ opening "SupplyDirection")) s b c tt → Parsed (words_parse supplies) s c d supply
       → Parsed (strip (closing "SupplyDirection" ++ opening "DirectionCounter")) s d e tt → Parsed direction_counter.parse s e f n → Parsed access_form.parse s m f (number, (supply, n))
   unfolding access_form
-  access_parsed i j k l o p =
+  access-parsed i j k l o p =
       record {
-        run = run_pre (opening (group Toe03) ++ opening (partner Toe03)) i.run (run_seq _ (run_post _ j.run k.run) (run_seq _ (run_post _ l.run o.run) p.run));
+        run = run-pre (opening (group Toe03) ++ opening (partner Toe03)) i.run (run-seq _ (run-post _ j.run k.run) (run-seq _ (run-post _ l.run o.run) p.run));
         within = p.within;
       }
 
@@ -132,7 +132,7 @@ module _ {T : Type 0} (A C : List ℕ) (f g h : List ℕ → Res ℕ) (list : �
 
 pub partner-split : {T : Type 0} (k : Kind) (seen : ℕ × ℕ) (view : List TimeSeries → T) (s : List ℕ)
     → map_parse (numbered view) (partner_form k seen).parse s ≡ split_parse (head_parse k) (λ x n. (list_form k x n seen).parse) (closing (group k)) view s
-unfolding partner_form ownPartner ownPartnerBody sharedPartner sharedPartnerBody head_parse company_form access_form direction_counter list_form seriesList series_form digits
+unfolding partner_form own_partner own_partner_body shared_partner shared_partner_body head_parse company_form access_form direction_counter list_form series_list series_form digits
 partner-split Toe01 seen view s =
     own_split (opening (group Toe01) ++ opening (partner Toe01)) (closing (group Toe01)) (post (fixed_digits 10) (closing (partner Toe01) ++ opening "DirectionCounter")).parse
     direction_counter.parse (λ x n. (list_form Toe01 x n seen).parse) view s _ refl _ refl _ refl _ refl _ refl
@@ -149,7 +149,7 @@ pub partner-seen : {T : Type 0} (k : Kind) (seen : ℕ × ℕ) (view : List Time
     → Parsed (map_parse (numbered view) (partner_form k seen).parse) s m c (h.0, v)
 partner-seen {T} k seen view s m a b c h v i j l =
     record {
-      run = run-same (λ s. sym (partner-split k seen view s)) (run_map (λ (p : Head × T). (p.0.0, p.1)) (run_seq _ i.run (run_post _ j.run l.run)));
+      run = run-same (λ s. sym (partner-split k seen view s)) (run-map (λ (p : Head × T). (p.0.0, p.1)) (run-seq _ i.run (run-post _ j.run l.run)));
       within = l.within;
     }
 
@@ -179,4 +179,4 @@ room-keep false m rows h = tt
 
 pub of-company : (before behind s : List ℕ) (m r : Mark) (number count : ℕ) → Parsed (company_form before behind).parse s m r (number, count)
     → Parsed (map_parse of_company (company_form before behind).parse) s m r (number, (0, count))
-of-company before behind s m r number count p = record { run = run_map of_company p.run; within = p.within }
+of-company before behind s m r number count p = record { run = run-map of_company p.run; within = p.within }

@@ -15,7 +15,7 @@ use Rattle.series_reader.specs.declared.series.SeriesTodo.{SeriesTodo}
 use Rattle.reader.specs.declared.partners.Head.{Head}
 use Rattle.reader.specs.declared.partners.PartnersTodo.{PartnersTodo}
 use Rattle.reader.specs.declared.partners.PartnerSeen.{PartnerSeen}
-use Rattle.passages.specs.PassagesInner.{companyFound, accessFound}
+use Rattle.passages.specs.PassagesInner.{company_found, access_found}
 use Rattle.series_reader.specs.ReadingInner.{folded}
 use Rattle.series_reader.specs.SeriesInner.{Room}
 use Rattle.reader.specs.PartnersInner.{partner_kept, partner_item, adding}
@@ -24,10 +24,10 @@ use Rattle.series_reader.specs.FillingInner.{Fills, rows_of_partner}
 -- ---- the head and the end of a partner
 
 abbrev pub company_head : List ℕ → Cursor → List ℕ → List ℕ → Head
-company_head s c t u = record { number = (companyFound s c t u).number; supply = 0; count = (companyFound s c t u).count; to = (companyFound s c t u).to }
+company_head s c t u = record { number = (company_found s c t u).number; supply = 0; count = (company_found s c t u).count; to = (company_found s c t u).to }
 
 abbrev pub access_head : List ℕ → Cursor → Head
-access_head s c = record { number = (accessFound s c).number; supply = (accessFound s c).supply; count = (accessFound s c).count; to = (accessFound s c).to }
+access_head s c = record { number = (access_found s c).number; supply = (access_found s c).supply; count = (access_found s c).count; to = (access_found s c).to }
 
 abbrev pub head_of : List ℕ → Kind → Cursor → Head
 head_of s Toe01 c = company_head s c (bytes "<SupplierSeries><SupplierEnterpriseNumber>") (bytes "</SupplierEnterpriseNumber><DirectionCounter>")

@@ -13,23 +13,23 @@ use Rattle.formats.specs.PlaceLaws.{parsed, not_there}
 use Rattle.cursor.specs.declared.Cursor.{Cursor}
 use Rattle.cursor.specs.MovesInner.{keep, standing, past_tag}
 use Rattle.cursor.specs.MovesLaws.{standing-within, stands_at}
-use Rattle.cursor.specs.ParsedLaws.{tag_parsed, fixed_fits}
+use Rattle.cursor.specs.ParsedLaws.{tag-parsed, fixed-fits}
 use Rattle.kinds.specs.declared.Kind.{Kind}
 use Rattle.kinds.specs.declared.Kind.TheVariants.{Toe01, Toe02, Toe03}
 use Rattle.message.specs.Bytes.{opening, closing, ending, group, partner}
 use Rattle.message.specs.PartnerForm.{partner_form}
 use Rattle.series_reader.specs.declared.series.SeriesTodo.{SeriesTodo}
 use Rattle.reader.specs.declared.partners.PartnersTodo.{PartnersTodo}
-use Rattle.reader.specs.PassagesLaws.{company_read, access_read, access_fits}
+use Rattle.reader.specs.PassagesLaws.{company-read, access-read, access-fits}
 use Rattle.series_reader.specs.ReadingLaws.{parsed-no}
 use Rattle.series_reader.specs.ItemsLaws.{run-same}
 use Rattle.series_reader.specs.SeriesInner.{Room}
 use Rattle.reader.specs.PartnerLaws.{Head, head_parse, of-company, partner-read, tag_form, room-on, head-room, room-keep}
 use Rattle.reader.specs.PartnersInner.{partner_kept, partner_item}
-use Rattle.reader.specs.PartnersLaws.{next-partner, partnersKept, partners_start, partners_end, partners_bad, partners_step}
+use Rattle.reader.specs.PartnersLaws.{next-partner, partners_kept, partners-start, partners-end, partners-bad, partners-step}
 use Rattle.series_reader.specs.FillingInner.{Fills, rows_of_partner}
 use Rattle.series_reader.specs.FillingLaws.{fills-no}
-use Rattle.reader.specs.PartnersFillingLaws.{partner-fills, next-partner-fills, partners_from, partners_filled, partners_fill_none, partners_fill_bad, partners_fill_step}
+use Rattle.reader.specs.PartnersFillingLaws.{partner-fills, next-partner-fills, partners_from, partners-filled, partners-fill-none, partners-fill-bad, partners-fill-step}
 use Rattle.series_reader.specs.SeriesTurnsInner.{SeriesWhole}
 use Rattle.series_reader.specs.SeriesTurnsLaws.{from-none}
 use Rattle.reader.specs.PartnerTurnsInner.{head_of, head_todo, group_end, PartnerAfter, PartnerEnd, PartnerOn, PartnerTurned, PartnerStep, PartnersWhole}
@@ -40,22 +40,22 @@ head_read : (s : List ℕ) (k : Kind) (c : Cursor) → Parsed (head_parse k) s (
 unfolding head_parse group partner opening closing ending bytes
 head_read s Toe01 c =
     of-company (bytes "<SupplierSeries><SupplierEnterpriseNumber>") (bytes "</SupplierEnterpriseNumber><DirectionCounter>") s (standing s c) (standing s (head_of s Toe01 c).to) (head_of s Toe01 c).number (head_of s Toe01 c).count
-    (company_read s c (bytes "<SupplierSeries><SupplierEnterpriseNumber>") (bytes "</SupplierEnterpriseNumber><DirectionCounter>"))
+    (company-read s c (bytes "<SupplierSeries><SupplierEnterpriseNumber>") (bytes "</SupplierEnterpriseNumber><DirectionCounter>"))
 head_read s Toe02 c =
     of-company (bytes "<FspSeries><FSPEnterpriseNumber>") (bytes "</FSPEnterpriseNumber><DirectionCounter>") s (standing s c) (standing s (head_of s Toe02 c).to) (head_of s Toe02 c).number (head_of s Toe02 c).count
-    (company_read s c (bytes "<FspSeries><FSPEnterpriseNumber>") (bytes "</FSPEnterpriseNumber><DirectionCounter>"))
-head_read s Toe03 c = access_read s c
+    (company-read s c (bytes "<FspSeries><FSPEnterpriseNumber>") (bytes "</FSPEnterpriseNumber><DirectionCounter>"))
+head_read s Toe03 c = access-read s c
 
 head-fits : (s : List ℕ) (k : Kind) (c : Cursor) → ((head_of s k c).supply ≤ 1) × ((head_of s k c).number < 1000000000000000000)
-head-fits s Toe01 c = (omega arith, omega (arith, fixed_fits s (past_tag s (bytes "<SupplierSeries><SupplierEnterpriseNumber>") c) 10 (omega arith) (omega arith)))
-head-fits s Toe02 c = (omega arith, omega (arith, fixed_fits s (past_tag s (bytes "<FspSeries><FSPEnterpriseNumber>") c) 10 (omega arith) (omega arith)))
-head-fits s Toe03 c = (access_fits s c, omega (arith, fixed_fits s (past_tag s (bytes "<SDPSupplySeries><SDPSupply>") c) 18 (omega arith) (omega arith)))
+head-fits s Toe01 c = (omega arith, omega (arith, fixed-fits s (past_tag s (bytes "<SupplierSeries><SupplierEnterpriseNumber>") c) 10 (omega arith) (omega arith)))
+head-fits s Toe02 c = (omega arith, omega (arith, fixed-fits s (past_tag s (bytes "<FspSeries><FSPEnterpriseNumber>") c) 10 (omega arith) (omega arith)))
+head-fits s Toe03 c = (access-fits s c, omega (arith, fixed-fits s (past_tag s (bytes "<SDPSupplySeries><SDPSupply>") c) 18 (omega arith) (omega arith)))
 
 group-end : (s : List ℕ) (k : Kind) (c : Cursor) → Parsed (strip (closing (group k))) s (standing s c) (standing s (group_end s k c)) tt
 unfolding closing ending group bytes
-group-end s Toe01 c = tag_parsed s c (bytes "</SupplierSeries>")
-group-end s Toe02 c = tag_parsed s c (bytes "</FspSeries>")
-group-end s Toe03 c = tag_parsed s c (bytes "</SDPSupplySeries>")
+group-end s Toe01 c = tag-parsed s c (bytes "</SupplierSeries>")
+group-end s Toe02 c = tag-parsed s c (bytes "</FspSeries>")
+group-end s Toe03 c = tag-parsed s c (bytes "</SDPSupplySeries>")
 
 -- ---- one partner
 
@@ -105,19 +105,19 @@ partner-done s t h ys h₁ u e₁ h₂ w zs e₂ h₃ t' e₃ long = (e₃.0, λ
 module _ (s : List ℕ) (k : Kind) where
   -- so many partners from number low on, behind a month and so many rows: read at m₀ they end at m, tell v, and leave o of the numbers d
   abbrev pub Rest : Mark → ℕ → ℕ → (ℕ × ℕ) × ℕ → List ℕ → Mark → (ℕ × ℕ) × ℕ → List ℕ → Type 0
-  Rest m₀ n low t d m v o = Parsed (partnersKept k n low t) s m₀ m v × Fills (partners_from k n low t.0) (flat_map rows_of_partner) s m₀ t.1 d o
+  Rest m₀ n low t d m v o = Parsed (partners_kept k n low t) s m₀ m v × Fills (partners_from k n low t.0) (flat_map rows_of_partner) s m₀ t.1 d o
 
   rest-last : (m : Mark) (low : ℕ) (t : (ℕ × ℕ) × ℕ) (d : List ℕ) → Within s m → Rest m 0 low t d m t d
-  rest-last (At p) low t d w = (parsed (partnersKept k 0 low t) s p t p (partners_end k 0 0 low t (drop p s) (omega arith)) w, partners_fill_none k 0 0 low t s p d (omega arith))
-  rest-last No low t d w = (parsed-no (partnersKept k 0 low t) s t, fills-no refl)
+  rest-last (At p) low t d w = (parsed (partners_kept k 0 low t) s p t p (partners-end k 0 0 low t (drop p s) (omega arith)) w, partners-fill-none k 0 0 low t s p d (omega arith))
+  rest-last No low t d w = (parsed-no (partners_kept k 0 low t) s t, fills-no refl)
 
   -- the next one isn't there
   rest-none : (m₀ : Mark) (n low : ℕ) (t : (ℕ × ℕ) × ℕ) (d : List ℕ) (v : (ℕ × ℕ) × ℕ) (o : List ℕ) (u : ℕ × ((ℕ × ℕ) × ℕ)) → 0 < n → Parsed (map_parse (partner_kept t) (partner_item k (low, t.0)).parse) s m₀ No u → length o ≡ length d
       → Rest m₀ n low t d No v o
-  rest-none No n low t d v o u i p l = (parsed-no (partnersKept k n low t) s v, fills-no l)
+  rest-none No n low t d v o u i p l = (parsed-no (partners_kept k n low t) s v, fills-no l)
   rest-none (At p) n low t d v o u i r l = (
-    not_there (partnersKept k n low t) s p v (rw sub-zero at (partners_bad k n 0 low t (drop p s) i r.run.run)),
-    rw sub-zero at (partners_fill_bad k n 0 low t s p d o i r.run.run l),
+    not_there (partners_kept k n low t) s p v (rw sub-zero at (partners-bad k n 0 low t (drop p s) i r.run.run)),
+    rw sub-zero at (partners-fill-bad k n 0 low t s p d o i r.run.run l),
   )
 
   -- the next one is there, and its rows are stored
@@ -125,8 +125,8 @@ module _ (s : List ℕ) (k : Kind) where
       → Parsed (map_parse (partner_kept t) (partner_item k (low, t.0)).parse) s m₀ (At q) u → Fills (partner_item k (low, t.0)).parse rows_of_partner s m₀ t.1 d d' → Rest (At q) (n - 1) (u.0 + 1) u.1 d' m v o → Rest m₀ n low t d m v o
   rest-one No n low t d d' m v o q u i p f r = absurd (got-bad (sym p.run.run))
   rest-one (At p) n low t d d' m v o q u i e f r = (
-    record { run = record { run = rw sub-zero at (partners_step k n 0 low t (drop p s) u (drop q s) i e.run.run) ∙ r.0.run.run }; within = r.0.within },
-    rw sub-zero at (partners_fill_step k n 0 low t s p d u i e.run.run f r.1),
+    record { run = record { run = rw sub-zero at (partners-step k n 0 low t (drop p s) u (drop q s) i e.run.run) ∙ r.0.run.run }; within = r.0.within },
+    rw sub-zero at (partners-fill-step k n 0 low t s p d u i e.run.run f r.1),
   )
 
 -- ---- the turns
@@ -142,21 +142,21 @@ module _ (s : List ℕ) (t₀ : PartnersTodo) (c₀ : Cursor) (ys : List ℕ) wh
     pub leads : (m : Mark) (v : (ℕ × ℕ) × ℕ) (o : List ℕ) → Rest s t₀.kind (standing s h) t.left t.low ((t.year, t.month), t.rows) d m v o
         → Rest s t₀.kind (standing s c₀) t₀.left t₀.low ((t₀.year, t₀.month), t₀.rows) ys m v o
 
-  pub leads_first : Starts → PartnersLead c₀ t₀ ys
-  leads_first i = record { kind = refl; room = i; leads = λ m v o r. r }
+  pub leads-first : Starts → PartnersLead c₀ t₀ ys
+  leads-first i = record { kind = refl; room = i; leads = λ m v o r. r }
 
   none_before : (m : Mark) → t₀.rows ≡ 0 → Room m t₀.rows
   none_before (At p) e = omega (arith, e)
   none_before No e = tt
 
-  pub leads_last : (h : Cursor) (t : PartnersTodo) (d : List ℕ) → (Starts → PartnersLead h t d) → t.left ≡ 0 → PartnersWhole s t₀ c₀ ys h t d
-  leads_last h t d f e i =
+  pub leads-last : (h : Cursor) (t : PartnersTodo) (d : List ℕ) → (Starts → PartnersLead h t d) → t.left ≡ 0 → PartnersWhole s t₀ c₀ ys h t d
+  leads-last h t d f e i =
       let l = f (none_before (standing s c₀) i.3) in
       let v : (ℕ × ℕ) × ℕ = ((t.year, t.month), t.rows) in
       let r = l.leads (standing s h) v d (rw e (rest-last s t₀.kind (standing s h) t.low v d (standing-within s h))) in
       let z = rw (i.0, i.1, i.2, i.3) at r in (
-        record { run = run-same (λ q. sym (partners_start t₀.kind t₀.left q)) z.0.run; within = z.0.within },
-        partners_filled t₀.kind t₀.left z.1,
+        record { run = run-same (λ q. sym (partners-start t₀.kind t₀.left q)) z.0.run; within = z.0.within },
+        partners-filled t₀.kind t₀.left z.1,
       )
 
   module _ (h : Cursor) (t : PartnersTodo) (d : List ℕ) (l : PartnersLead h t d) (some : 0 < t.left) (d' : List ℕ) (same : length d' ≡ length d) (h' : Cursor) (t' : PartnersTodo) (z : PartnerTurned s t h d h' t' d') where
@@ -182,5 +182,5 @@ module _ (s : List ℕ) (t₀ : PartnersTodo) (c₀ : Cursor) (ys : List ℕ) wh
               l.leads m v o (rw (from-none m w.0) (rest-none s t₀.kind (standing s h) t.left t.low seen d v o z.told some p (w.1.keeps ∙ same)));
         })
 
-    pub leads_on : PartnersLead h' t' d'
-    leads_on = turned (standing s h') refl (rw l.kind at z.parsed) (rw l.kind at z.fills) z.next
+    pub leads-on : PartnersLead h' t' d'
+    leads-on = turned (standing s h') refl (rw l.kind at z.parsed) (rw l.kind at z.fills) z.next

@@ -6,8 +6,8 @@ use mathlib.Core.List.{List, [], ◌∷◌, ◌++◌, map, flat_map, map-append}
 use Prim.Native.Nat.{ℕ, suc, ◌+◌, ◌-◌, ◌≤◌, ◌<◌}
 use Rattle.formats.specs.Format.{Res, got, bad}
 use Rattle.formats.specs.Combine.{strip, map_parse}
-use Rattle.formats.specs.Items.{itemsParse, items_bad}
-use Rattle.formats.specs.RunLaws.{run_map}
+use Rattle.formats.specs.Items.{items_parse, items-bad}
+use Rattle.formats.specs.RunLaws.{run-map}
 use Rattle.formats.specs.PlaceInner.{Parsed}
 use Rattle.formats.specs.declared.Mark.{Mark}
 use Rattle.formats.specs.declared.Mark.TheVariants.{At}
@@ -18,14 +18,14 @@ use Rattle.message.specs.Rows.{Row, rows_of, series_rows}
 use Rattle.message.specs.Group.{spread}
 use Rattle.message.specs.PartnerForm.{partner_form}
 use Rattle.message.specs.FileForm.{partners_form}
-use Rattle.series_reader.specs.ItemsLaws.{viewed, view_bad, unview}
+use Rattle.series_reader.specs.ItemsLaws.{viewed, view-bad, unview}
 use Rattle.series_reader.specs.ReadingInner.{folded}
 use Rattle.series_reader.specs.SeriesInner.{counting, list_form}
 use Rattle.reader.specs.PartnerLaws.{Head, head_parse, partner-seen}
 use Rattle.reader.specs.PartnersInner.{numbered, partner_kept, partner_item}
 use Rattle.reader.specs.PartnersLaws.{partner_onto, months-folded}
 use Rattle.series_reader.specs.FillingInner.{Fills, rows_of_observation, rows_of_series, rows_of_partner}
-use Rattle.series_reader.specs.FillingLaws.{fills-view, fills_only, fills-bad, fills-within, fills-none, fills_step}
+use Rattle.series_reader.specs.FillingLaws.{fills-view, fills-only, fills-bad, fills-within, fills-none, fills-step}
 use Rattle.series_reader.specs.SeriesFillingLaws.{fills-all, rows-each}
 
 -- ---- a partner
@@ -36,14 +36,14 @@ pub partner-fills : (kind : Kind) (t : (ℕ × ℕ) × ℕ) (s : List ℕ) (m a 
 partner-fills kind t s m a b c h v i j tag fills =
     let list = (list_form kind h.1.0 h.1.1 t.0).parse in
     let u = unview (folded counting t) [] list s a b v j in
-    let same : Parsed (map_parse (λ l. l) list) s a b u.value = record { run = run_map (λ l. l) u.parsed.run; within = u.parsed.within } in
+    let same : Parsed (map_parse (λ l. l) list) s a b u.value = record { run = run-map (λ l. l) u.parsed.run; within = u.parsed.within } in
     fills-view (numbered (λ l. l)) (λ p. flat_map (rows_of_series p.0) p.1)
     (fills-within list (map_parse (numbered (λ l. l)) (partner_form kind t.0).parse) (λ p. flat_map (rows_of_series p.0) p.1) (closing (group kind)) u.value (h.0, u.value)
     fills (partner-seen kind t.0 (λ l. l) s m a b c h u.value i same tag) u.parsed tag (λ q e. refl))
 
 pub next-partner-fills : (kind : Kind) (low : ℕ) (seen : ℕ × ℕ) {R : Partner → List Row} {s : List ℕ} {m : Mark} {k : ℕ} {d o : List ℕ} → Fills (partner_form kind seen).parse R s m k d o
     → Fills (partner_item kind (low, seen)).parse R s m k d o
-next-partner-fills kind low seen i = fills_only (λ p. leb low p.number) i
+next-partner-fills kind low seen i = fills-only (λ p. leb low p.number) i
 
 -- ---- partners, behind each other
 
@@ -57,37 +57,37 @@ tally-rows partner t (x ∷ l) =
 -- n partners from number low on
 module _ (kind : Kind) where
   unfoldable pub partners_from : ℕ → ℕ → ℕ × ℕ → List ℕ → Res (List Partner)
-  partners_from n low seen = itemsParse (partner_item kind) (partner_onto kind) n (low, seen)
+  partners_from n low seen = items_parse (partner_item kind) (partner_onto kind) n (low, seen)
 
-  pub partners_filled : (n : ℕ) {R : List Partner → List Row} {s : List ℕ} {m : Mark} {k : ℕ} {d o : List ℕ} → Fills (partners_from n 0 (0, 0)) R s m k d o → Fills (partners_form kind n).parse R s m k d o
+  pub partners-filled : (n : ℕ) {R : List Partner → List Row} {s : List ℕ} {m : Mark} {k : ℕ} {d o : List ℕ} → Fills (partners_from n 0 (0, 0)) R s m k d o → Fills (partners_form kind n).parse R s m k d o
   unfolding partners_from partners_form
-  partners_filled n i = fills-all i
+  partners-filled n i = fills-all i
 
   module _ (n i low : ℕ) (t : (ℕ × ℕ) × ℕ) (s : List ℕ) (p : ℕ) (d : List ℕ) where
-    pub partners_fill_none : n ≤ i → Fills (partners_from (n - i) low t.0) (flat_map rows_of_partner) s (At p) t.1 d d
+    pub partners-fill-none : n ≤ i → Fills (partners_from (n - i) low t.0) (flat_map rows_of_partner) s (At p) t.1 d d
     unfolding partners_from
-    partners_fill_none h = fills-none (partner_item kind) (partner_onto kind) rows_of_partner n i (low, t.0) s p t.1 d h
+    partners-fill-none h = fills-none (partner_item kind) (partner_onto kind) rows_of_partner n i (low, t.0) s p t.1 d h
 
-    pub partners_fill_bad : (o : List ℕ) → i < n → map_parse (partner_kept t) (partner_item kind (low, t.0)).parse (drop p s) ≡ bad → length o ≡ length d
+    pub partners-fill-bad : (o : List ℕ) → i < n → map_parse (partner_kept t) (partner_item kind (low, t.0)).parse (drop p s) ≡ bad → length o ≡ length d
         → Fills (partners_from (n - i) low t.0) (flat_map rows_of_partner) s (At p) t.1 d o
     unfolding partners_from
-    partners_fill_bad o h e l =
-        fills-bad (itemsParse (partner_item kind) (partner_onto kind) (n - i) (low, t.0)) (flat_map rows_of_partner) s p t.1 d o l
-        (items_bad (partner_item kind) (partner_onto kind) n i (low, t.0) (drop p s) h (view_bad (partner_kept t) (partner_item kind (low, t.0)).parse (drop p s) e))
+    partners-fill-bad o h e l =
+        fills-bad (items_parse (partner_item kind) (partner_onto kind) (n - i) (low, t.0)) (flat_map rows_of_partner) s p t.1 d o l
+        (items-bad (partner_item kind) (partner_onto kind) n i (low, t.0) (drop p s) h (view-bad (partner_kept t) (partner_item kind (low, t.0)).parse (drop p s) e))
 
-    pub partners_fill_step : {q : ℕ} {mid o : List ℕ} (v : ℕ × ((ℕ × ℕ) × ℕ)) → i < n → map_parse (partner_kept t) (partner_item kind (low, t.0)).parse (drop p s) ≡ got v (drop q s)
+    pub partners-fill-step : {q : ℕ} {mid o : List ℕ} (v : ℕ × ((ℕ × ℕ) × ℕ)) → i < n → map_parse (partner_kept t) (partner_item kind (low, t.0)).parse (drop p s) ≡ got v (drop q s)
         → Fills (partner_item kind (low, t.0)).parse rows_of_partner s (At p) t.1 d mid
         → Fills (partners_from (n - (i + 1)) (v.0 + 1) v.1.0) (flat_map rows_of_partner) s (At q) v.1.1 mid o
         → Fills (partners_from (n - i) low t.0) (flat_map rows_of_partner) s (At p) t.1 d o
     unfolding partners_from
-    partners_fill_step {q} {mid} {o} v h e first rest =
+    partners-fill-step {q} {mid} {o} v h e first rest =
         let a = viewed (partner_kept t) (partner_item kind (low, t.0)).parse (drop p s) v (drop q s) e in
         let r = a.0 in
-        let on = subst (λ (j : ℕ). Fills (itemsParse (partner_item kind) (partner_onto kind) (n - (i + 1)) (j, v.1.0)) (flat_map rows_of_partner) s (At q) v.1.1 mid o) (add-one v.0) rest in
-        let back = subst (λ (w : ℕ × ((ℕ × ℕ) × ℕ)). Fills (itemsParse (partner_item kind) (partner_onto kind) (n - (i + 1)) (suc w.0, w.1.0)) (flat_map rows_of_partner) s (At q) w.1.1 mid o) (sym a.1.1) on in
-        let month = subst (λ (w : ℕ × ℕ). Fills (itemsParse (partner_item kind) (partner_onto kind) (n - (i + 1)) (suc r.number, w)) (flat_map rows_of_partner) s (At q) (folded counting t r.series).1 mid o)
+        let on = subst (λ (j : ℕ). Fills (items_parse (partner_item kind) (partner_onto kind) (n - (i + 1)) (j, v.1.0)) (flat_map rows_of_partner) s (At q) v.1.1 mid o) (add-one v.0) rest in
+        let back = subst (λ (w : ℕ × ((ℕ × ℕ) × ℕ)). Fills (items_parse (partner_item kind) (partner_onto kind) (n - (i + 1)) (suc w.0, w.1.0)) (flat_map rows_of_partner) s (At q) w.1.1 mid o) (sym a.1.1) on in
+        let month = subst (λ (w : ℕ × ℕ). Fills (items_parse (partner_item kind) (partner_onto kind) (n - (i + 1)) (suc r.number, w)) (flat_map rows_of_partner) s (At q) (folded counting t r.series).1 mid o)
         (sym (months-folded t r.series)) back in
-        fills_step (partner_item kind) (partner_onto kind) rows_of_partner n i (low, t.0) r h a.1.0 first (λ room. tally-rows r.number t r.series) month
+        fills-step (partner_item kind) (partner_onto kind) rows_of_partner n i (low, t.0) r h a.1.0 first (λ room. tally-rows r.number t r.series) month
 
 -- ---- the rows as the file has them
 

@@ -1,7 +1,7 @@
 -- How a file's partners are read: each behind the one before it, and what is kept of them.
 use Rattle.std.specs.Prelude.{List, ℕ}
 use Rattle.formats.specs.Format.{Format}
-use Rattle.formats.specs.Rising.{fromLow}
+use Rattle.formats.specs.Rising.{from_low}
 use Rattle.kinds.specs.declared.Kind.{Kind}
 use Rattle.message.specs.Contents.{TimeSeries, Partner, number}
 use Rattle.message.specs.PartnerForm.{partner_form}
@@ -19,7 +19,7 @@ partner_kept t = numbered (folded counting t)
 
 -- the next partner: a number from low on, series of the month that was seen
 abbrev pub partner_item : Kind → ℕ × (ℕ × ℕ) → Format Partner
-partner_item k = fromLow (partner_form k) number next_months
+partner_item k = from_low (partner_form k) number next_months
 
 -- month and number of rows, one partner on
 abbrev pub adding : (ℕ × ℕ) × ℕ → Partner → (ℕ × ℕ) × ℕ

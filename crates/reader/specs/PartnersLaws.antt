@@ -5,9 +5,9 @@ use Rattle.std.proofs.Common.{sym, ◌∙◌, add-one}
 use Prim.Native.Nat.{ℕ, suc, ◌+◌, ◌-◌, ◌≤◌, ◌<◌}
 use Rattle.formats.specs.Format.{Res, got, bad, bind}
 use Rattle.formats.specs.Combine.{map_parse}
-use Rattle.formats.specs.Items.{itemsParse}
+use Rattle.formats.specs.Items.{items_parse}
 use Rattle.formats.specs.Rising.{rise}
-use Rattle.formats.specs.RunLaws.{run_only, run_fail}
+use Rattle.formats.specs.RunLaws.{run_only, run-fail}
 use Rattle.formats.specs.PlaceInner.{Parsed}
 use Rattle.formats.specs.declared.Mark.{Mark}
 use Rattle.kinds.specs.declared.Kind.{Kind}
@@ -18,7 +18,7 @@ use Rattle.message.specs.PartnerForm.{partner_form}
 use Rattle.message.specs.Months.{next_months}
 use Rattle.message.specs.FileForm.{partners_form}
 use Rattle.cursor.specs.MovesInner.{keep}
-use Rattle.series_reader.specs.ItemsLaws.{run-same, viewed, view_bad, view_only, foldParse, fold_end, fold_bad, fold_step}
+use Rattle.series_reader.specs.ItemsLaws.{run-same, viewed, view-bad, view-only, fold_parse, fold_end, fold-bad, fold_step}
 use Rattle.series_reader.specs.ReadingInner.{folded}
 use Rattle.series_reader.specs.SeriesInner.{counting}
 use Rattle.reader.specs.PartnersInner.{partner_kept, partner_item, adding}
@@ -34,8 +34,8 @@ pub next-partner : (k : Kind) (low : ℕ) (t : (ℕ × ℕ) × ℕ) (s : List �
 next-partner k low t s m r v h = go (leb low v.0) refl
   where
     go : (b : Bool) → leb low v.0 ≡ b → Parsed (map_parse (partner_kept t) (partner_item k (low, t.0)).parse) s m (keep b r) v
-    go true e = record { run = run-same (λ q. view_only (partner_kept t) (partner_form k t.0).parse q (λ v. leb low v.0)) (run_only (λ v. leb low v.0) h.run e); within = h.within }
-    go false e = record { run = run-same (λ q. view_only (partner_kept t) (partner_form k t.0).parse q (λ v. leb low v.0)) (run_fail (λ v. leb low v.0) h.run e); within = tt }
+    go true e = record { run = run-same (λ q. view-only (partner_kept t) (partner_form k t.0).parse q (λ v. leb low v.0)) (run_only (λ v. leb low v.0) h.run e); within = h.within }
+    go false e = record { run = run-same (λ q. view-only (partner_kept t) (partner_form k t.0).parse q (λ v. leb low v.0)) (run-fail (λ v. leb low v.0) h.run e); within = tt }
 
 -- ---- so many partners
 
@@ -46,33 +46,33 @@ months-folded t (s ∷ l) = months-folded (counting t s) l
 
 -- what is kept of n partners, from number low on
 module _ (k : Kind) where
-  unfoldable pub partnersKept : ℕ → ℕ → (ℕ × ℕ) × ℕ → List ℕ → Res ((ℕ × ℕ) × ℕ)
-  partnersKept n low t s = foldParse (partner_item k) (partner_onto k) adding n (low, t.0) t s
+  unfoldable pub partners_kept : ℕ → ℕ → (ℕ × ℕ) × ℕ → List ℕ → Res ((ℕ × ℕ) × ℕ)
+  partners_kept n low t s = fold_parse (partner_item k) (partner_onto k) adding n (low, t.0) t s
 
-  pub partners_start : (n : ℕ) (s : List ℕ) → map_parse (folded adding ((0, 0), 0)) (partners_form k n).parse s ≡ partnersKept n 0 ((0, 0), 0) s
-  unfolding partnersKept partners_form foldParse map_parse
-  partners_start n s = go (itemsParse (partner_item k) (partner_onto k) n (0, (0, 0)) s)
+  pub partners-start : (n : ℕ) (s : List ℕ) → map_parse (folded adding ((0, 0), 0)) (partners_form k n).parse s ≡ partners_kept n 0 ((0, 0), 0) s
+  unfolding partners_kept partners_form fold_parse map_parse
+  partners-start n s = go (items_parse (partner_item k) (partner_onto k) n (0, (0, 0)) s)
     where
       go : (y : Res (List Partner)) → bind (bind y (λ l q. got l q)) (λ l q. got (folded adding ((0, 0), 0) l) q) ≡ bind y (λ l q. got (folded adding ((0, 0), 0) l) q)
       go bad = refl
       go (got l q) = refl
 
   module _ (n i low : ℕ) (t : (ℕ × ℕ) × ℕ) (s : List ℕ) where
-    pub partners_end : n ≤ i → partnersKept (n - i) low t s ≡ got t s
-    unfolding partnersKept
-    partners_end h = fold_end (partner_item k) (partner_onto k) adding n i (low, t.0) t s h
+    pub partners-end : n ≤ i → partners_kept (n - i) low t s ≡ got t s
+    unfolding partners_kept
+    partners-end h = fold_end (partner_item k) (partner_onto k) adding n i (low, t.0) t s h
 
-    pub partners_bad : i < n → map_parse (partner_kept t) (partner_item k (low, t.0)).parse s ≡ bad → partnersKept (n - i) low t s ≡ bad
-    unfolding partnersKept
-    partners_bad h e = fold_bad (partner_item k) (partner_onto k) adding n i (low, t.0) t s h (view_bad (partner_kept t) (partner_item k (low, t.0)).parse s e)
+    pub partners-bad : i < n → map_parse (partner_kept t) (partner_item k (low, t.0)).parse s ≡ bad → partners_kept (n - i) low t s ≡ bad
+    unfolding partners_kept
+    partners-bad h e = fold-bad (partner_item k) (partner_onto k) adding n i (low, t.0) t s h (view-bad (partner_kept t) (partner_item k (low, t.0)).parse s e)
 
-    pub partners_step : (v : ℕ × ((ℕ × ℕ) × ℕ)) (r : List ℕ) → i < n → map_parse (partner_kept t) (partner_item k (low, t.0)).parse s ≡ got v r
-        → partnersKept (n - i) low t s ≡ partnersKept (n - (i + 1)) (v.0 + 1) v.1 r
-    unfolding partnersKept
-    partners_step v r h e =
+    pub partners-step : (v : ℕ × ((ℕ × ℕ) × ℕ)) (r : List ℕ) → i < n → map_parse (partner_kept t) (partner_item k (low, t.0)).parse s ≡ got v r
+        → partners_kept (n - i) low t s ≡ partners_kept (n - (i + 1)) (v.0 + 1) v.1 r
+    unfolding partners_kept
+    partners-step v r h e =
         let a = viewed (partner_kept t) (partner_item k (low, t.0)).parse s v r e in
         let p = a.0 in
         fold_step (partner_item k) (partner_onto k) adding n i (low, t.0) t s p r h a.1.0
-        ∙ ap (λ (q : ℕ × ℕ). foldParse (partner_item k) (partner_onto k) adding (n - (i + 1)) (suc p.number, q) (folded counting t p.series) r) (months-folded t p.series)
-        ∙ ap (λ (w : ℕ × ((ℕ × ℕ) × ℕ)). foldParse (partner_item k) (partner_onto k) adding (n - (i + 1)) (suc w.0, w.1.0) w.1 r) a.1.1
-        ∙ ap (λ (l : ℕ). foldParse (partner_item k) (partner_onto k) adding (n - (i + 1)) (l, v.1.0) v.1 r) (sym (add-one v.0))
+        ∙ ap (λ (q : ℕ × ℕ). fold_parse (partner_item k) (partner_onto k) adding (n - (i + 1)) (suc p.number, q) (folded counting t p.series) r) (months-folded t p.series)
+        ∙ ap (λ (w : ℕ × ((ℕ × ℕ) × ℕ)). fold_parse (partner_item k) (partner_onto k) adding (n - (i + 1)) (suc w.0, w.1.0) w.1 r) a.1.1
+        ∙ ap (λ (l : ℕ). fold_parse (partner_item k) (partner_onto k) adding (n - (i + 1)) (l, v.1.0) v.1 r) (sym (add-one v.0))

@@ -5,7 +5,7 @@ use Rattle.formats.specs.Format.{Res, Format}
 use Rattle.formats.specs.FormatLaws.{got-bad}
 use Rattle.formats.specs.Combine.{strip, map_parse}
 use Rattle.formats.specs.Exactly.{exactly_parse, fixed_digits}
-use Rattle.formats.specs.Name.{name_byte, span, nameParse, name}
+use Rattle.formats.specs.Name.{name_byte, span, name_parse, name}
 use Rattle.formats.specs.PlaceInner.{Within, Parsed, left}
 use Rattle.formats.specs.PlaceLaws.{no-at, same_at}
 use Rattle.formats.specs.declared.Mark.{Mark}
@@ -40,7 +40,7 @@ kind-bytes k = refl
 pub record Steps (s : List ℕ) (a b c d e f g h i j l o : Mark) (k : Kind) (company n : ℕ) (t : (ℕ × ℕ) × ℕ) : Type 0 where
   pub kind : Parsed kind_form.parse s (At 0) a k
   pub before_id : Parsed (strip (opening "TransactionID")) s a b tt
-  pub id : Parsed (nameParse name_byte 1 36 60) s b c (span name_byte (left s b))
+  pub id : Parsed (name_parse name_byte 1 36 60) s b c (span name_byte (left s b))
   pub before_moment : Parsed (strip (ending "TransactionID" ++ opening "MessageCreateDateTime")) s c d tt
   pub moment : Parsed (exactly_parse 29 is_moment) s d e (take 29 (left s d))
   pub before_receiver : Parsed (strip (closing "MessageCreateDateTime" ++ opening "ReceiverID")) s e f tt

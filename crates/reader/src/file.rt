@@ -2,7 +2,7 @@
 ghost use Rattle.std.specs.Prelude.{◌≡◌, ◌++◌, suc};
 ghost use Rattle.message.specs.Bytes.{opening, ending, closing, counter};
 ghost use Rattle.message.specs.FileForm.{kind_of};
-ghost use Rattle.passages.specs.PassagesInner.{receiverFound};
+ghost use Rattle.passages.specs.PassagesInner.{receiver_found};
 ghost use Rattle.reader.specs.FileTurnsInner.{Rooted, Received, root_end, FileDone};
 
 use crate::partners::PartnersTodo;
@@ -11,13 +11,13 @@ use kinds::Kind;
 use passages::{MessageFound, ReceiverFound};
 
 // A file's kind.
-#[derive(Clone, Copy)]
+#[derive(Drop)]
 pub struct Root {
     pub kind: Kind,
 }
 
 // A file's kind, and the cursor behind its root.
-#[derive(Clone, Copy)]
+#[derive(Drop)]
 pub struct RootRead {
     pub to: Cursor,
     pub root: Root,
@@ -62,7 +62,7 @@ pub fn past_root(c: &mut Cursor, s: &[u8]) -> Root
 
 // The receiver and the counter of partners, in a file of a kind.
 fn receiver_of(c: Cursor, s: &[u8], kind: Kind) -> ReceiverFound
-    ensures { result ≡ receiverFound s.now c (closing "ReceiverID" ++ opening (counter kind)) (ending (counter kind)) }
+    ensures { result ≡ receiver_found s.now c (closing "ReceiverID" ++ opening (counter kind)) (ending (counter kind)) }
 {
     match kind {
         Kind::Toe01 => passages::receiver_by(
@@ -82,14 +82,14 @@ fn receiver_of(c: Cursor, s: &[u8], kind: Kind) -> ReceiverFound
 }
 
 // A file's receiver, and the partners that are then left.
-#[derive(Clone, Copy)]
+#[derive(Drop)]
 pub struct Receiver {
     pub receiver: u64,
     pub todo: PartnersTodo,
 }
 
 // The same, and the cursor before the partners.
-#[derive(Clone, Copy)]
+#[derive(Drop)]
 pub struct ReceiverRead {
     pub to: Cursor,
     pub found: Receiver,
@@ -149,7 +149,7 @@ pub fn past_end(c: &mut Cursor, s: &[u8], root: Root)
 }
 
 // What was read of a file: where its ID starts and ends and its moment starts, and the cursor behind it.
-#[derive(Clone, Copy)]
+#[derive(Drop)]
 pub struct FileRead {
     pub root: Root,
     pub receiver: u64,

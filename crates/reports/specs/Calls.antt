@@ -50,7 +50,7 @@ text_of book (some kind) receiver id moment = file_text book kind receiver id mo
 
 -- "Of two short buffers item 0 is named.": the rows, then the file
 unfoldable pub short_refusal : ℕ → ℕ → ℕ → ℕ → Option Refusal
-short_refusal row_numbers rows_lent fileLength file_lent = or_else (short 0 row_numbers rows_lent) (short 1 fileLength file_lent)
+short_refusal row_numbers rows_lent file_length file_lent = or_else (short 0 row_numbers rows_lent) (short 1 file_length file_lent)
 
 -- "12 for the kind, 11, 12 for ID or moment, 10"
 unfoldable pub asked_refusal : Book → Option Kind → ℕ → List ℕ → List ℕ → ℕ → ℕ → Option Refusal

@@ -101,9 +101,9 @@ module _ (bytes : List ℕ) (kind : Kind) (receiver : ℕ) (id moment : List ℕ
   unfolding file_answer
   file-not-refused e = file-says-none (file_refusal bytes (kind_number kind) receiver id moment rows_lent file_lent) (row_count (book_of bytes)) (length (text_of (book_of bytes) (kind_numbered (kind_number kind)) receiver id moment)) e
 
-  pub file_in_form : is_file (file_answer bytes (kind_number kind) receiver id moment rows_lent file_lent) ≡ true → InForm (book_of bytes) kind receiver id moment
+  pub file-in-form : is_file (file_answer bytes (kind_number kind) receiver id moment rows_lent file_lent) ≡ true → InForm (book_of bytes) kind receiver id moment
   unfolding file_refusal
-  file_in_form e =
+  file-in-form e =
       let asked = asked_refusal (book_of bytes) (kind_numbered (kind_number kind)) receiver id moment rows_lent file_lent in
       in-form (book_of bytes) kind receiver id moment rows_lent file_lent
       (ap (λ k. asked_refusal (book_of bytes) k receiver id moment rows_lent file_lent) (sym (kind-numbered kind)) ∙ not-later (book_refusal bytes) asked (file-not-refused e))
@@ -114,14 +114,14 @@ module _ (bytes : List ℕ) (kind : Kind) (receiver : ℕ) (id moment : List ℕ
   asked-text = ap (λ k. text_of (book_of bytes) k receiver id moment) (kind-numbered kind)
 
   -- what it wrote is the file
-  pub file_written : is_file (file_answer bytes (kind_number kind) receiver id moment rows_lent file_lent) ≡ true → (before : List ℕ)
+  pub file-written : is_file (file_answer bytes (kind_number kind) receiver id moment rows_lent file_lent) ≡ true → (before : List ℕ)
       → written (file_answer bytes (kind_number kind) receiver id moment rows_lent file_lent) (afterwards (file_refusal bytes (kind_number kind) receiver id moment rows_lent file_lent) (text_of (book_of bytes) (kind_numbered (kind_number kind)) receiver id moment) before) ≡ file_text (book_of bytes) kind receiver id moment
   unfolding file_answer file_says written afterwards
-  file_written e before =
+  file-written e before =
       let text = text_of (book_of bytes) (kind_numbered (kind_number kind)) receiver id moment in
       rw (file-not-refused e) (over_first text before (length text) refl ∙ asked-text)
 
-  pub file_answered : book_refusal bytes ≡ none → InForm (book_of bytes) kind receiver id moment → row_width * row_count (book_of bytes) ≤ rows_lent → length (file_text (book_of bytes) kind receiver id moment) ≤ file_lent
+  pub file-answered : book_refusal bytes ≡ none → InForm (book_of bytes) kind receiver id moment → row_width * row_count (book_of bytes) ≤ rows_lent → length (file_text (book_of bytes) kind receiver id moment) ≤ file_lent
       → file_answer bytes (kind_number kind) receiver id moment rows_lent file_lent ≡ File (row_count (book_of bytes)) (length (file_text (book_of bytes) kind receiver id moment))
   unfolding file_answer file_refusal asked_refusal short_refusal file_says text_of or_else
   file-answered e f h k =

@@ -12,7 +12,7 @@ use Rattle.integers.specs.Running.{up_to}
 use Rattle.integers.specs.Sums.{naturals, integers, sum_of, sum_z}
 use Rattle.integers.specs.TestsLaws.{both, and_both}
 use Rattle.integers.specs.Keep.{keep}
-use Rattle.integers.specs.KeepLaws.{keep_sum, mem_keep}
+use Rattle.integers.specs.KeepLaws.{keep-sum, mem-keep}
 use Rattle.formats.specs.Format.{got}
 use Rattle.book.specs.Book.{book_of}
 use Rattle.quarters.specs.Quarters.{month_quarters}
@@ -30,18 +30,18 @@ use Rattle.reports.specs.FileRows.{supply_number, delivery_number, file_text, fi
 use Rattle.reports.specs.Roles.{receivers}
 use Rattle.reports.specs.Watts.{watts_in, directed_in, total_in}
 use Rattle.reports.specs.PointsLaws.{Inside}
-use Rattle.reports.specs.CarryLaws.{carries_floor, pair-carries}
-use Rattle.reports.specs.TotalsLaws.{directed_totals, totals}
+use Rattle.reports.specs.CarryLaws.{carries-floor, pair-carries}
+use Rattle.reports.specs.TotalsLaws.{directed-totals, totals}
 use Rattle.reports.specs.RegisteredInner.{Registered}
 use Rattle.reports.specs.RegisteredLaws.{registered}
-use Rattle.reports.specs.ReadLaws.{file_read}
+use Rattle.reports.specs.ReadLaws.{file-read}
 use Rattle.refusals.specs.Buffers.{over, afterwards}
 use Rattle.reports.specs.Calls.{sheet_refusal, text_of, file_refusal, file_answer}
 use Rattle.refusals.specs.BuffersLaws.{over_first}
-use Rattle.reports.specs.CallsLaws.{sheet-not-refused, sheet-party, sheet-answered, kind-is, InForm, file_in_form, file_written, file-answered}
+use Rattle.reports.specs.CallsLaws.{sheet-not-refused, sheet-party, sheet-answered, kind-is, InForm, file-in-form, file-written, file-answered}
 use Rattle.reports.specs.Demand3.{SheetCall, FileCall, is_sheet, is_file, filled, wrote, sum_at, written, rows_read, carried, filled_for, wrote_for, Whole, Agreed, Answered, Demand3}
 use Rattle.integers.specs.RangesLaws.{get_d-map-range}
-use Rattle.integers.specs.SumsLaws.{sum_cong, sum_map}
+use Rattle.integers.specs.SumsLaws.{sum-cong, sum-map}
 
 -- ---- a sheet that was filled
 
@@ -90,17 +90,17 @@ module _ (bytes : List ℕ) (kind : Kind) (c : FileCall bytes) (e : wrote kind c
   wrote_after : c.after ≡ afterwards (file_refusal bytes (kind_number kind) c.receiver c.id c.moment (length c.rows_before) (length c.before)) (text_of (book_of bytes) (kind_numbered (kind_number kind)) c.receiver c.id c.moment) c.before
   wrote_after = c.called.file ∙ ap (λ k. afterwards (file_refusal bytes k c.receiver c.id c.moment (length c.rows_before) (length c.before)) (text_of (book_of bytes) (kind_numbered k) c.receiver c.id c.moment) c.before) (wrote-kind bytes kind c e).0
 
-  wrote_file : is_file (file_answer bytes (kind_number kind) c.receiver c.id c.moment (length c.rows_before) (length c.before)) ≡ true
-  wrote_file = sym (ap is_file wrote-answer) ∙ (wrote-kind bytes kind c e).1
+  wrote-file : is_file (file_answer bytes (kind_number kind) c.receiver c.id c.moment (length c.rows_before) (length c.before)) ≡ true
+  wrote-file = sym (ap is_file wrote-answer) ∙ (wrote-kind bytes kind c e).1
 
   wrote-form : InForm (book_of bytes) kind c.receiver c.id c.moment
-  wrote-form = file_in_form bytes kind c.receiver c.id c.moment (length c.rows_before) (length c.before) wrote_file
+  wrote-form = file-in-form bytes kind c.receiver c.id c.moment (length c.rows_before) (length c.before) wrote-file
 
   wrote-text : written c.answer c.after ≡ file_text (book_of bytes) kind c.receiver c.id c.moment
   wrote-text =
       ap (λ r. written r c.after) wrote-answer
       ∙ ap (written (file_answer bytes (kind_number kind) c.receiver c.id c.moment (length c.rows_before) (length c.before))) wrote_after
-      ∙ file_written bytes kind c.receiver c.id c.moment (length c.rows_before) (length c.before) wrote_file c.before
+      ∙ file-written bytes kind c.receiver c.id c.moment (length c.rows_before) (length c.before) wrote-file c.before
 
 module _ (bytes : List ℕ) (ok : book_refusal bytes ≡ none) where
   book-sound : Sound (book_of bytes)
@@ -115,41 +115,41 @@ module _ (bytes : List ℕ) (ok : book_refusal bytes ≡ none) where
   wrote-read : (kind : Kind) (c : FileCall bytes) → wrote kind c ≡ true → read_message (written c.answer c.after) ≡ got (message_of (book_of bytes) kind c.receiver c.id c.moment) []
   wrote-read kind c e =
       let f = wrote-form bytes kind c e in
-      ap read_message (wrote-text bytes kind c e) ∙ file_read (book_of bytes) book-sound book-registered kind c.receiver c.id c.moment f.role f.named f.timed
+      ap read_message (wrote-text bytes kind c e) ∙ file-read (book_of bytes) book-sound book-registered kind c.receiver c.id c.moment f.role f.named f.timed
 
-  pub carried_is : (kind : Kind) (c : FileCall bytes) → wrote kind c ≡ true → carried c ≡ file_rows (book_of bytes) kind c.receiver
+  pub carried-is : (kind : Kind) (c : FileCall bytes) → wrote kind c ≡ true → carried c ≡ file_rows (book_of bytes) kind c.receiver
   unfolding carried rows_read message_of
-  carried_is kind c e = ap rows_read (wrote-read kind c e)
+  carried-is kind c e = ap rows_read (wrote-read kind c e)
 
   -- ---- all sheets, and all files of a kind
 
   sheets-sum : (sheets : List (SheetCall bytes)) (q : ℕ) → q < month_quarters (book_of bytes).calendar → sum_z (sum_at q) sheets ≡ sum_z (λ party. sheet_at (book_of bytes) party (q + 1)) (filled_for sheets)
   unfolding filled_for sum_at
   sheets-sum sheets q h =
-      sym (keep_sum filled integers (sum_at q) (λ c e. rw e) sheets)
-      ∙ sum_cong integers (sum_at q) (λ c. sheet_at (book_of bytes) c.party (q + 1)) (keep filled sheets) (λ c m. filled-sum bytes c (mem_keep filled sheets c m).1 q h)
-      ∙ sym (sum_map integers (λ party. sheet_at (book_of bytes) party (q + 1)) (λ c. c.party) (keep filled sheets))
+      sym (keep-sum filled integers (sum_at q) (λ c e. rw e) sheets)
+      ∙ sum-cong integers (sum_at q) (λ c. sheet_at (book_of bytes) c.party (q + 1)) (keep filled sheets) (λ c m. filled-sum bytes c (mem-keep filled sheets c m).1 q h)
+      ∙ sym (sum-map integers (λ party. sheet_at (book_of bytes) party (q + 1)) (λ c. c.party) (keep filled sheets))
 
   only-parties : (sheets : List (SheetCall bytes)) (x : ℕ) → Memᴰ x (filled_for sheets) → Memᴰ x (parties (book_of bytes))
   unfolding filled_for
   only-parties sheets x m = go (Memᴰ.of_map (λ c. c.party) (keep filled sheets) m)
     where
       go : (c : SheetCall bytes) × Memᴰ c (keep filled sheets) × (c.party ≡ x) → Memᴰ x (parties (book_of bytes))
-      go (c, k, e) = Memᴰ.cast (sym e) (filled-party bytes c (mem_keep filled sheets c k).1)
+      go (c, k, e) = Memᴰ.cast (sym e) (filled-party bytes c (mem-keep filled sheets c k).1)
 
   files-sum : (kind : Kind) (f : List Row → ℕ) (files : List (FileCall bytes)) → sum_of (λ c. cond (wrote kind c) (f (carried c)) 0) files ≡ sum_of (λ r. f (file_rows (book_of bytes) kind r)) (wrote_for kind files)
   unfolding wrote_for
   files-sum kind f files =
-      sym (keep_sum (wrote kind) naturals (λ c. cond (wrote kind c) (f (carried c)) 0) (λ c e. rw e) files)
-      ∙ sum_cong naturals (λ c. cond (wrote kind c) (f (carried c)) 0) (λ c. f (file_rows (book_of bytes) kind c.receiver)) (keep (wrote kind) files) (λ c m. let e = (mem_keep (wrote kind) files c m).1 in rw e (ap f (carried_is kind c e)))
-      ∙ sym (sum_map naturals (λ r. f (file_rows (book_of bytes) kind r)) (λ c. c.receiver) (keep (wrote kind) files))
+      sym (keep-sum (wrote kind) naturals (λ c. cond (wrote kind c) (f (carried c)) 0) (λ c e. rw e) files)
+      ∙ sum-cong naturals (λ c. cond (wrote kind c) (f (carried c)) 0) (λ c. f (file_rows (book_of bytes) kind c.receiver)) (keep (wrote kind) files) (λ c m. let e = (mem-keep (wrote kind) files c m).1 in rw e (ap f (carried-is kind c e)))
+      ∙ sym (sum-map naturals (λ r. f (file_rows (book_of bytes) kind r)) (λ c. c.receiver) (keep (wrote kind) files))
 
   only-receivers : (kind : Kind) (files : List (FileCall bytes)) (x : ℕ) → Memᴰ x (wrote_for kind files) → Memᴰ x (receivers (book_of bytes) kind)
   unfolding wrote_for
   only-receivers kind files x m = go (Memᴰ.of_map (λ c. c.receiver) (keep (wrote kind) files) m)
     where
       go : (c : FileCall bytes) × Memᴰ c (keep (wrote kind) files) × (c.receiver ≡ x) → Memᴰ x (receivers (book_of bytes) kind)
-      go (c, k, e) = Memᴰ.cast (sym e) (wrote-form bytes kind c (mem_keep (wrote kind) files c k).1).role
+      go (c, k, e) = Memᴰ.cast (sym e) (wrote-form bytes kind c (mem-keep (wrote kind) files c k).1).role
 
   module _ (sheets : List (SheetCall bytes)) (files : List (FileCall bytes)) (whole : Whole bytes sheets files) where
     receivers-once : (kind : Kind) → Once (wrote_for kind files) (receivers (book_of bytes) kind)
@@ -163,20 +163,20 @@ module _ (bytes : List ℕ) (ok : book_refusal bytes ≡ none) where
           kinds = λ c m e. file-kind bytes c e;
           read = λ c m kind e. wrote-read kind c e;
           paired = λ c d m k e f u v p low most.
-              ap (λ l. watts_in l d.receiver (supply_number u) (delivery_number v) p) (carried_is Toe01 c e)
+              ap (λ l. watts_in l d.receiver (supply_number u) (delivery_number v) p) (carried-is Toe01 c e)
               ∙ pair-carries (book_of bytes) points-inside c.receiver d.receiver u v p low most
-              ∙ sym (ap (λ l. watts_in l c.receiver (supply_number u) (delivery_number v) p) (carried_is Toe02 d f));
+              ∙ sym (ap (λ l. watts_in l c.receiver (supply_number u) (delivery_number v) p) (carried-is Toe02 d f));
           directed = λ supply delivery p.
               files-sum Toe01 (λ l. directed_in l supply delivery p) files
-              ∙ directed_totals (book_of bytes) points-inside (wrote_for Toe01 files) (wrote_for Toe02 files) (receivers-once Toe01) (receivers-once Toe02) supply delivery p
+              ∙ directed-totals (book_of bytes) points-inside (wrote_for Toe01 files) (wrote_for Toe02 files) (receivers-once Toe01) (receivers-once Toe02) supply delivery p
               ∙ sym (files-sum Toe02 (λ l. directed_in l supply delivery p) files);
           together = λ p.
               files-sum Toe01 (λ l. total_in l p) files
               ∙ totals (book_of bytes) points-inside (wrote_for Toe01 files) (wrote_for Toe02 files) (receivers-once Toe01) (receivers-once Toe02) p
               ∙ sym (files-sum Toe02 (λ l. total_in l p) files);
           rounded = λ c m kind e partner u v p most.
-              ap (λ l. up_to (watts_in l partner (supply_number u) (delivery_number v)) p) (carried_is kind c e)
-              ∙ carries_floor (book_of bytes) points-inside kind c.receiver partner u v p most;
+              ap (λ l. up_to (watts_in l partner (supply_number u) (delivery_number v)) p) (carried-is kind c e)
+              ∙ carries-floor (book_of bytes) points-inside kind c.receiver partner u v p most;
         }
 
   answers : Answered bytes

@@ -14,7 +14,7 @@ use Rattle.integers.specs.TestsLaws.{and_both}
 use Rattle.integers.specs.Rises.{rises}
 use Rattle.integers.specs.All.{All}
 use Rattle.integers.specs.Keep.{keep, is_some}
-use Rattle.integers.specs.KeepLaws.{keep_length, mem_keep, keep_rises, some-length, some-member}
+use Rattle.integers.specs.KeepLaws.{keep-length, mem-keep, keep-rises, some-length, some-member}
 use Rattle.integers.specs.AscendingLaws.{ascending-rises, ascending-once, ascending-length}
 use Rattle.moments.specs.Ids.{is_transaction_id}
 use Rattle.quarters.specs.declared.Calendar.{Calendar}
@@ -32,7 +32,7 @@ use Rattle.volumes.specs.declared.Series.{Series}
 use Rattle.volumes.specs.Series.{Kind, Toe01, Toe02, Toe03, receiver_of, partner_of, is_engagement, grains_of, grains_at, series_watts, series_of}
 use Rattle.volumes.specs.SoundInner.{Sound}
 use Rattle.volumes.specs.SoundLaws.{mem-range}
-use Rattle.volumes.specs.WidthsLaws.{most, delivered_most}
+use Rattle.volumes.specs.WidthsLaws.{most, delivered-most}
 use Rattle.message.specs.Contents.{Observation, TimeSeries, Partner, place, position, number}
 use Rattle.message.specs.Bytes.{digits, supply_of}
 use Rattle.message.specs.PositionsLaws.{last-is}
@@ -40,7 +40,7 @@ use Rattle.message.specs.Valid.{last_position, IsObservation, IsVolume, IsSeries
 use Rattle.reports.specs.FileRows.{supply_number, delivery_number, is_taken, partner_numbers, directions, is_written, partners_of, file_of, observation_by, observations_by, time_series_by, partner_by, partners_by}
 use Rattle.reports.specs.Roles.{receivers}
 use Rattle.reports.specs.RegisteredInner.{NumbersFit, Registered}
-use Rattle.reports.specs.PointsLaws.{Of, Inside, watts_point}
+use Rattle.reports.specs.PointsLaws.{Of, Inside, watts-point}
 use Rattle.integers.specs.AllLaws.{all_map, each_all, all_append}
 use Rattle.integers.specs.RangesLaws.{length-range}
 use Rattle.quarters.specs.QuartersInner.{Ranged, longest_month}
@@ -74,7 +74,7 @@ grains-few : (book : Book) → Sound book → (kind : Kind) (receiver : ℕ) (s 
 unfolding sum_by grains_of
 grains-few book sound kind receiver s p [] = omega arith
 grains-few book sound kind receiver s p (e ∷ es) =
-    omega (arith, mul-suc most (length es), grains-few book sound kind receiver s p es, few (is_engagement book kind receiver s e && covers book.calendar e p) (delivered_most book sound e (quarter_at book.calendar e p)))
+    omega (arith, mul-suc most (length es), grains-few book sound kind receiver s p es, few (is_engagement book kind receiver s e && covers book.calendar e p) (delivered-most book sound e (quarter_at book.calendar e p)))
   where
     few : (t : Bool) {n : ℕ} → n ≤ most → cond t n 0 ≤ most
     few true h = h
@@ -122,7 +122,7 @@ module _ (book : Book) (sound : Sound book) (registered : Registered book) (kind
 
   observation-valid : (s : Series) (o : Observation) → Memᴰ o (observations_of book kind receiver s) → IsObservation (last_position book.calendar.year book.calendar.month) o
   unfolding observations_of observations_by is_written positions observation_at observation_by series_watts
-  observation-valid s o m = let k = mem_keep is_written (map (observation_at book kind receiver s) (positions book)) o m in go (Memᴰ.of_map (observation_at book kind receiver s) (positions book) k.0) (ltb-true 0 o.watts k.1)
+  observation-valid s o m = let k = mem-keep is_written (map (observation_at book kind receiver s) (positions book)) o m in go (Memᴰ.of_map (observation_at book kind receiver s) (positions book) k.0) (ltb-true 0 o.watts k.1)
     where
       go : (p : ℕ) × Memᴰ p (range 1 (month_quarters book.calendar)) × (observation_at book kind receiver s p ≡ o) → 0 < o.watts → IsObservation (last_position book.calendar.year book.calendar.month) o
       go (p, m, e) h =
@@ -136,12 +136,12 @@ module _ (book : Book) (sound : Sound book) (registered : Registered book) (kind
   observations-few : (s : Series) → length (observations_of book kind receiver s) ≤ longest_month
   unfolding observations_of observations_by positions observation_at observation_by series_watts
   observations-few s =
-      omega (arith, keep_length is_written (map (observation_at book kind receiver s) (positions book)), length-map (positions book) (observation_at book kind receiver s), length-range 1 (month_quarters book.calendar), month-quarters-most book.calendar sound.ranged)
+      omega (arith, keep-length is_written (map (observation_at book kind receiver s) (positions book)), length-map (positions book) (observation_at book kind receiver s), length-range 1 (month_quarters book.calendar), month-quarters-most book.calendar sound.ranged)
 
   observations-rise : (s : Series) → rises 1 (map position (observations_of book kind receiver s)) ≡ true
   unfolding observations_of observations_by positions observation_at observation_by series_watts
   observations-rise s =
-      keep_rises is_written position 1 (map (observation_at book kind receiver s) (positions book))
+      keep-rises is_written position 1 (map (observation_at book kind receiver s) (positions book))
       (rw (map_back position (observation_at book kind receiver s) (λ n. refl) (positions book)) (range-rises 1 (month_quarters book.calendar)))
 
   volume-valid : (n : ℕ) (d : Supply × Direction) → is_some (observations_of book kind receiver (series_of n d.0 d.1)) ≡ true → IsVolume (time_series book kind receiver n d)
@@ -159,7 +159,7 @@ module _ (book : Book) (sound : Sound book) (registered : Registered book) (kind
   -- a time series that stands in the file, by its directions
   standing : (n : ℕ) (s : TimeSeries) → Memᴰ s (time_series_of book kind receiver n) → (d : Supply × Direction) × (time_series book kind receiver n d ≡ s) × (is_some (observations_of book kind receiver (series_of n d.0 d.1)) ≡ true)
   unfolding time_series_of partner_at partner_by time_series time_series_by observations_of observations_by
-  standing n s m = let k = mem_keep (λ (s : TimeSeries). is_some s.observations) (map (time_series book kind receiver n) directions) s m in go (Memᴰ.of_map (time_series book kind receiver n) directions k.0) k.1
+  standing n s m = let k = mem-keep (λ (s : TimeSeries). is_some s.observations) (map (time_series book kind receiver n) directions) s m in go (Memᴰ.of_map (time_series book kind receiver n) directions k.0) k.1
     where
       go : (d : Supply × Direction) × Memᴰ d directions × (time_series book kind receiver n d ≡ s) → is_some s.observations ≡ true → (d : Supply × Direction) × (time_series book kind receiver n d ≡ s) × (is_some (observations_of book kind receiver (series_of n d.0 d.1)) ≡ true)
       go (d, m, e) h = (d, e, ap (λ (x : TimeSeries). is_some x.observations) e ∙ h)
@@ -186,9 +186,9 @@ module _ (book : Book) (sound : Sound book) (registered : Registered book) (kind
       go (d, e, h) =
           let series = series_of n d.0 d.1 in
           let o = some-member (observations_of book kind receiver series) h in
-          let k = mem_keep is_written (map (observation_at book kind receiver series) (positions book)) o.0 o.1 in
+          let k = mem-keep is_written (map (observation_at book kind receiver series) (positions book)) o.0 o.1 in
           let w = watts-of series o.0 (ltb-true 0 o.0.watts k.1) (Memᴰ.of_map (observation_at book kind receiver series) (positions book) k.0) in
-          at d e (watts_point book inside kind receiver series w.0 w.1)
+          at d e (watts-point book inside kind receiver series w.0 w.1)
 
   -- ---- a partner
 
@@ -197,7 +197,7 @@ module _ (book : Book) (sound : Sound book) (registered : Registered book) (kind
   partner-point n m = go (Memᴰ.of_map (partner_of kind) (keep (is_taken kind receiver) book.points) ((ascending-once (map (partner_of kind) (keep (is_taken kind receiver) book.points))).only n m))
     where
       go : (point : Point) × Memᴰ point (keep (is_taken kind receiver) book.points) × (partner_of kind point ≡ n) → (point : Point) × Memᴰ point book.points × (partner_of kind point ≡ n)
-      go (point, k, e) = (point, (mem_keep (is_taken kind receiver) book.points point k).0, e)
+      go (point, k, e) = (point, (mem-keep (is_taken kind receiver) book.points point k).0, e)
 
   number-below : (n : ℕ) → Memᴰ n (partner_numbers book kind receiver) → n < 10 ^ digits kind
   number-below n m = go (partner-point n m)
@@ -207,11 +207,11 @@ module _ (book : Book) (sound : Sound book) (registered : Registered book) (kind
 
   series-rise : (n : ℕ) → rises 0 (map place (time_series_of book kind receiver n)) ≡ true
   unfolding time_series_of partner_at partner_by time_series time_series_by directions supply_number delivery_number rises observations_of observations_by
-  series-rise n = keep_rises (λ (s : TimeSeries). is_some s.observations) place 0 (map (time_series book kind receiver n) directions) refl
+  series-rise n = keep-rises (λ (s : TimeSeries). is_some s.observations) place 0 (map (time_series book kind receiver n) directions) refl
 
   series-few : (n : ℕ) → length (time_series_of book kind receiver n) ≤ 4
   unfolding time_series_of partner_at partner_by directions time_series time_series_by
-  series-few n = keep_length (λ (s : TimeSeries). is_some s.observations) (map (time_series book kind receiver n) directions)
+  series-few n = keep-length (λ (s : TimeSeries). is_some s.observations) (map (time_series book kind receiver n) directions)
 
 -- "in TOE03 an EAN stands once, with one supply direction": its points share theirs
 one_of_all : (l : List TimeSeries) → ((s t : TimeSeries) → Memᴰ s l → Memᴰ t l → s.supply ≡ t.supply) → All (λ (s : TimeSeries). s.supply ≡ supply_of l) l
@@ -243,12 +243,12 @@ unfolding partners_of partners_by partner_numbers
 partners-few book kind receiver registered =
     let points = keep (is_taken kind receiver) book.points in
     let numbers = partner_numbers book kind receiver in
-    omega (arith, keep_length (λ (p : Partner). is_some p.series) (map (partner_by (grains_at book kind receiver) (book.calendar.year, book.calendar.month) (month_quarters book.calendar)) numbers), length-map numbers (partner_by (grains_at book kind receiver) (book.calendar.year, book.calendar.month) (month_quarters book.calendar)), ascending-length (map (partner_of kind) points), length-map points (partner_of kind), keep_length (is_taken kind receiver) book.points, registered.few)
+    omega (arith, keep-length (λ (p : Partner). is_some p.series) (map (partner_by (grains_at book kind receiver) (book.calendar.year, book.calendar.month) (month_quarters book.calendar)) numbers), length-map numbers (partner_by (grains_at book kind receiver) (book.calendar.year, book.calendar.month) (month_quarters book.calendar)), ascending-length (map (partner_of kind) points), length-map points (partner_of kind), keep-length (is_taken kind receiver) book.points, registered.few)
 
 module _ (book : Book) (sound : Sound book) (registered : Registered book) (kind : Kind) (receiver : ℕ) where
   partner-valid : (p : Partner) → Memᴰ p (partners_of book kind receiver) → IsPartner kind p
   unfolding partners_of partners_by partner_at partner_by time_series_of time_series
-  partner-valid p m = let k = mem_keep (λ (p : Partner). is_some p.series) (map (partner_at book kind receiver) (partner_numbers book kind receiver)) p m in go (Memᴰ.of_map (partner_at book kind receiver) (partner_numbers book kind receiver) k.0) k.1
+  partner-valid p m = let k = mem-keep (λ (p : Partner). is_some p.series) (map (partner_at book kind receiver) (partner_numbers book kind receiver)) p m in go (Memᴰ.of_map (partner_at book kind receiver) (partner_numbers book kind receiver) k.0) k.1
     where
       at : (n : ℕ) → Memᴰ n (partner_numbers book kind receiver) → is_some (time_series_of book kind receiver n) ≡ true → IsPartner kind (partner_at book kind receiver n)
       at n m e =
@@ -273,7 +273,7 @@ module _ (book : Book) (sound : Sound book) (registered : Registered book) (kind
 
   partner-month : (p : Partner) → Memᴰ p (partners_of book kind receiver) → All (λ q. q ≡ (book.calendar.year, book.calendar.month)) (map month_of p.series)
   unfolding partners_of partners_by partner_at partner_by time_series_of time_series
-  partner-month p m = go (Memᴰ.of_map (partner_at book kind receiver) (partner_numbers book kind receiver) (mem_keep (λ (p : Partner). is_some p.series) (map (partner_at book kind receiver) (partner_numbers book kind receiver)) p m).0)
+  partner-month p m = go (Memᴰ.of_map (partner_at book kind receiver) (partner_numbers book kind receiver) (mem-keep (λ (p : Partner). is_some p.series) (map (partner_at book kind receiver) (partner_numbers book kind receiver)) p m).0)
     where
       month : (n : ℕ) (q : ℕ × ℕ) → (s : TimeSeries) × Memᴰ s (time_series_of book kind receiver n) × (month_of s ≡ q) → q ≡ (book.calendar.year, book.calendar.month)
       month n q (s, k, e) = sym e ∙ series-month n s k
@@ -283,18 +283,18 @@ module _ (book : Book) (sound : Sound book) (registered : Registered book) (kind
           subst (λ (x : Partner). All (λ q. q ≡ (book.calendar.year, book.calendar.month)) (map month_of x.series)) e
           (each_all _ (map month_of (time_series_of book kind receiver n)) (λ q j. month n q (Memᴰ.of_map month_of (time_series_of book kind receiver n) j)))
 
-  pub book_month : All (λ q. q ≡ (book.calendar.year, book.calendar.month)) (periods (partners_of book kind receiver))
+  pub book-month : All (λ q. q ≡ (book.calendar.year, book.calendar.month)) (periods (partners_of book kind receiver))
   unfolding periods
-  book_month = all-flat_map _ (λ (p : Partner). map month_of p.series) (partners_of book kind receiver) partner-month
+  book-month = all-flat_map _ (λ (p : Partner). map month_of p.series) (partners_of book kind receiver) partner-month
 
-  pub partners_rise : rises 0 (map number (partners_of book kind receiver)) ≡ true
+  pub partners-rise : rises 0 (map number (partners_of book kind receiver)) ≡ true
   unfolding partners_of partners_by partner_at partner_by partner_numbers time_series_of time_series
-  partners_rise =
-      keep_rises (λ (p : Partner). is_some p.series) number 0 (map (partner_at book kind receiver) (partner_numbers book kind receiver))
+  partners-rise =
+      keep-rises (λ (p : Partner). is_some p.series) number 0 (map (partner_at book kind receiver) (partner_numbers book kind receiver))
       (rw (map_back number (partner_at book kind receiver) (λ n. refl) (partner_numbers book kind receiver)) (ascending-rises (map (partner_of kind) (keep (is_taken kind receiver) book.points))))
 
-  pub partners_valid : All (IsPartner kind) (partners_of book kind receiver)
-  partners_valid = each_all (IsPartner kind) (partners_of book kind receiver) partner-valid
+  pub partners-valid : All (IsPartner kind) (partners_of book kind receiver)
+  partners-valid = each_all (IsPartner kind) (partners_of book kind receiver) partner-valid
 
   receiver-below : Memᴰ receiver (receivers book kind) → receiver < 10 ^ 10
   unfolding receivers
@@ -304,15 +304,15 @@ module _ (book : Book) (sound : Sound book) (registered : Registered book) (kind
       go (point, k, e) = subst (λ n. n < 10 ^ 10) e (receiver-fits kind point (registered.numbered point k))
 
   -- the file of a receiver in its role, with an ID and a moment in form
-  pub file_valid : (id moment : List ℕ) → Memᴰ receiver (receivers book kind) → is_transaction_id id ≡ true → is_moment moment ≡ true → IsFile (file_of book kind receiver id moment)
+  pub file-valid : (id moment : List ℕ) → Memᴰ receiver (receivers book kind) → is_transaction_id id ≡ true → is_moment moment ≡ true → IsFile (file_of book kind receiver id moment)
   unfolding file_of
-  file_valid id moment m e f =
+  file-valid id moment m e f =
       record {
         receiver = receiver-below m;
         id = e;
         moment = f;
         fits = omega (arith, partners-few book kind receiver registered);
-        rising = partners_rise;
-        each = partners_valid;
-        same = all_first (periods (partners_of book kind receiver)) (book.calendar.year, book.calendar.month) book_month;
+        rising = partners-rise;
+        each = partners-valid;
+        same = all_first (periods (partners_of book kind receiver)) (book.calendar.year, book.calendar.month) book-month;
       }

@@ -26,7 +26,7 @@ use Rattle.volumes.specs.SoundLaws.{sound}
 use Rattle.reports.specs.FileRows.{supply_number, delivery_number, file_rows}
 use Rattle.reports.specs.Watts.{watts_in}
 use Rattle.reports.specs.CarryLaws.{carries}
-use Rattle.reports.specs.Demand3Laws.{carried_is}
+use Rattle.reports.specs.Demand3Laws.{carried-is}
 use Rattle.reports.specs.Small.{Carries}
 use Rattle.reports.specs.Pool.{words}
 
@@ -143,7 +143,7 @@ carries-by bytes passed good kind receiver partner p w low high e =
     let defined : watts_in (file_rows (book_of bytes) kind receiver) partner 0 0 p ≡ w = carries (book_of bytes) (λ d m. ((sound bytes passed).engagements d m).point) kind receiver partner OffTake Up p low high ∙ e in
     record {
       defined = defined;
-      written = λ c wrote same. ap (λ l. watts_in l partner 0 0 p) (carried_is bytes good kind c wrote ∙ ap (file_rows (book_of bytes) kind) same) ∙ defined;
+      written = λ c wrote same. ap (λ l. watts_in l partner 0 0 p) (carried-is bytes good kind c wrote ∙ ap (file_rows (book_of bytes) kind) same) ∙ defined;
     }
 
 pub accepted-by : (bytes : List ℕ) → book_refusal bytes ≡ none → Accepted bytes

@@ -24,10 +24,10 @@ sheet-listed bytes party lent =
     each-unless Listed (stands party (parties (book_of bytes))) 11 _ (listed-zero 11 (omega arith) (λ z. omega arith)) (λ f.
     listed-short 0 (month_quarters (book_of bytes).calendar) lent (omega arith)))
 
-lent-listed : (row_numbers rows_lent fileLength file_lent : ℕ) → Each Listed (short_refusal row_numbers rows_lent fileLength file_lent)
+lent-listed : (row_numbers rows_lent file_length file_lent : ℕ) → Each Listed (short_refusal row_numbers rows_lent file_length file_lent)
 unfolding short_refusal
-lent-listed row_numbers rows_lent fileLength file_lent =
-    each-else Listed (short 0 row_numbers rows_lent) (short 1 fileLength file_lent) (listed-short 0 row_numbers rows_lent (omega arith)) (λ e. listed-short 1 fileLength file_lent (omega arith))
+lent-listed row_numbers rows_lent file_length file_lent =
+    each-else Listed (short 0 row_numbers rows_lent) (short 1 file_length file_lent) (listed-short 0 row_numbers rows_lent (omega arith)) (λ e. listed-short 1 file_length file_lent (omega arith))
 
 asked-listed : (book : Book) (kind : Option Kind) (receiver : ℕ) (id moment : List ℕ) (rows_lent file_lent : ℕ) → Each Listed (asked_refusal book kind receiver id moment rows_lent file_lent)
 unfolding asked_refusal

@@ -10,7 +10,7 @@ use Rattle.integers.specs.Running.{up_to, floor_at}
 use Rattle.integers.specs.Sums.{sum_by, sum_of}
 use Rattle.integers.specs.TestsLaws.{both}
 use Rattle.integers.specs.Keep.{keep}
-use Rattle.integers.specs.KeepLaws.{keep_mem}
+use Rattle.integers.specs.KeepLaws.{keep-mem}
 use Rattle.integers.specs.AscendingLaws.{ascending-once}
 use Rattle.grains.specs.Grains.{per_watt}
 use Rattle.book.specs.declared.Supply.{Supply}
@@ -83,14 +83,14 @@ module _ (book : Book) (inside : Inside book) (kind : Kind) (receiver : ℕ) (s 
       go false f u v h = absurd (omega arith)
 
   -- a series with grains has a point
-  pub grains_point : (q : ℕ) → 1 ≤ grains_at book kind receiver s q → (point : Point) × Memᴰ point book.points × Of kind receiver s point
+  pub grains-point : (q : ℕ) → 1 ≤ grains_at book kind receiver s q → (point : Point) × Memᴰ point book.points × Of kind receiver s point
   unfolding grains_at
-  grains_point q h = let r = some-term (grains_of book kind receiver s q) book.engagements h in of-engagement q r.0 r.1 r.2
+  grains-point q h = let r = some-term (grains_of book kind receiver s q) book.engagements h in of-engagement q r.0 r.1 r.2
 
   -- and so has one with watts
-  pub watts_point : (p : ℕ) → 1 ≤ series_watts book kind receiver s p → (point : Point) × Memᴰ point book.points × Of kind receiver s point
+  pub watts-point : (p : ℕ) → 1 ≤ series_watts book kind receiver s p → (point : Point) × Memᴰ point book.points × Of kind receiver s point
   unfolding series_watts floor_at
-  watts_point p h = let r = some-position (grains_at book kind receiver s) p (omega arith) in grains_point r.0 r.1
+  watts-point p h = let r = some-position (grains_at book kind receiver s) p (omega arith) in grains-point r.0 r.1
 
   -- a partner that the receiver doesn't have
   no-grains : times s.partner (partner_numbers book kind receiver) ≡ 0 → (q : ℕ) → grains_at book kind receiver s q ≡ 0
@@ -99,13 +99,13 @@ module _ (book : Book) (inside : Inside book) (kind : Kind) (receiver : ℕ) (s 
     where
       none : (point : Point) × Memᴰ point book.points × Of kind receiver s point → ⊥
       none (point, m, o) =
-          let k = Memᴰ.map (partner_of kind) (keep_mem (is_taken kind receiver) book.points point m o.taken) in
+          let k = Memᴰ.map (partner_of kind) (keep-mem (is_taken kind receiver) book.points point m o.taken) in
           omega (arith, (ascending-once (map (partner_of kind) (keep (is_taken kind receiver) book.points))).once s.partner (Memᴰ.cast (sym o.partner) k))
 
       go : (n : ℕ) → grains_at book kind receiver s q ≡ n → n ≡ 0
       go zero e = refl
-      go (suc n) e = absurd (none (grains_point q (omega arith)))
+      go (suc n) e = absurd (none (grains-point q (omega arith)))
 
-  pub no_watts : times s.partner (partner_numbers book kind receiver) ≡ 0 → (p : ℕ) → series_watts book kind receiver s p ≡ 0
+  pub no-watts : times s.partner (partner_numbers book kind receiver) ≡ 0 → (p : ℕ) → series_watts book kind receiver s p ≡ 0
   unfolding series_watts
-  no_watts z p = floor_at-zero per_watt (grains_at book kind receiver s) p (no-grains z)
+  no-watts z p = floor_at-zero per_watt (grains_at book kind receiver s) p (no-grains z)

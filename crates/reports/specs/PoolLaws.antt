@@ -191,7 +191,7 @@ half-watts = (refl, refl, refl, refl)
 -- a series' watts at the first position, and at the second
 watts-are : (series_watts pool_book Toe01 7 (series_of 3 OffTake Up) 1 ≡ 1) × (series_watts pool_book Toe02 3 (series_of 7 OffTake Up) 1 ≡ 1) × (series_watts pool_book Toe03 3 (series_of 13 OffTake Up) 1 ≡ 0) × (series_watts pool_book Toe03 3 (series_of 13 OffTake Up) 2 ≡ 1)
 unfolding pool_book february calendar table register watt_at engagements insert ranked mean watts complete known own_reading day_reading day_readings day_window windowed allowed suits engaged any_of clear regular eligible before keep eligible_days latest day_sum taken high baseline_by baseline limited delivered_by delivered point_of start is_clock_change looks_at reference_quarter reference quarter_hours day_start quarters quarters_by calendar_days month_length leap range reading_of sum_by series_watts floor_at up_to grains_at grains_of is_engagement is_point takes receiver_of partner_of same_supply same_direction covers quarter_at position
-watts_are = (refl, refl, refl, refl)
+watts-are = (refl, refl, refl, refl)
 
 delivers : (i k : ℕ) → delivered pool_book (engagement_at engagements i) k ≡ 15120 → volume i k ≡ 15120
 delivers i k e = ap (λ b. delivered b (engagement_at engagements i) k) book-is ∙ e

@@ -76,9 +76,9 @@ module _ (bytes : List ℕ) (a : Accepted bytes) (id moment : List ℕ) (named :
   answered : Answered bytes
   answered = (demand-3 bytes a).answered
 
-  sheet_filled : (party : ℕ) → Memᴰ party (parties (book_of bytes)) → filled (sheet_for bytes party) ≡ true
+  sheet-filled : (party : ℕ) → Memᴰ party (parties (book_of bytes)) → filled (sheet_for bytes party) ≡ true
   unfolding filled sheet_for is_sheet
-  sheet_filled party m = ap is_sheet (answered.sheet_call (sheet_for bytes party) m (omega (arith, length-replicate (month_quarters (book_of bytes).calendar) (pos 0))))
+  sheet-filled party m = ap is_sheet (answered.sheet_call (sheet_for bytes party) m (omega (arith, length-replicate (month_quarters (book_of bytes).calendar) (pos 0))))
 
   file-wrote : (kind : Kind) (receiver : ℕ) → Memᴰ receiver (receivers (book_of bytes) kind) → wrote kind (file_for bytes id moment kind receiver) ≡ true
   unfolding wrote file_for is_file
@@ -91,7 +91,7 @@ module _ (bytes : List ℕ) (a : Accepted bytes) (id moment : List ℕ) (named :
 
   all-filled : filled_for all-sheets ≡ ascending (parties (book_of bytes))
   unfolding filled_for all-sheets sheet_for
-  all-filled = all-kept filled (λ c. c.party) (sheet_for bytes) (ascending (parties (book_of bytes))) (λ x m. sheet_filled x ((ascending-once (parties (book_of bytes))).only x m)) (λ x. refl)
+  all-filled = all-kept filled (λ c. c.party) (sheet_for bytes) (ascending (parties (book_of bytes))) (λ x m. sheet-filled x ((ascending-once (parties (book_of bytes))).only x m)) (λ x. refl)
 
   files-of : Kind → List (FileCall bytes)
   files-of kind = map (file_for bytes id moment kind) (ascending (receivers (book_of bytes) kind))

@@ -20,7 +20,7 @@ use Rattle.book.specs.Judged.{refusal_of}
 use Rattle.book.specs.Book.{book_of}
 use Rattle.book.specs.declared.Point.{Point}
 use Rattle.volumes.specs.SoundLaws.{passes, first-none, mem-range}
-use Rattle.volumes.specs.BookLaws.{points_length}
+use Rattle.volumes.specs.BookLaws.{points-length}
 use Rattle.reports.specs.RegisteredInner.{NumbersFit, Registered}
 use Rattle.integers.specs.FirstLaws.{any-of}
 
@@ -90,5 +90,5 @@ registered bytes e =
     record {
       numbered = λ point m. numbered-point bytes point (row_of bytes e point m);
       shared = λ a b m k q. shared-points bytes a b (row_of bytes e a m) (row_of bytes e b k) q;
-      few = omega (arith, points_length bytes, (headed bytes (passes bytes e).header).points);
+      few = omega (arith, points-length bytes, (headed bytes (passes bytes e).header).points);
     }

@@ -10,34 +10,34 @@ use Rattle.integers.specs.Counts.{times}
 use Rattle.integers.specs.OnceLaws.{Once}
 use Rattle.integers.specs.Sums.{naturals, sum_of}
 use Rattle.integers.specs.Keep.{keep}
-use Rattle.integers.specs.KeepLaws.{mem_keep}
+use Rattle.integers.specs.KeepLaws.{mem-keep}
 use Rattle.integers.specs.AscendingLaws.{ascending-once}
 use Rattle.book.specs.declared.Supply.{Supply}
 use Rattle.book.specs.declared.Direction.{Direction}
 use Rattle.book.specs.declared.Point.{Point}
 use Rattle.book.specs.Book.{Book}
 use Rattle.volumes.specs.Series.{Kind, Toe01, Toe02, receiver_of, partner_of, series_watts, series_of}
-use Rattle.volumes.specs.SeriesLaws.{pair_watts}
+use Rattle.volumes.specs.SeriesLaws.{pair-watts}
 use Rattle.message.specs.Rows.{Row}
 use Rattle.reports.specs.FileRows.{supply_number, delivery_number, is_taken, partner_numbers, directions, file_rows, observation_by}
 use Rattle.reports.specs.Roles.{receivers}
 use Rattle.reports.specs.Watts.{watts_of, directed_in, total_in}
-use Rattle.reports.specs.PointsLaws.{Inside, no_watts}
-use Rattle.reports.specs.CarryLaws.{nought, rows_sum}
+use Rattle.reports.specs.PointsLaws.{Inside, no-watts}
+use Rattle.reports.specs.CarryLaws.{nought, rows-sum}
 use Rattle.integers.specs.CountsLaws.{eqb-sym, times-mem}
-use Rattle.integers.specs.SumsLaws.{sum-zero, sum_all, sum_cong, sum_swap, sum_once, sum_absent}
+use Rattle.integers.specs.SumsLaws.{sum-zero, sum-all, sum-cong, sum-swap, sum-once, sum-absent}
 use Rattle.reports.specs.FileRowsInner.{positions, observation_at}
 
 -- a list that holds each number of a part once, and one that holds each of the whole: their sums are the same where the rest adds nothing
 part-sum : (f : ℕ → ℕ) (l part m whole : List ℕ) → Once l part → Once m whole → ((x : ℕ) → Memᴰ x part → Memᴰ x whole) → ((x : ℕ) → times x l ≡ 0 → f x ≡ 0) → sum_of f l ≡ sum_of f m
 part-sum f l part m whole o q sub rest =
-    sum_cong naturals f (λ x. sum_of (λ y. cond (eqb x y) (f y) 0) m) l (λ x h. sym (sum_once naturals x f m (q.once x (sub x (o.only x h)))))
-    ∙ sum_swap naturals (λ x y. cond (eqb x y) (f y) 0) l m
-    ∙ sum_all naturals (λ y. sum_of (λ x. cond (eqb x y) (f y) 0) l) f m (λ y. sum_all naturals (λ x. cond (eqb x y) (f y) 0) (λ x. cond (eqb y x) (f y) 0) l (λ x. rw (eqb-sym x y)) ∙ one y (times y l) refl)
+    sum-cong naturals f (λ x. sum_of (λ y. cond (eqb x y) (f y) 0) m) l (λ x h. sym (sum-once naturals x f m (q.once x (sub x (o.only x h)))))
+    ∙ sum-swap naturals (λ x y. cond (eqb x y) (f y) 0) l m
+    ∙ sum-all naturals (λ y. sum_of (λ x. cond (eqb x y) (f y) 0) l) f m (λ y. sum-all naturals (λ x. cond (eqb x y) (f y) 0) (λ x. cond (eqb y x) (f y) 0) l (λ x. rw (eqb-sym x y)) ∙ one y (times y l) refl)
   where
     one : (y t : ℕ) → times y l ≡ t → sum_of (λ x. cond (eqb y x) (f y) 0) l ≡ f y
-    one y zero e = sum_absent naturals y (λ _. f y) l e ∙ sym (rest y e)
-    one y (suc t) e = sum_once naturals y (λ _. f y) l (o.once y (o.only y (times-mem y l (omega arith))))
+    one y zero e = sum-absent naturals y (λ _. f y) l e ∙ sym (rest y e)
+    one y (suc t) e = sum-once naturals y (λ _. f y) l (o.once y (o.only y (times-mem y l (omega arith))))
 
 -- a test on directions and position
 abbrev row_test : (ℕ → ℕ → ℕ → Bool) → Row → Bool
@@ -51,14 +51,14 @@ module _ (book : Book) (inside : Inside book) (t : ℕ → ℕ → ℕ → Bool)
   -- a file, partner by partner
   file-side : (kind : Kind) (receiver : ℕ) → watts_of (row_test t) (file_rows book kind receiver) ≡ sum_of (side book t kind receiver) (partner_numbers book kind receiver)
   unfolding watts_of side observation_at observation_by series_watts
-  file-side kind receiver = rows_sum book kind receiver (λ r. cond (row_test t r) r.1.1.watts 0) (λ r e. nought (row_test t r) e)
+  file-side kind receiver = rows-sum book kind receiver (λ r. cond (row_test t r) r.1.1.watts 0) (λ r e. nought (row_test t r) e)
 
   -- a partner that the receiver doesn't have adds nothing
   no-side : (kind : Kind) (receiver n : ℕ) → times n (partner_numbers book kind receiver) ≡ 0 → side book t kind receiver n ≡ 0
   unfolding side
   no-side kind receiver n z =
-      sum_all naturals _ (λ d. 0) directions (λ d.
-      sum_all naturals _ (λ p. 0) (positions book) (λ p. nought (t (supply_number d.0) (delivery_number d.1) p) (no_watts book inside kind receiver (series_of n d.0 d.1) z p))
+      sum-all naturals _ (λ d. 0) directions (λ d.
+      sum-all naturals _ (λ p. 0) (positions book) (λ p. nought (t (supply_number d.0) (delivery_number d.1) p) (no-watts book inside kind receiver (series_of n d.0 d.1) z p))
       ∙ sum-zero naturals (positions book))
       ∙ sum-zero naturals directions
 
@@ -72,28 +72,28 @@ module _ (book : Book) (inside : Inside book) (t : ℕ → ℕ → ℕ → Bool)
       (λ x h. sub x (Memᴰ.of_map (partner_of kind) (keep (is_taken kind receiver) book.points) h)) (no-side kind receiver)
     where
       sub : (x : ℕ) → (point : Point) × Memᴰ point (keep (is_taken kind receiver) book.points) × (partner_of kind point ≡ x) → Memᴰ x (map (partner_of kind) book.points)
-      sub x (point, h, e) = Memᴰ.cast (sym e) (Memᴰ.map (partner_of kind) (mem_keep (is_taken kind receiver) book.points point h).0)
+      sub x (point, h, e) = Memᴰ.cast (sym e) (Memᴰ.map (partner_of kind) (mem-keep (is_taken kind receiver) book.points point h).0)
 
   same-side : (fsp supplier : ℕ) → side book t Toe01 fsp supplier ≡ side book t Toe02 supplier fsp
   unfolding side
   same-side fsp supplier =
-      sum_all naturals _ _ directions (λ d.
-      sum_all naturals _ _ (positions book) (λ p. ap (λ n. cond (t (supply_number d.0) (delivery_number d.1) p) n 0) (pair_watts book fsp supplier d.0 d.1 p)))
+      sum-all naturals _ _ directions (λ d.
+      sum-all naturals _ _ (positions book) (λ p. ap (λ n. cond (t (supply_number d.0) (delivery_number d.1) p) n 0) (pair-watts book fsp supplier d.0 d.1 p)))
 
-  pub totals_any : (fsps suppliers : List ℕ) → Once fsps (receivers book Toe01) → Once suppliers (receivers book Toe02)
+  pub totals-any : (fsps suppliers : List ℕ) → Once fsps (receivers book Toe01) → Once suppliers (receivers book Toe02)
       → sum_of (λ f. watts_of (row_test t) (file_rows book Toe01 f)) fsps ≡ sum_of (λ s. watts_of (row_test t) (file_rows book Toe02 s)) suppliers
   unfolding receivers receiver_of partner_of
-  totals_any fsps suppliers o q =
-      sum_all naturals (λ f. watts_of (row_test t) (file_rows book Toe01 f)) (λ f. sum_of (λ s. side book t Toe02 s f) suppliers) fsps (λ f. file-all Toe01 f suppliers q ∙ sum_all naturals (side book t Toe01 f) (λ s. side book t Toe02 s f) suppliers (same-side f))
-      ∙ sum_swap naturals (λ f s. side book t Toe02 s f) fsps suppliers
-      ∙ sum_all naturals (λ s. sum_of (λ f. side book t Toe02 s f) fsps) (λ s. watts_of (row_test t) (file_rows book Toe02 s)) suppliers (λ s. sym (file-all Toe02 s fsps o))
+  totals-any fsps suppliers o q =
+      sum-all naturals (λ f. watts_of (row_test t) (file_rows book Toe01 f)) (λ f. sum_of (λ s. side book t Toe02 s f) suppliers) fsps (λ f. file-all Toe01 f suppliers q ∙ sum-all naturals (side book t Toe01 f) (λ s. side book t Toe02 s f) suppliers (same-side f))
+      ∙ sum-swap naturals (λ f s. side book t Toe02 s f) fsps suppliers
+      ∙ sum-all naturals (λ s. sum_of (λ f. side book t Toe02 s f) fsps) (λ s. watts_of (row_test t) (file_rows book Toe02 s)) suppliers (λ s. sym (file-all Toe02 s fsps o))
 
 -- at a position in each supply and delivery direction, and over all
 module _ (book : Book) (inside : Inside book) (fsps suppliers : List ℕ) (o : Once fsps (receivers book Toe01)) (q : Once suppliers (receivers book Toe02)) where
-  pub directed_totals : (supply delivery p : ℕ) → sum_of (λ f. directed_in (file_rows book Toe01 f) supply delivery p) fsps ≡ sum_of (λ s. directed_in (file_rows book Toe02 s) supply delivery p) suppliers
+  pub directed-totals : (supply delivery p : ℕ) → sum_of (λ f. directed_in (file_rows book Toe01 f) supply delivery p) fsps ≡ sum_of (λ s. directed_in (file_rows book Toe02 s) supply delivery p) suppliers
   unfolding directed_in
-  directed_totals supply delivery p = totals_any book inside (λ a b n. eqb supply a && (eqb delivery b && eqb p n)) fsps suppliers o q
+  directed-totals supply delivery p = totals-any book inside (λ a b n. eqb supply a && (eqb delivery b && eqb p n)) fsps suppliers o q
 
   pub totals : (p : ℕ) → sum_of (λ f. total_in (file_rows book Toe01 f) p) fsps ≡ sum_of (λ s. total_in (file_rows book Toe02 s) p) suppliers
   unfolding total_in
-  totals p = totals_any book inside (λ a b n. eqb p n) fsps suppliers o q
+  totals p = totals-any book inside (λ a b n. eqb p n) fsps suppliers o q

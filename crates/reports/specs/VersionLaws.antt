@@ -3,7 +3,7 @@ use Rattle.std.specs.Prelude.{◌≡◌, List, ℕ}
 use Rattle.quarters.specs.Quarters.{month_quarters}
 use Rattle.book.specs.Book.{Book}
 use Rattle.volumes.specs.Series.{Kind}
-use Rattle.volumes.specs.VersionLaws.{of_version, grains_any}
+use Rattle.volumes.specs.VersionLaws.{of_version, grains-any}
 use Rattle.message.specs.Bytes.{file_bytes}
 use Rattle.reports.specs.FileRows.{partner_numbers, partners_by, partners_of, file_of, file_text}
 
@@ -16,5 +16,5 @@ text-any version book kind receiver id moment =
       receiver = receiver;
       id = id;
       moment = moment;
-      partners = partners_by (λ s p. grains_any version book kind receiver s p i) (book.calendar.year, book.calendar.month) (month_quarters book.calendar) (partner_numbers book kind receiver);
+      partners = partners_by (λ s p. grains-any version book kind receiver s p i) (book.calendar.year, book.calendar.month) (month_quarters book.calendar) (partner_numbers book kind receiver);
     })

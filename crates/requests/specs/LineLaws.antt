@@ -8,11 +8,11 @@ use Rattle.text.specs.Ascii.{bytes}
 use Rattle.text.specs.Decimal.{fixed}
 use Rattle.text.specs.DecimalLaws.{length-fixed}
 use Rattle.formats.specs.Format.{Res, got, bad}
-use Rattle.formats.specs.FormatLaws.{sound_of}
+use Rattle.formats.specs.FormatLaws.{sound-of}
 use Rattle.formats.specs.Combine.{strip, only_parse}
 use Rattle.formats.specs.Exactly.{exactly_parse, fixed_digits}
-use Rattle.formats.specs.Name.{name_byte, span, nameParse}
-use Rattle.formats.specs.RunLaws.{run_seq, run_post, run_only, run_fail}
+use Rattle.formats.specs.Name.{name_byte, span, name_parse}
+use Rattle.formats.specs.RunLaws.{run-seq, run-post, run_only, run-fail}
 use Rattle.formats.specs.PlaceInner.{Parsed, left}
 use Rattle.formats.specs.PlaceLaws.{parsed}
 use Rattle.formats.specs.declared.Mark.{Mark}
@@ -28,11 +28,11 @@ use Rattle.requests.specs.LineInner.{asked, request_by, request_of}
 -- ---- a kind
 
 module _ (s : List ℕ) (m r : Mark) (n : ℕ) (p : Parsed (fixed_digits 2).parse s m r n) where
-  pub kind_is : is_kind n ≡ true → Parsed (only_parse is_kind (fixed_digits 2).parse) s m r n
+  pub kind-is : is_kind n ≡ true → Parsed (only_parse is_kind (fixed_digits 2).parse) s m r n
   kind-is e = record { run = run_only is_kind p.run e; within = p.within }
 
-  pub kind_none : is_kind n ≡ false → Parsed (only_parse is_kind (fixed_digits 2).parse) s m No n
-  kind_none e = record { run = run_fail is_kind p.run e; within = tt }
+  pub kind-none : is_kind n ≡ false → Parsed (only_parse is_kind (fixed_digits 2).parse) s m No n
+  kind-none e = record { run = run-fail is_kind p.run e; within = tt }
 
 -- ---- the line
 
@@ -45,7 +45,7 @@ pub record Lined (s : List ℕ) (r : Mark) (kind receiver : ℕ) : Type 0 where
 module _ (s : List ℕ) {a b c d e f r : Mark} {kind receiver : ℕ} where
   pub lined : Parsed (only_parse is_kind (fixed_digits 2).parse) s (At 0) a kind → Parsed (strip (bytes " ")) s a b tt
       → Parsed (fixed_digits 10).parse s b c receiver → Parsed (strip (bytes " ")) s c d tt
-      → Parsed (nameParse name_byte 1 36 32) s d e (span name_byte (left s d)) → Parsed (exactly_parse 29 is_moment) s e f (take 29 (left s e))
+      → Parsed (name_parse name_byte 1 36 32) s d e (span name_byte (left s d)) → Parsed (exactly_parse 29 is_moment) s e f (take 29 (left s e))
       → Parsed (strip (bytes "\n")) s f r tt → Lined s r kind receiver
   unfolding line
   lined p₀ p₁ p₂ p₃ p₄ p₅ p₆ =
@@ -53,7 +53,7 @@ module _ (s : List ℕ) {a b c d e f r : Mark} {kind receiver : ℕ} where
         id = span name_byte (left s d);
         moment = take 29 (left s e);
         parsed = record {
-          run = run_seq _ (run_post _ p₀.run p₁.run) (run_seq _ (run_post _ p₂.run p₃.run) (run_seq _ p₄.run (run_post _ p₅.run p₆.run)));
+          run = run-seq _ (run-post _ p₀.run p₁.run) (run-seq _ (run-post _ p₂.run p₃.run) (run-seq _ p₄.run (run-post _ p₅.run p₆.run)));
           within = p₆.within;
         };
       }
@@ -75,7 +75,7 @@ pub record Ended (s : List ℕ) (q : ℕ) (w : Words) : Type 0 where
 
 ended : (s : List ℕ) (q : ℕ) (w : Words) → q ≤ length s → line.parse s ≡ got w (drop q s) → Ended s q w
 ended s q w h e =
-    let f = sound_of line s w (drop q s) e in
+    let f = sound-of line s w (drop q s) e in
     record {
       form = f.0;
       ok = f.1;
@@ -84,13 +84,13 @@ ended s q w h e =
     }
 
 module _ (s : List ℕ) (q kind receiver : ℕ) (l : Lined s (At q) kind receiver) where
-  pub line_ended : Ended s q (kind, (receiver, (l.id, l.moment)))
-  line_ended = ended s q (kind, (receiver, (l.id, l.moment))) l.parsed.within l.parsed.run.run
+  pub line-ended : Ended s q (kind, (receiver, (l.id, l.moment)))
+  line-ended = ended s q (kind, (receiver, (l.id, l.moment))) l.parsed.within l.parsed.run.run
 
-  pub line_there : Line (record { kind = kind; receiver = receiver; id = 14; id_length = q - 45; moment = q - 30; book = q }) ≡ request_of s
+  pub line-there : Line (record { kind = kind; receiver = receiver; id = 14; id_length = q - 45; moment = q - 30; book = q }) ≡ request_of s
   unfolding request_of asked
-  line_there =
-      let b = line_ended.behind in
+  line-there =
+      let b = line-ended.behind in
       let n : length l.id ≡ q - 45 = omega arith in
       let m : 15 + length l.id ≡ q - 30 = omega arith in
       let k : 45 + length l.id ≡ q = omega arith in
@@ -143,7 +143,7 @@ moment-long w ok = ok.1.1.1.0
 pub placed : (s : List ℕ) (w : Words) (rest : List ℕ) → line.parse s ≡ got w rest → PlacedWords s w rest
 unfolding asked
 placed s w rest e =
-    let f = sound_of line s w rest e in
+    let f = sound-of line s w rest e in
     let n = length w.1.1.0 in
     record {
       room = omega (arith, simp length-append at (ap length f.0), line-length w f.1);

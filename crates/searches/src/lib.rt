@@ -4,7 +4,7 @@ pub mod metering;
 pub mod register;
 
 // Where a search ended.
-#[derive(Clone, Copy)]
+#[derive(Drop)]
 pub enum Found {
     At(usize),
     Nothing,

@@ -26,7 +26,7 @@ use Rattle.book.specs.Engagements.{engagement_at}
 use Rattle.book.specs.Header.{calendar_of, register_section, engagement_section}
 use Rattle.book.specs.Book.{Book, book_of}
 use Rattle.quarters.specs.Quarters.{month_quarters}
-use Rattle.volumes.specs.QuartersLaws.{position_inside}
+use Rattle.volumes.specs.QuartersLaws.{position-inside}
 use Rattle.volumes.specs.Settlement.{delivered, rows, row_count}
 use Rattle.volumes.specs.SettlementLaws.{passing}
 use Rattle.volumes.specs.Sheets.{start_position, covers, quarter_at}
@@ -35,17 +35,17 @@ use Rattle.volumes.specs.Series.{Kind, Toe01, Toe02, Toe03, same_supply, same_di
 use Rattle.volumes.specs.Baseline.{point_of}
 use Rattle.volumes.specs.SoundInner.{Placed}
 use Rattle.volumes.specs.SoundLaws.{sound}
-use Rattle.volumes.specs.WidthsLaws.{most, delivered_most}
+use Rattle.volumes.specs.WidthsLaws.{most, delivered-most}
 use Rattle.settlement.specs.SectionsInner.{engagement_count_in, engagements_in, row_count_in}
 use Rattle.settlement.specs.SectionsLaws.{rows-counted, same-book, opened}
 use Rattle.settlement.specs.DrawnLaws.{registered, owner}
 use Rattle.settlement.specs.PartsLaws.{row_count_to, count-more, count_most}
 use Rattle.series.specs.SumsInner.{by_position, cell_at, grains_to, added, VolumesAddable, Parts, DeliveredIn}
 use Rattle.series.specs.VolumesInner.{book_volumes}
-use Rattle.series.specs.VolumesLaws.{volumes_length, volume_of}
-use Rattle.integers.specs.RangesLaws.{length-range, range-more, get_d-made, get_d-mem, map_range_cong}
+use Rattle.series.specs.VolumesLaws.{volumes-length, volume-of}
+use Rattle.integers.specs.RangesLaws.{length-range, range-more, get_d-made, get_d-mem, map-range-cong}
 use Rattle.integers.specs.RunningLaws.{floor_at-cong}
-use Rattle.integers.specs.SumsLaws.{sum_append}
+use Rattle.integers.specs.SumsLaws.{sum-append}
 use Rattle.volumes.specs.SeriesInner.{taken_by}
 use Rattle.integers.specs.ListsLaws.{next-cell}
 
@@ -90,7 +90,7 @@ unfolding range
 set-made f g t a zero i x h e same = absurd (omega arith)
 set-made f g t a (suc n) zero x h e same =
     let z : a + 0 ≡ a = omega arith in
-    ap₂ ◌∷◌ (sym e ∙ ap g z) (ap (λ (l : List ℕ). l ++ t) (map_range_cong f g (suc a) n (λ p k _. same p (λ q. omega arith))))
+    ap₂ ◌∷◌ (sym e ∙ ap g z) (ap (λ (l : List ℕ). l ++ t) (map-range-cong f g (suc a) n (λ p k _. same p (λ q. omega arith))))
 set-made f g t a (suc n) (suc i) x h e same =
     let z : suc a + i ≡ a + suc i = omega arith in
     ap₂ ◌∷◌ (same a (λ q. omega arith)) (set-made f g t (suc a) n i x (omega arith) (ap g z ∙ e) (λ p q. same p (λ r. q (omega arith))))
@@ -126,7 +126,7 @@ pub by-own : (f : ℕ → ℕ) (n m : ℕ) (l after : List ℕ) → n ≡ m → 
 by-own f n m l after e h k = rw (← e) (omega (arith, ap length h, by_length f n l k), h ∙ sym (by-again f f n l) ∙ ap (by_position f n) (sym h))
 
 pub by-cong : (f g : ℕ → ℕ) (n : ℕ) (l : List ℕ) → ((p : ℕ) → 1 ≤ p → p ≤ n → f p ≡ g p) → by_position f n l ≡ by_position g n l
-by-cong f g n l h = ap (λ (t : List ℕ). t ++ drop n l) (map_range_cong f g 1 n (λ p a b. h p a (omega arith)))
+by-cong f g n l h = ap (λ (t : List ℕ). t ++ drop n l) (map-range-cong f g 1 n (λ p a b. h p a (omega arith)))
 
 -- n numbers of v from position q on
 unfoldable pub span_of : ℕ → ℕ → (ℕ → ℕ) → ℕ → ℕ
@@ -153,20 +153,20 @@ span-other q n v p h = go (ltb p (q + n)) refl
     go false e = let k : q + n ≤ p = ltb-false p (q + n) e in rw (le-ltb p (q + suc n) (omega (arith, h)))
 
 module _ (l : List ℕ) (at : ℕ) (v : ℕ → ℕ) where
-  pub added_length : (k : ℕ) → length (added l at v k) ≡ length l
+  pub added-length : (k : ℕ) → length (added l at v k) ≡ length l
   unfolding added
-  added_length zero = refl
-  added_length (suc k) = length-set (added l at v k) (at + k) (get_or l (at + k) 0 + v k) ∙ added_length k
+  added-length zero = refl
+  added-length (suc k) = length-set (added l at v k) (at + k) (get_or l (at + k) 0 + v k) ∙ added-length k
 
   -- the cells behind are as they were
-  pub added_behind : (k i : ℕ) → at + k ≤ i → get_or (added l at v k) i 0 ≡ get_or l i 0
+  pub added-behind : (k i : ℕ) → at + k ≤ i → get_or (added l at v k) i 0 ≡ get_or l i 0
   unfolding added
-  added_behind zero i h = refl
-  added_behind (suc k) i h = get_or-set_other (added l at v k) (at + k) i (get_or l (at + k) 0 + v k) 0 (λ e. omega arith) ∙ added_behind k i (omega arith)
+  added-behind zero i h = refl
+  added-behind (suc k) i h = get_or-set_other (added l at v k) (at + k) i (get_or l (at + k) 0 + v k) 0 (λ e. omega arith) ∙ added-behind k i (omega arith)
 
   pub added_more : (k : ℕ) → set (added l at v k) (at + k) (get_or (added l at v k) (at + k) 0 + v k) ≡ added l at v (k + 1)
   unfolding added
-  added_more k = rw (add-one k, added_behind k (at + k) (omega arith))
+  added_more k = rw (add-one k, added-behind k (at + k) (omega arith))
 
 pub added_none : (l : List ℕ) (at : ℕ) (v : ℕ → ℕ) → added l at v 0 ≡ l
 unfolding added
@@ -180,7 +180,7 @@ added-cong l at v w (suc n) h = ap₂ (λ (m : List ℕ) (x : ℕ). set m (at + 
 -- numbers added to cells are added at their positions
 pub added-span : (f : ℕ → ℕ) (t : List ℕ) (n at : ℕ) (v : ℕ → ℕ) (k : ℕ) → at + k ≤ n → added (map f (range 1 n) ++ t) at v k ≡ map (λ p. f p + span_of (at + 1) k v p) (range 1 n) ++ t
 unfolding added
-added-span f t n at v zero h = ap (λ (l : List ℕ). l ++ t) (map_range_cong f (λ p. f p + span_of (at + 1) 0 v p) 1 n (λ p _ _. omega (arith, span_none (at + 1) v p)))
+added-span f t n at v zero h = ap (λ (l : List ℕ). l ++ t) (map-range-cong f (λ p. f p + span_of (at + 1) 0 v p) 1 n (λ p _ _. omega (arith, span_none (at + 1) v p)))
 added-span f t n at v (suc k) h =
     let here : 1 + (at + k) ≡ at + 1 + k = omega arith in
     ap (λ (l : List ℕ). set l (at + k) (get_or (map f (range 1 n) ++ t) (at + k) 0 + v k)) (added-span f t n at v k (omega arith))
@@ -216,16 +216,16 @@ module _ {c : Calendar} {register engagements : List ℕ} {volumes : List ℕ} {
 
   volumes-in : length (book_volumes book) ≡ row_count_in engagements
   unfolding row_count row_count_in
-  volumes-in = volumes_length book ∙ ap (λ (l : List Engagement). sum_of (λ e. e.count) l) s.listed
+  volumes-in = volumes-length book ∙ ap (λ (l : List Engagement). sum_of (λ e. e.count) l) s.listed
 
   -- the volumes of the engagement behind those that are passed
   volumes-inside : (i : ℕ) → i < engagement_count_in engagements → row_count_to engagements i + (engagement_at engagements i).count ≤ length (book_volumes book)
   volumes-inside i h = omega (arith, volumes-in, count-more engagements i h, count_most engagements (i + 1))
 
-  pub volumes_room : (i : ℕ) → i < engagement_count_in engagements → row_count_to engagements i + (engagement_at engagements i).count ≤ length volumes
-  volumes_room i h = omega (arith, volumes-inside i h, length-take (length (book_volumes book)) volumes, ap length s.starts)
+  pub volumes-room : (i : ℕ) → i < engagement_count_in engagements → row_count_to engagements i + (engagement_at engagements i).count ≤ length volumes
+  volumes-room i h = omega (arith, volumes-inside i h, length-take (length (book_volumes book)) volumes, ap length s.starts)
 
-  pub volume_is : (i k : ℕ) → i < engagement_count_in engagements → k < (engagement_at engagements i).count → get_or volumes (row_count_to engagements i + k) 0 ≡ delivered book (engagement_at engagements i) k
+  pub volume-is : (i k : ℕ) → i < engagement_count_in engagements → k < (engagement_at engagements i).count → get_or volumes (row_count_to engagements i + k) 0 ≡ delivered book (engagement_at engagements i) k
   unfolding book_volumes
   volume-is i k h l =
       let d = engagement_at engagements i in
@@ -235,11 +235,11 @@ module _ {c : Calendar} {register engagements : List ℕ} {volumes : List ℕ} {
       sym (get_or-take (length (book_volumes book)) volumes j 0 inside)
       ∙ ap (λ (l : List ℕ). get_or l j 0) s.starts
       ∙ ap (λ (m : ℕ). get_or (book_volumes book) (m + k) 0) (rows-to i)
-      ∙ volume_of book book.engagements i d k (omega (arith, row-count)) (rw e l)
+      ∙ volume-of book book.engagements i d k (omega (arith, row-count)) (rw e l)
       ∙ ap (λ (e : Engagement). delivered book e k) e
 
-  pub volume_most : (i k : ℕ) → delivered book (engagement_at engagements i) k ≤ most
-  volume_most i k = delivered_most book s.sound (engagement_at engagements i) k
+  pub volume-most : (i k : ℕ) → delivered book (engagement_at engagements i) k ≤ most
+  volume-most i k = delivered-most book s.sound (engagement_at engagements i) k
 
   module _ (kind : Kind) (receiver : ℕ) (series : Series) where
     grains-more : (i : ℕ) → i < engagement_count_in engagements → (p : ℕ) → grains_to book kind receiver series (i + 1) p ≡ grains_to book kind receiver series i p + grains_of book kind receiver series p (engagement_at engagements i)
@@ -249,7 +249,7 @@ module _ {c : Calendar} {register engagements : List ℕ} {volumes : List ℕ} {
         let f = grains_of book kind receiver series p in
         let es = book.engagements in
         let last : sum_of f (get_or es i d ∷ []) ≡ f d = ap (λ (e : Engagement). f e + 0) (row_named i d h) ∙ omega arith in
-        rw (add-one i) (ap (sum_of f) (take-suc es i d (omega (arith, row-count))) ∙ sum_append naturals f (take i es) (get_or es i d ∷ []) ∙ ap (λ (n : ℕ). sum_of f (take i es) + n) last)
+        rw (add-one i) (ap (sum_of f) (take-suc es i d (omega (arith, row-count))) ∙ sum-append naturals f (take i es) (get_or es i d ∷ []) ∙ ap (λ (n : ℕ). sum_of f (take i es) + n) last)
 
     -- an engagement of the series adds its volumes at its positions, another nothing
     grains-in : (p : ℕ) (e : Engagement) → is_engagement book kind receiver series e ≡ true → grains_of book kind receiver series p e ≡ span_of (start_position c e) e.count (delivered book e) p
@@ -267,15 +267,15 @@ module _ {c : Calendar} {register engagements : List ℕ} {volumes : List ℕ} {
         let e = engagement_at engagements i in
         let f = grains_to book kind receiver series i in
         let g = grains_to book kind receiver series (i + 1) in
-        added-span f (drop n t) n at (delivered book e) e.count (omega (arith, position_inside c (length book.points) e (placed i h)))
-        ∙ ap (λ (l : List ℕ). l ++ drop n t) (map_range_cong (λ p. f p + span_of (at + 1) e.count (delivered book e) p) g 1 n (λ p _ _.
+        added-span f (drop n t) n at (delivered book e) e.count (omega (arith, position-inside c (length book.points) e (placed i h)))
+        ∙ ap (λ (l : List ℕ). l ++ drop n t) (map-range-cong (λ p. f p + span_of (at + 1) e.count (delivered book e) p) g 1 n (λ p _ _.
         ap (λ (q : ℕ). f p + span_of q e.count (delivered book e) p) start ∙ ap (λ (x : ℕ). f p + x) (sym (grains-in p e own)) ∙ sym (grains-more i h p)))
 
     step-out : (i n : ℕ) (t : List ℕ) → i < engagement_count_in engagements → is_engagement book kind receiver series (engagement_at engagements i) ≡ false
         → by_position (grains_to book kind receiver series i) n t ≡ by_position (grains_to book kind receiver series (i + 1)) n t
     step-out i n t h other =
         let e = engagement_at engagements i in
-        ap (λ (l : List ℕ). l ++ drop n t) (map_range_cong (grains_to book kind receiver series i) (grains_to book kind receiver series (i + 1)) 1 n (λ p _ _. omega (arith, grains-out p e other, grains-more i h p)))
+        ap (λ (l : List ℕ). l ++ drop n t) (map-range-cong (grains_to book kind receiver series i) (grains_to book kind receiver series (i + 1)) 1 n (λ p _ _. omega (arith, grains-out p e other, grains-more i h p)))
 
     -- one engagement more
     pub step : (i at n : ℕ) (t : List ℕ) → i < engagement_count_in engagements → at + 1 ≡ start_position c (engagement_at engagements i) → n ≡ month_quarters c
@@ -287,20 +287,20 @@ module _ {c : Calendar} {register engagements : List ℕ} {volumes : List ℕ} {
         go false e = added_none (by_position (grains_to book kind receiver series i) n t) at (delivered book (engagement_at engagements i)) ∙ step-out i n t h e
 
     -- none are passed, and all
-    pub grains_none : (p : ℕ) → grains_to book kind receiver series 0 p ≡ 0
+    pub grains-none : (p : ℕ) → grains_to book kind receiver series 0 p ≡ 0
     unfolding grains_to sum_by
-    grains_none p = refl
+    grains-none p = refl
 
-    pub grains_all : (i : ℕ) → engagement_count_in engagements ≤ i → (p : ℕ) → grains_to book kind receiver series i p ≡ grains_at book kind receiver series p
+    pub grains-all : (i : ℕ) → engagement_count_in engagements ≤ i → (p : ℕ) → grains_to book kind receiver series i p ≡ grains_at book kind receiver series p
     unfolding grains_to grains_at
-    grains_all i h p = ap (sum_of (grains_of book kind receiver series p)) (take_all i book.engagements (omega (arith, row-count)))
+    grains-all i h p = ap (sum_of (grains_of book kind receiver series p)) (take_all i book.engagements (omega (arith, row-count)))
 
     grain-most : (p : ℕ) (e : Engagement) → grains_of book kind receiver series p e ≤ most
     unfolding grains_of
     grain-most p e = go (is_engagement book kind receiver series e && covers book.calendar e p)
       where
         go : (t : Bool) → cond t (delivered book e (quarter_at book.calendar e p)) 0 ≤ most
-        go true = delivered_most book s.sound e (quarter_at book.calendar e p)
+        go true = delivered-most book s.sound e (quarter_at book.calendar e p)
         go false = omega arith
 
     sum-most : (p : ℕ) (es : List Engagement) → sum_of (grains_of book kind receiver series p) es ≤ most * length es
@@ -309,9 +309,9 @@ module _ {c : Calendar} {register engagements : List ℕ} {volumes : List ℕ} {
     sum-most p (e ∷ es) = let h : sum_of (grains_of book kind receiver series p) es ≤ most * length es = sum-most p es in omega (arith, grain-most p e, mul-suc most (length es))
 
     -- 512 engagements deliver no more than 512 times a reading's most
-    pub grains_most : (i p : ℕ) → grains_to book kind receiver series i p ≤ most * 512
+    pub grains-most : (i p : ℕ) → grains_to book kind receiver series i p ≤ most * 512
     unfolding grains_to
-    grains_most i p =
+    grains-most i p =
         let es = take i book.engagements in
         let few : length es ≤ 512 = omega (arith, length-take i book.engagements, s.sound.few) in
         omega (arith, sum-most p es, mul-le-mul_left {m = length es} {n = 512} most few)
@@ -331,24 +331,24 @@ module _ {c : Calendar} {register engagements : List ℕ} {volumes : List ℕ} {
       go false e = omega arith
 
   cells-inside : first + own ≤ month_quarters c
-  cells-inside = omega (arith, at-most-own, position_inside c (length book.points) (engagement_at engagements i) (placed s i inside))
+  cells-inside = omega (arith, at-most-own, position-inside c (length book.points) (engagement_at engagements i) (placed s i inside))
 
   own-volume-is : (k : ℕ) → k < own → get_or volumes (at + k) 0 ≡ delivered book (engagement_at engagements i) k
   own-volume-is k h = ap (λ (a : ℕ). get_or volumes (a + k) 0) place ∙ volume-is s i k inside (omega (arith, at-most-own))
 
   -- the volumes of one engagement more can be added, and their sums are those of one more
-  pub turn_adds : VolumesAddable grains first volumes at own
-  turn_adds =
+  pub turn-adds : VolumesAddable grains first volumes at own
+  turn-adds =
       record {
         cells = omega (arith, cells-inside, ap length held, by_length (grains_to book kind receiver series i) (month_quarters c) before room);
-        given = omega (arith, at-most-own, volumes_room s i inside);
+        given = omega (arith, at-most-own, volumes-room s i inside);
         fits = λ k h.
             let cell : get_or grains (first + k) 0 ≡ grains_to book kind receiver series i (1 + (first + k)) = ap (λ (l : List ℕ). get_or l (first + k) 0) held ∙ get_d-by_position (grains_to book kind receiver series i) (drop (month_quarters c) before) 1 (month_quarters c) (first + k) 0 (omega (arith, cells-inside)) in
-            omega (arith, cell, own-volume-is k h, volume_most s i k, grains_most s kind receiver series i (1 + (first + k)));
+            omega (arith, cell, own-volume-is k h, volume-most s i k, grains-most s kind receiver series i (1 + (first + k)));
       }
 
-  pub turn_sums : added grains first (λ k. get_or volumes (at + k) 0) own ≡ by_position (grains_to book kind receiver series (i + 1)) (month_quarters c) before
-  turn_sums =
+  pub turn-sums : added grains first (λ k. get_or volumes (at + k) 0) own ≡ by_position (grains_to book kind receiver series (i + 1)) (month_quarters c) before
+  turn-sums =
       added-cong grains first (λ k. get_or volumes (at + k) 0) (delivered book (engagement_at engagements i)) own own-volume-is
       ∙ ap₂ (λ (l : List ℕ) (n : ℕ). added l first (delivered book (engagement_at engagements i)) n) held rows
       ∙ step s kind receiver series i first (month_quarters c) before inside start refl
@@ -394,13 +394,13 @@ cell-is f n l (suc p) h k = let e : 1 + p ≡ suc p = omega arith in get_d-by_po
 -- grains that were filled have room for what is carried, and become the series' watts
 module _ {c : Calendar} {register engagements : List ℕ} {volumes : List ℕ} {book : Book} (s : Parts c register engagements volumes book) (kind : Kind) (receiver : ℕ) (series : Series) (n : ℕ) (before cells : List ℕ)
     (filled : cells ≡ by_position (grains_at book kind receiver series) n before) where
-  pub carry_fits : (k : ℕ) → k < n → get_or cells k 0 + per_watt ≤ 2 ^ 64
-  carry_fits k h =
+  pub carry-fits : (k : ℕ) → k < n → get_or cells k 0 + per_watt ≤ 2 ^ 64
+  carry-fits k h =
       let i = engagement_count_in engagements in
       let cell = ap (λ (l : List ℕ). get_or l k 0) filled ∙ get_d-by_position (grains_at book kind receiver series) (drop n before) 1 n k 0 h in
-      omega (arith, cell, grains_all s kind receiver series i (omega arith) (1 + k), grains_most s kind receiver series i (1 + k))
+      omega (arith, cell, grains-all s kind receiver series i (omega arith) (1 + k), grains-most s kind receiver series i (1 + k))
 
-  pub watts_are : by_position (floor_at per_watt (cell_at cells)) n cells ≡ by_position (series_watts book kind receiver series) n before
+  pub watts-are : by_position (floor_at per_watt (cell_at cells)) n cells ≡ by_position (series_watts book kind receiver series) n before
   unfolding series_watts
   watts-are =
       ap (by_position (floor_at per_watt (cell_at cells)) n) filled

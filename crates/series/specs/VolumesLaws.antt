@@ -22,12 +22,12 @@ use Rattle.volumes.specs.SettlementLaws.{row-length, rows_of-length, passing}
 use Rattle.volumes.specs.SoundLaws.{sound}
 use Rattle.volumes.specs.RunningLaws.{rows_few}
 use Rattle.settlement.specs.SectionsInner.{engagement_count_in, book_with}
-use Rattle.settlement.specs.StoresLaws.{sets_append}
+use Rattle.settlement.specs.StoresLaws.{sets-append}
 use Rattle.settlement.specs.PartsLaws.{parts_to, parts_all, parts-length}
 use Rattle.series.specs.VolumesInner.{volumes_of, book_volumes, volume_in}
-use Rattle.integers.specs.RangesLaws.{length-range, range-more, get_d-made, map_range_cong}
+use Rattle.integers.specs.RangesLaws.{length-range, range-more, get_d-made, map-range-cong}
 use Rattle.quarters.specs.QuartersInner.{most_rows}
-use Rattle.integers.specs.ListsLaws.{flat_map_append}
+use Rattle.integers.specs.ListsLaws.{flat_map-append}
 
 -- number j of the k-th of parts of one length
 get_d-parts : {A : Type 0} (w : ℕ) (f : ℕ → List A) → ((i : ℕ) → length (f i) ≡ w) → (a n k j : ℕ) (d : A) → k < n → j < w → get_or (flat_map f (range a n)) (w * k + j) d ≡ get_or (f (a + k)) j d
@@ -48,7 +48,7 @@ set_next f l at k v e =
     let stored = map f (range 0 k) in
     let n : length stored ≡ k = length-map (range 0 k) f ∙ length-range 0 k in
     let more : map f (range 0 (k + 1)) ≡ stored ++ (v ∷ []) = ap (map f) (range-more 0 k) ∙ map-append f (range 0 k) ((0 + k) ∷ []) ∙ ap (λ (x : ℕ). stored ++ (x ∷ [])) (ap f (zero-add k) ∙ sym e) in
-    ap (λ (j : ℕ). set (sets l at stored) (at + j) v) (sym n) ∙ sets_append l at stored (v ∷ []) ∙ ap (sets l at) (sym more)
+    ap (λ (j : ℕ). set (sets l at stored) (at + j) v) (sym n) ∙ sets-append l at stored (v ∷ []) ∙ ap (sets l at) (sym more)
 
 module _ (book : Book) where
   own-volume : (e : Engagement) (k : ℕ) → k < e.count → get_or (rows_of book e) (row_width * k + 1) (pos 0) ≡ pos (delivered book e k)
@@ -56,41 +56,41 @@ module _ (book : Book) where
   own-volume e k h = get_d-parts row_width (row book e) (row-length book e) 0 e.count k 1 (pos 0) h (omega arith) ∙ ap (λ (i : ℕ). pos (delivered book e i)) (zero-add k)
 
   -- the volumes of rows that are filled, and all of them
-  pub volume_is : (e : Engagement) (l after : List ℤ) → after ≡ sets l 0 (rows_of book e) → row_width * e.count ≤ length l → (k : ℕ) → k < e.count → volume_in after k ≡ pos (delivered book e k)
+  pub volume-is : (e : Engagement) (l after : List ℤ) → after ≡ sets l 0 (rows_of book e) → row_width * e.count ≤ length l → (k : ℕ) → k < e.count → volume_in after k ≡ pos (delivered book e k)
   volume-is e l after f room k h =
       ap (λ (t : List ℤ). volume_in t k) (f ∙ sets-eq (rows_of book e) l 0 (omega (arith, rows_of-length book e)))
       ∙ get_or-append (rows_of book e) (drop (0 + length (rows_of book e)) l) (pos 0) (row_width * k + 1) (omega (arith, rows_of-length book e))
       ∙ own-volume e k h
 
-  pub volumes_are : (e : Engagement) (l after : List ℤ) → after ≡ sets l 0 (rows_of book e) → row_width * e.count ≤ length l → map (λ k. up (volume_in after k)) (range 0 e.count) ≡ volumes_of book e
+  pub volumes-are : (e : Engagement) (l after : List ℤ) → after ≡ sets l 0 (rows_of book e) → row_width * e.count ≤ length l → map (λ k. up (volume_in after k)) (range 0 e.count) ≡ volumes_of book e
   unfolding volumes_of quarter_hours
-  volumes_are e l after f room = map_range_cong (λ k. up (volume_in after k)) (delivered book e) 0 e.count (λ k _ h. ap up (volume-is e l after f room k (omega (arith, h))))
+  volumes-are e l after f room = map-range-cong (λ k. up (volume_in after k)) (delivered book e) 0 e.count (λ k _ h. ap up (volume-is e l after f room k (omega (arith, h))))
 
   -- one for each quarter-hour
-  pub volumes_each : (e : Engagement) → length (volumes_of book e) ≡ 1 * e.count
+  pub volumes-each : (e : Engagement) → length (volumes_of book e) ≡ 1 * e.count
   unfolding volumes_of quarter_hours
-  volumes_each e = length-map (range 0 e.count) (delivered book e) ∙ length-range 0 e.count ∙ omega arith
+  volumes-each e = length-map (range 0 e.count) (delivered book e) ∙ length-range 0 e.count ∙ omega arith
 
   volumes-count : (es : List Engagement) → length (flat_map (volumes_of book) es) ≡ sum_of (λ e. e.count) es
-  volumes-count es = parts-length (volumes_of book) 1 volumes_each es ∙ omega arith
+  volumes-count es = parts-length (volumes_of book) 1 volumes-each es ∙ omega arith
 
-  pub volumes_length : length (book_volumes book) ≡ row_count book
+  pub volumes-length : length (book_volumes book) ≡ row_count book
   unfolding book_volumes row_count
-  volumes_length = volumes-count book.engagements
+  volumes-length = volumes-count book.engagements
 
   -- the volume of quarter-hour k of the engagement behind those that are passed
-  pub volume_of : (es : List Engagement) (i : ℕ) (e : Engagement) (k : ℕ) → i < length es → k < (get_or es i e).count
+  pub volume-of : (es : List Engagement) (i : ℕ) (e : Engagement) (k : ℕ) → i < length es → k < (get_or es i e).count
       → get_or (flat_map (volumes_of book) es) (sum_of (λ e. e.count) (take i es) + k) 0 ≡ delivered book (get_or es i e) k
   unfolding flat_map volumes_of quarter_hours
-  volume_of es i e k h l =
+  volume-of es i e k h l =
       let before = flat_map (volumes_of book) (take i es) in
       let own = volumes_of book (get_or es i e) in
       let later = flat_map (volumes_of book) (drop (suc i) es) in
-      let whole : flat_map (volumes_of book) es ≡ before ++ (own ++ later) = ap (flat_map (volumes_of book)) (split_at es i e h) ∙ flat_map_append (volumes_of book) (take i es) (get_or es i e ∷ drop (suc i) es) in
+      let whole : flat_map (volumes_of book) es ≡ before ++ (own ++ later) = ap (flat_map (volumes_of book)) (split_at es i e h) ∙ flat_map-append (volumes_of book) (take i es) (get_or es i e ∷ drop (suc i) es) in
       let place : sum_of (λ e. e.count) (take i es) + k ≡ length before + k = omega (arith, volumes-count (take i es)) in
       rw (whole, place)
       (get_or-append-add before (own ++ later) k 0
-      ∙ get_or-append own later 0 k (omega (arith, volumes_each (get_or es i e)))
+      ∙ get_or-append own later 0 k (omega (arith, volumes-each (get_or es i e)))
       ∙ get_d-made (delivered book (get_or es i e)) (get_or es i e).count k 0 l)
 
 -- the volumes that are stored one engagement after the other are the book's
@@ -105,7 +105,7 @@ volumes-most bytes h = omega (arith, rows_few (book_of bytes) (sound bytes (pass
 pub volumes-stand : (book : Book) (l after : List ℕ) → row_count book ≤ length l → after ≡ sets l 0 (book_volumes book) → take (length (book_volumes book)) after ≡ book_volumes book
 volumes-stand book l after k e =
     let r = book_volumes book in
-    ap (take (length r)) (e ∙ sets-eq r l 0 (omega (arith, volumes_length book))) ∙ take_at r (drop (0 + length r) l) (length r) refl
+    ap (take (length r)) (e ∙ sets-eq r l 0 (omega (arith, volumes-length book))) ∙ take_at r (drop (0 + length r) l) (length r) refl
 
 -- ---- a number that is not negative, without its sign
 

@@ -12,7 +12,7 @@ use Rattle.text.specs.WrittenLaws.{written-nil, written_both}
 use Rattle.formats.specs.Format.{Res, got, bad, Format, bind, pick}
 use Rattle.formats.specs.FormatLaws.{got-bad}
 use Rattle.formats.specs.Combine.{strip, map_parse, only_parse}
-use Rattle.formats.specs.Items.{itemsParse, items_end, items_step}
+use Rattle.formats.specs.Items.{items_parse, items-end, items-step}
 use Rattle.formats.specs.PlaceInner.{Parsed}
 use Rattle.formats.specs.PlaceLaws.{no-at, same_at}
 use Rattle.formats.specs.declared.Mark.{Mark}
@@ -63,9 +63,9 @@ module _ {A : Type 0} {f : List ℕ → Res A} {R : A → List Row} {s : List �
   fills_same g h i = record { keeps = i.keeps; wrote = λ p v r e j. i.wrote p v r e (sym (h (drop p s)) ∙ j) }
 
   -- under a test
-  pub fills_only : (test : A → Bool) → Fills f R s m k d o → Fills (only_parse test f) R s m k d o
+  pub fills-only : (test : A → Bool) → Fills f R s m k d o → Fills (only_parse test f) R s m k d o
   unfolding only_parse
-  fills_only test i = record { keeps = i.keeps; wrote = λ p v r e j. i.wrote p v r e (only-got test (f (drop p s)) v r j) }
+  fills-only test i = record { keeps = i.keeps; wrote = λ p v r e j. i.wrote p v r e (only-got test (f (drop p s)) v r j) }
 
 -- contents in another form
 pub fills-view : {A B : Type 0} {f : List ℕ → Res A} {s : List ℕ} {m : Mark} {k : ℕ} {d o : List ℕ} (view : A → B) (R : B → List Row) → Fills (map_parse view f) R s m k d o
@@ -107,13 +107,13 @@ both d mid o k k' a b room e f g =
 
 module _ {A S : Type 0} (F : S → Format A) (next : S → A → S) (R : A → List Row) (n i : ℕ) (st : S) where
   -- no item is left
-  pub fills_none : (s : List ℕ) (p k : ℕ) (d : List ℕ) → n ≤ i → Fills (itemsParse F next (n - i) st) (flat_map R) s (At p) k d d
+  pub fills-none : (s : List ℕ) (p k : ℕ) (d : List ℕ) → n ≤ i → Fills (items_parse F next (n - i) st) (flat_map R) s (At p) k d d
   unfolding numbers flat_map
   fills-none s p k d h =
       record {
         keeps = refl;
         wrote = λ q v r e j room.
-            let z : got [] (drop q s) ≡ got v r = sym (items_end F next n i st (drop q s) h) ∙ j in
+            let z : got [] (drop q s) ≡ got v r = sym (items-end F next n i st (drop q s) h) ∙ j in
             let y : [] ≡ v = cc in
             subst (λ (l : List A). d ≡ written d (6 * k) (numbers (flat_map R l))) y (sym (written-nil d (6 * k)));
       }
@@ -123,17 +123,17 @@ module _ {A S : Type 0} (F : S → Format A) (next : S → A → S) (R : A → L
   cons-got a (got xs q) l r e = let z : q ≡ r = cc in let y : a ∷ xs ≡ l = cc in (xs, (ap (got xs) z, y))
 
   -- an item and those behind it
-  pub fills_step : {s : List ℕ} {p q k k' : ℕ} {d mid o : List ℕ} (a : A) → i < n → (F st).parse (drop p s) ≡ got a (drop q s) → Fills (F st).parse R s (At p) k d mid
-      → (6 * (k + length (R a)) ≤ length d → k' ≡ k + length (R a)) → Fills (itemsParse F next (n - (i + 1)) (next st a)) (flat_map R) s (At q) k' mid o
-      → Fills (itemsParse F next (n - i) st) (flat_map R) s (At p) k d o
+  pub fills-step : {s : List ℕ} {p q k k' : ℕ} {d mid o : List ℕ} (a : A) → i < n → (F st).parse (drop p s) ≡ got a (drop q s) → Fills (F st).parse R s (At p) k d mid
+      → (6 * (k + length (R a)) ≤ length d → k' ≡ k + length (R a)) → Fills (items_parse F next (n - (i + 1)) (next st a)) (flat_map R) s (At q) k' mid o
+      → Fills (items_parse F next (n - i) st) (flat_map R) s (At p) k d o
   unfolding flat_map
-  fills_step {s} {p} {q} {k} {k'} {d} {mid} {o} a h e first count rest =
+  fills-step {s} {p} {q} {k} {k'} {d} {mid} {o} a h e first count rest =
       record {
         keeps = rest.keeps ∙ first.keeps;
         wrote = λ j v r m g room.
             let at = same_at m in
-            let f = sym (items_step F next n i st (drop p s) a (drop q s) h e) ∙ ap (λ (x : ℕ). itemsParse F next (n - i) st (drop x s)) at ∙ g in
-            let z = cons-got a (itemsParse F next (n - (i + 1)) (next st a) (drop q s)) v r f in
+            let f = sym (items-step F next n i st (drop p s) a (drop q s) h e) ∙ ap (λ (x : ℕ). items_parse F next (n - i) st (drop x s)) at ∙ g in
+            let z = cons-got a (items_parse F next (n - (i + 1)) (next st a) (drop q s)) v r f in
             let xs = z.0 in
             let all : 6 * (k + length (R a ++ flat_map R xs)) ≤ length d = subst (λ (l : List A). 6 * (k + length (flat_map R l)) ≤ length d) (sym z.1.1) room in
             let l = length-append (R a) (flat_map R xs) in

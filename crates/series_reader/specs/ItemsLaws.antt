@@ -5,9 +5,9 @@ use Rattle.std.proofs.Common.{sym, ◌∙◌, length-append, length-drop, arith}
 use Rattle.std.proofs.Math.Bool.{true, false}
 use mathlib.Core.List.{List, [], ◌∷◌, ◌++◌, flat_map}
 use Rattle.formats.specs.Format.{Res, got, bad, Format, bind, pick}
-use Rattle.formats.specs.FormatLaws.{got-bad, sound_of}
+use Rattle.formats.specs.FormatLaws.{got-bad, sound-of}
 use Rattle.formats.specs.Combine.{map_parse, only_parse}
-use Rattle.formats.specs.Items.{itemsParse, items_end, items_bad, items_step}
+use Rattle.formats.specs.Items.{items_parse, items-end, items-bad, items-step}
 use Rattle.formats.specs.RunLaws.{Run}
 use Rattle.formats.specs.PlaceInner.{Parsed}
 use Rattle.formats.specs.PlaceLaws.{no-at, parsed, not_there}
@@ -40,18 +40,18 @@ module _ {A B : Type 0} (view : A → B) (f : List ℕ → Res A) (s : List ℕ)
       go bad e = absurd (got-bad (sym e))
       go (got a q) e = let z : q ≡ r = cc in let w : view a ≡ v = cc in (a, (ap (got a) z, w))
 
-  pub view_bad : map_parse view f s ≡ bad → f s ≡ bad
+  pub view-bad : map_parse view f s ≡ bad → f s ≡ bad
   unfolding map_parse
-  view_bad e = go (f s) e
+  view-bad e = go (f s) e
     where
       go : (x : Res A) → bind x (λ a q. got (view a) q) ≡ bad → x ≡ bad
       go bad e = refl
       go (got a q) e = absurd (got-bad e)
 
   -- a test on what is kept
-  pub view_only : (test : B → Bool) → only_parse test (map_parse view f) s ≡ map_parse view (only_parse (λ a. test (view a)) f) s
+  pub view-only : (test : B → Bool) → only_parse test (map_parse view f) s ≡ map_parse view (only_parse (λ a. test (view a)) f) s
   unfolding map_parse only_parse
-  view_only test = go (f s)
+  view-only test = go (f s)
     where
       two : (t : Bool) (a : A) (r : List ℕ) → pick t (got (view a) r) ≡ bind (pick t (got a r)) (λ a q. got (view a) q)
       two true a r = refl
@@ -70,7 +70,7 @@ pub record Unviewed {A B : Type 0} (view : A → B) (f : List ℕ → Res A) (s 
 pub unview : {A B : Type 0} (view : A → B) (none : A) (f : List ℕ → Res A) (s : List ℕ) (m r : Mark) (b : B) → Parsed (map_parse view f) s m r b → Unviewed view f s m r b
 unview view none f s No No b p = record { value = none; parsed = parsed-no f s none; is = λ q e. absurd (no-at q e) }
 unview view none f s No (At q) b p = absurd (got-bad (sym p.run.run))
-unview view none f s (At n) No b p = record { value = none; parsed = not_there f s n none (view_bad view f (drop n s) p.run.run); is = λ q e. absurd (no-at q e) }
+unview view none f s (At n) No b p = record { value = none; parsed = not_there f s n none (view-bad view f (drop n s) p.run.run); is = λ q e. absurd (no-at q e) }
 unview view none f s (At n) (At q) b p =
     let a = viewed view f (drop n s) b (drop q s) p.run.run in
     record { value = a.0; parsed = parsed f s n a.0 q a.1.0 p.within; is = λ k e. a.1.1 }
@@ -78,27 +78,27 @@ unview view none f s (At n) (At q) b p =
 -- ---- what is kept of a list, one item after the other
 
 module _ {A S T : Type 0} (F : S → Format A) (next : S → A → S) (step : T → A → T) where
-  unfoldable pub foldParse : ℕ → S → T → List ℕ → Res T
-  foldParse n st t = map_parse (folded step t) (itemsParse F next n st)
+  unfoldable pub fold_parse : ℕ → S → T → List ℕ → Res T
+  fold_parse n st t = map_parse (folded step t) (items_parse F next n st)
 
   module _ (n i : ℕ) (st : S) (t : T) (s : List ℕ) where
-    pub fold_end : n ≤ i → foldParse (n - i) st t s ≡ got t s
-    unfolding foldParse map_parse folded
-    fold_end h = ap (λ x. bind x (λ l q. got (folded step t l) q)) (items_end F next n i st s h)
+    pub fold_end : n ≤ i → fold_parse (n - i) st t s ≡ got t s
+    unfolding fold_parse map_parse folded
+    fold_end h = ap (λ x. bind x (λ l q. got (folded step t l) q)) (items-end F next n i st s h)
 
-    pub fold_bad : i < n → (F st).parse s ≡ bad → foldParse (n - i) st t s ≡ bad
-    unfolding foldParse map_parse
-    fold_bad h e = ap (λ x. bind x (λ l q. got (folded step t l) q)) (items_bad F next n i st s h e)
+    pub fold-bad : i < n → (F st).parse s ≡ bad → fold_parse (n - i) st t s ≡ bad
+    unfolding fold_parse map_parse
+    fold-bad h e = ap (λ x. bind x (λ l q. got (folded step t l) q)) (items-bad F next n i st s h e)
 
     fold_on : (a : A) (x : Res (List A)) → bind (bind x (λ xs q. got (a ∷ xs) q)) (λ l q. got (folded step t l) q) ≡ bind x (λ l q. got (folded step (step t a) l) q)
     unfolding folded
     fold_on a bad = refl
     fold_on a (got l q) = refl
 
-    pub fold_step : (a : A) (r : List ℕ) → i < n → (F st).parse s ≡ got a r → foldParse (n - i) st t s ≡ foldParse (n - (i + 1)) (next st a) (step t a) r
-    unfolding foldParse map_parse
+    pub fold_step : (a : A) (r : List ℕ) → i < n → (F st).parse s ≡ got a r → fold_parse (n - i) st t s ≡ fold_parse (n - (i + 1)) (next st a) (step t a) r
+    unfolding fold_parse map_parse
     fold_step a r h e =
-        ap (λ x. bind x (λ l q. got (folded step t l) q)) (items_step F next n i st s a r h e) ∙ fold_on a (itemsParse F next (n - (i + 1)) (next st a) r)
+        ap (λ x. bind x (λ l q. got (folded step t l) q)) (items-step F next n i st s a r h e) ∙ fold_on a (items_parse F next (n - (i + 1)) (next st a) r)
 
 -- ---- how long bytes are
 
@@ -116,5 +116,5 @@ flat-long f h (a ∷ l) = omega (arith, h a, flat-long f h l, length-append (f a
 -- what was read from p to q has q - p bytes
 pub read-long : {A : Type 0} (F : Format A) (s : List ℕ) (p q : ℕ) (a : A) → p ≤ length s → q ≤ length s → F.parse (drop p s) ≡ got a (drop q s) → p + length (F.render a) ≡ q
 read-long F s p q a h k e =
-    let l = (sound_of F (drop p s) a (drop q s) e).0 in
+    let l = (sound-of F (drop p s) a (drop q s) e).0 in
     omega (arith, ap length l, length-append (F.render a) (drop q s), length-drop p s, length-drop q s)

@@ -10,14 +10,14 @@ use Rattle.formats.specs.Exactly.{fixed_digits}
 use Rattle.formats.specs.PlaceInner.{Parsed}
 use Rattle.cursor.specs.declared.Cursor.{Cursor}
 use Rattle.cursor.specs.MovesInner.{standing, past_tag, past_number, past_counter, past_fixed, past_word}
-use Rattle.cursor.specs.ParsedLaws.{tag_parsed, number_parsed, fixed_parsed, word_parsed, number_fits, fixed_fits, word_fits}
+use Rattle.cursor.specs.ParsedLaws.{tag-parsed, number-parsed, fixed-parsed, word-parsed, number_fits, fixed-fits, word_fits}
 use Rattle.cursor.specs.ParsedLaws as moves
 use Rattle.moments.specs.Moments.{moment_bytes, period_start, period_end}
 use Rattle.message.specs.Bytes.{opening, ending, closing, element, supplies, deliveries}
 use Rattle.message.specs.ObservationForm.{plain_number, observation_body, behind_month}
 use Rattle.message.specs.SeriesForm.{counted}
-use Rattle.passages.specs.PassagesInner.{observationFound, observationTo, monthFound, monthTo, volumeFound, volumeTo, behindMonthBy, ownStart, sharedStart}
-use Rattle.series_reader.specs.ReadingLaws.{quantity_parsed, body_parsed, behind_parsed}
+use Rattle.passages.specs.PassagesInner.{observation_found, observation_to, month_found, month_to, volume_found, volume_to, behind_month_by, own_start, shared_start}
+use Rattle.series_reader.specs.ReadingLaws.{quantity-parsed, body-parsed, behind-parsed}
 
 -- ---- the parts of a passage that more is read behind
 
@@ -52,16 +52,16 @@ pub record SupplySteps (s : List ℕ) (m c : Mark) (x : ℕ) : Type 0 where
 
 module _ (s : List ℕ) (c : Cursor) where
   -- the number up to the byte <, and the same of a counter
-  pub plain_parsed : Parsed plain_number.parse s (standing s c) (standing s (past_number s 60 18446744073709551615 c).to) (past_number s 60 18446744073709551615 c).value
-  plain_parsed = number_parsed s c 60 18446744073709551615 (omega arith) refl
+  pub plain-parsed : Parsed plain_number.parse s (standing s c) (standing s (past_number s 60 18446744073709551615 c).to) (past_number s 60 18446744073709551615 c).value
+  plain-parsed = number-parsed s c 60 18446744073709551615 (omega arith) refl
 
-  pub counted_parsed : Parsed counted.parse s (standing s c) (standing s (past_counter s c).to) (past_counter s c).value
-  counted_parsed = moves.counter_parsed s c
+  pub counted-parsed : Parsed counted.parse s (standing s c) (standing s (past_counter s c).to) (past_counter s c).value
+  counted-parsed = moves.counter-parsed s c
 
 module _ (s : List ℕ) (c : Cursor) where
-  pub month_steps : MonthSteps s (standing s c) (standing s (monthTo s c)) (monthFound s c).year (monthFound s c).month
+  pub month-steps : MonthSteps s (standing s c) (standing s (month_to s c)) (month_found s c).year (month_found s c).month
   unfolding opening bytes
-  month_steps =
+  month-steps =
       let a = past_tag s (bytes "<PeriodStart>") c in
       let y = past_fixed s 4 a in
       let b = past_tag s (bytes "-") y.to in
@@ -69,15 +69,15 @@ module _ (s : List ℕ) (c : Cursor) where
         a = standing s a;
         b = standing s y.to;
         c = standing s b;
-        before_year = tag_parsed s c (bytes "<PeriodStart>");
-        at_year = fixed_parsed s a 4 (omega arith);
-        between = tag_parsed s y.to (bytes "-");
-        at_month = fixed_parsed s b 2 (omega arith);
+        before_year = tag-parsed s c (bytes "<PeriodStart>");
+        at_year = fixed-parsed s a 4 (omega arith);
+        between = tag-parsed s y.to (bytes "-");
+        at_month = fixed-parsed s b 2 (omega arith);
       }
 
-  pub volume_steps : VolumeSteps s (standing s c) (standing s (volumeTo s c)) (volumeFound s c).delivery (volumeFound s c).count
+  pub volume-steps : VolumeSteps s (standing s c) (standing s (volume_to s c)) (volume_found s c).delivery (volume_found s c).count
   unfolding opening ending closing deliveries bytes
-  volume_steps =
+  volume-steps =
       let tag = bytes "</DeliveryDirection><UnitType>KWT</UnitType><ObservationCounter>" in
       let a = past_tag s (bytes "<DeliveryDirection>") c in
       let x = past_word s (bytes "DeliveryUp") (bytes "DeliveryDown") a in
@@ -88,58 +88,58 @@ module _ (s : List ℕ) (c : Cursor) where
         b = standing s x.to;
         c = standing s b;
         d = standing s n.to;
-        before_delivery = tag_parsed s c (bytes "<DeliveryDirection>");
-        delivery = word_parsed s a (bytes "DeliveryUp") (bytes "DeliveryDown");
-        before_count = tag_parsed s x.to tag;
-        count = counted_parsed s b;
-        behind_count = tag_parsed s n.to (bytes "/ObservationCounter><TimeSeriesPeriod>");
+        before_delivery = tag-parsed s c (bytes "<DeliveryDirection>");
+        delivery = word-parsed s a (bytes "DeliveryUp") (bytes "DeliveryDown");
+        before_count = tag-parsed s x.to tag;
+        count = counted-parsed s b;
+        behind_count = tag-parsed s n.to (bytes "/ObservationCounter><TimeSeriesPeriod>");
       }
 
-  pub delivery_fits : (volumeFound s c).delivery ≤ 1
-  delivery_fits = omega (arith, word_fits s (past_tag s (bytes "<DeliveryDirection>") c) (bytes "DeliveryUp") (bytes "DeliveryDown"))
+  pub delivery-fits : (volume_found s c).delivery ≤ 1
+  delivery-fits = omega (arith, word_fits s (past_tag s (bytes "<DeliveryDirection>") c) (bytes "DeliveryUp") (bytes "DeliveryDown"))
 
-  pub own_steps : SupplySteps s (standing s c) (standing s (ownStart s c).to) (ownStart s c).value
+  pub own-steps : SupplySteps s (standing s c) (standing s (own_start s c).to) (own_start s c).value
   unfolding opening ending closing supplies bytes
-  own_steps =
+  own-steps =
       let a = past_tag s (bytes "<ToETimeSeries><SupplyDirection>") c in
       let x = past_word s (bytes "Off-take") (bytes "Injection") a in
       record {
         a = standing s a;
         b = standing s x.to;
-        before_supply = tag_parsed s c (bytes "<ToETimeSeries><SupplyDirection>");
-        supply = word_parsed s a (bytes "Off-take") (bytes "Injection");
-        behind_supply = tag_parsed s x.to (bytes "</SupplyDirection>");
+        before_supply = tag-parsed s c (bytes "<ToETimeSeries><SupplyDirection>");
+        supply = word-parsed s a (bytes "Off-take") (bytes "Injection");
+        behind_supply = tag-parsed s x.to (bytes "</SupplyDirection>");
       }
 
-  pub own_fits : (ownStart s c).value ≤ 1
-  own_fits = omega (arith, word_fits s (past_tag s (bytes "<ToETimeSeries><SupplyDirection>") c) (bytes "Off-take") (bytes "Injection"))
+  pub own-fits : (own_start s c).value ≤ 1
+  own-fits = omega (arith, word_fits s (past_tag s (bytes "<ToETimeSeries><SupplyDirection>") c) (bytes "Off-take") (bytes "Injection"))
 
-  pub shared_steps : (supply : ℕ) → Parsed (strip (opening "ToETimeSeries")) s (standing s c) (standing s (sharedStart s c supply).to) tt
+  pub shared-steps : (supply : ℕ) → Parsed (strip (opening "ToETimeSeries")) s (standing s c) (standing s (shared_start s c supply).to) tt
   unfolding opening bytes
-  shared_steps supply = tag_parsed s c (bytes "<ToETimeSeries>")
+  shared-steps supply = tag-parsed s c (bytes "<ToETimeSeries>")
 
-  pub series_end : Parsed (strip (closing "ToETimeSeries")) s (standing s c) (standing s (past_tag s (bytes "</ToETimeSeries>") c)) tt
+  pub series-end : Parsed (strip (closing "ToETimeSeries")) s (standing s c) (standing s (past_tag s (bytes "</ToETimeSeries>") c)) tt
   unfolding closing ending bytes
-  series_end = tag_parsed s c (bytes "</ToETimeSeries>")
+  series-end = tag-parsed s c (bytes "</ToETimeSeries>")
 
-  pub volume_end : Parsed (strip (closing "TimeSeriesPeriod")) s (standing s c) (standing s (past_tag s (bytes "</TimeSeriesPeriod>") c)) tt
+  pub volume-end : Parsed (strip (closing "TimeSeriesPeriod")) s (standing s c) (standing s (past_tag s (bytes "</TimeSeriesPeriod>") c)) tt
   unfolding closing ending bytes
-  volume_end = tag_parsed s c (bytes "</TimeSeriesPeriod>")
+  volume-end = tag-parsed s c (bytes "</TimeSeriesPeriod>")
 
-  pub behind_read : (year month : ℕ) (t u : List ℕ) → t ≡ drop 7 (moment_bytes (period_start year month)) → u ≡ moment_bytes (period_end year month)
-      → Parsed (strip (behind_month (year, month))) s (standing s c) (standing s (behindMonthBy s c t u)) tt
+  pub behind-read : (year month : ℕ) (t u : List ℕ) → t ≡ drop 7 (moment_bytes (period_start year month)) → u ≡ moment_bytes (period_end year month)
+      → Parsed (strip (behind_month (year, month))) s (standing s c) (standing s (behind_month_by s c t u)) tt
   unfolding opening ending closing bytes
-  behind_read year month t u et eu =
+  behind-read year month t u et eu =
       let first = drop 7 (moment_bytes (period_start year month)) in
       let last = moment_bytes (period_end year month) in
       let a = past_tag s first c in
       let b = past_tag s (bytes "</PeriodStart><PeriodEnd>") a in
       rw (et, eu)
-      (behind_parsed s year month (tag_parsed s c first) (tag_parsed s a (bytes "</PeriodStart><PeriodEnd>")) (tag_parsed s b last)
-      (tag_parsed s (past_tag s last b) (bytes "</PeriodEnd><PeriodResolution>PT15M</PeriodResolution>")))
+      (behind-parsed s year month (tag-parsed s c first) (tag-parsed s a (bytes "</PeriodStart><PeriodEnd>")) (tag-parsed s b last)
+      (tag-parsed s (past_tag s last b) (bytes "</PeriodEnd><PeriodResolution>PT15M</PeriodResolution>")))
 
 -- an observation, from where the cursor stood to where it then stands
-pub observation-read : (s : List ℕ) (c : Cursor) → Parsed observation_body.parse s (standing s c) (standing s (observationTo s c)) ((observationFound s c).position, (observationFound s c).whole * 1000 + (observationFound s c).part)
+pub observation-read : (s : List ℕ) (c : Cursor) → Parsed observation_body.parse s (standing s c) (standing s (observation_to s c)) ((observation_found s c).position, (observation_found s c).whole * 1000 + (observation_found s c).part)
 unfolding opening ending closing bytes
 observation-read s c =
     let a = past_tag s (bytes "<Observation><Position>") c in
@@ -147,10 +147,10 @@ observation-read s c =
     let b = past_tag s (bytes "/Position><Quantity>") p.to in
     let k = past_number s 46 999999999 b in
     let f = past_fixed s 3 k.to in
-    body_parsed s (tag_parsed s c (bytes "<Observation><Position>")) (plain_parsed s a) (tag_parsed s p.to (bytes "/Position><Quantity>"))
-    (quantity_parsed s (standing s b) (standing s k.to) (standing s f.to) k.value f.value (number_parsed s b 46 999999999 (omega arith) refl) (fixed_parsed s k.to 3 (omega arith)))
-    (tag_parsed s f.to (bytes "</Quantity></Observation>"))
+    body-parsed s (tag-parsed s c (bytes "<Observation><Position>")) (plain-parsed s a) (tag-parsed s p.to (bytes "/Position><Quantity>"))
+    (quantity-parsed s (standing s b) (standing s k.to) (standing s f.to) k.value f.value (number-parsed s b 46 999999999 (omega arith) refl) (fixed-parsed s k.to 3 (omega arith)))
+    (tag-parsed s f.to (bytes "</Quantity></Observation>"))
 
 -- an observation's watts fit
-pub observation-fits : (s : List ℕ) (c : Cursor) → ((observationFound s c).whole ≤ 999999999) × ((observationFound s c).part < 1000)
-observation-fits s c = (number_fits s _ 46 999999999 (omega arith) refl, fixed_fits s _ 3 (omega arith) (omega arith))
+pub observation-fits : (s : List ℕ) (c : Cursor) → ((observation_found s c).whole ≤ 999999999) × ((observation_found s c).part < 1000)
+observation-fits s c = (number_fits s _ 46 999999999 (omega arith) refl, fixed-fits s _ 3 (omega arith) (omega arith))

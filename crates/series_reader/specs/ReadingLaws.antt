@@ -5,14 +5,14 @@ use Rattle.std.proofs.Common.{sym, ◌∙◌, length-drop, take_all, add-one, ar
 use mathlib.Core.List.{List, ◌++◌, append_assoc}
 use Rattle.std.proofs.Math.ListN.{drop}
 use Rattle.formats.specs.Format.{Res, got, bad, Format, ends}
-use Rattle.formats.specs.FormatLaws.{got-bad, sound_of, ends-bind}
+use Rattle.formats.specs.FormatLaws.{got-bad, sound-of, ends-bind}
 use Rattle.formats.specs.Combine.{pre_parse, post_parse, seq_parse, strip, post, map_parse, only_parse}
 use Rattle.formats.specs.Exactly.{fixed_digits}
 use Rattle.formats.specs.Numbers.{number}
 use Rattle.formats.specs.Words.{words_parse}
-use Rattle.formats.specs.Items.{itemsParse, items_end, items_bad, ends_step}
-use Rattle.formats.specs.Rising.{fromLow, rise}
-use Rattle.formats.specs.RunLaws.{Run, run-tags, ran-of, run_pre, run_post, run_seq, run_map, run_only, run_fail, run_none}
+use Rattle.formats.specs.Items.{items_parse, items-end, items-bad, ends-step}
+use Rattle.formats.specs.Rising.{from_low, rise}
+use Rattle.formats.specs.RunLaws.{Run, run-tags, ran-of, run-pre, run-post, run-seq, run-map, run_only, run-fail, run_none}
 use Rattle.formats.specs.PlaceInner.{placed, Within, Parsed}
 use Rattle.formats.specs.declared.Mark.{Mark}
 use Rattle.formats.specs.declared.Mark.TheVariants.{At, No}
@@ -35,7 +35,7 @@ observing last low = only_parse (λ o. leb low (position o)) (map_parse observed
 -- what is read is valid
 pub parsed-ok : {A : Type 0} (F : Format A) (s : List ℕ) (m : Mark) (q : ℕ) (v : A) → Parsed F.parse s m (At q) v → F.Ok v
 parsed-ok F s No q v h = absurd (got-bad (sym h.run.run))
-parsed-ok F s (At p) q v h = (sound_of F (drop p s) v (drop q s) h.run.run).1
+parsed-ok F s (At p) q v h = (sound-of F (drop p s) v (drop q s) h.run.run).1
 
 -- what isn't there at first isn't there at last
 pub parsed-no : {A : Type 0} (f : List ℕ → Res A) (s : List ℕ) (v : A) → Parsed f s No No v
@@ -48,9 +48,9 @@ any_value h = record { run = record { run = h.run.run }; within = tt }
 -- what is kept of the contents that were read
 pub kept_of : {A B C : Type 0} (F : Format A) (f : A → B) (view : B → C) (s : List ℕ) (m r : Mark) (a : A) (v : C)
     → (F.Ok a → view (f a) ≡ v) → Parsed F.parse s m r a → Parsed (map_parse view (map_parse f F.parse)) s m r v
-kept_of F f view s m No a v h p = any_value (record { run = run_map view (run_map f p.run); within = p.within })
+kept_of F f view s m No a v h p = any_value (record { run = run-map view (run-map f p.run); within = p.within })
 kept_of F f view s m (At q) a v h p =
-    subst (λ x. Parsed (map_parse view (map_parse f F.parse)) s m (At q) x) (h (parsed-ok F s m q a p)) (record { run = run_map view (run_map f p.run); within = p.within })
+    subst (λ x. Parsed (map_parse view (map_parse f F.parse)) s m (At q) x) (h (parsed-ok F s m q a p)) (record { run = run-map view (run-map f p.run); within = p.within })
 
 -- ---- Quantity
 
@@ -58,22 +58,22 @@ abbrev pub kilowatts : Format ℕ
 kilowatts = number 46 999999999 (omega arith) refl
 
 module _ (s : List ℕ) (m a b : Mark) (k f : ℕ) (h : Parsed kilowatts.parse s m a k) (i : Parsed (fixed_digits 3).parse s a b f) where
-  pub quantity_parsed : Parsed quantity.parse s m b (k * 1000 + f)
+  pub quantity-parsed : Parsed quantity.parse s m b (k * 1000 + f)
   unfolding quantity
-  quantity_parsed = record { run = run_map (λ p. p.0 * 1000 + p.1) (run_seq (λ k. (fixed_digits 3).parse) h.run i.run); within = i.within }
+  quantity-parsed = record { run = run-map (λ p. p.0 * 1000 + p.1) (run-seq (λ k. (fixed_digits 3).parse) h.run i.run); within = i.within }
 
 -- ---- Observation
 
 module _ (s : List ℕ) {m a b c d e : Mark} {p w : ℕ} where
-  pub body_parsed : Parsed (strip (opening "Observation" ++ opening "Position")) s m a tt → Parsed plain_number.parse s a b p
+  pub body-parsed : Parsed (strip (opening "Observation" ++ opening "Position")) s m a tt → Parsed plain_number.parse s a b p
       → Parsed (strip (ending "Position" ++ opening "Quantity")) s b c tt → Parsed quantity.parse s c d w
       → Parsed (strip (closing "Quantity" ++ closing "Observation")) s d e tt → Parsed observation_body.parse s m e (p, w)
   unfolding observation_body
-  body_parsed g h i j k =
+  body-parsed g h i j k =
       record {
-        run = run_pre (opening "Observation" ++ opening "Position") g.run
-            (run_seq (λ p. (post quantity (closing "Quantity" ++ closing "Observation")).parse)
-            (run_post (λ p. ending "Position" ++ opening "Quantity") h.run i.run) (run_post (λ w. closing "Quantity" ++ closing "Observation") j.run k.run));
+        run = run-pre (opening "Observation" ++ opening "Position") g.run
+            (run-seq (λ p. (post quantity (closing "Quantity" ++ closing "Observation")).parse)
+            (run-post (λ p. ending "Position" ++ opening "Quantity") h.run i.run) (run-post (λ w. closing "Quantity" ++ closing "Observation") j.run k.run));
         within = k.within;
       }
 
@@ -82,9 +82,9 @@ pub observing-parsed : (last low : ℕ) (s : List ℕ) (m e : Mark) (p : ℕ × 
 observing-parsed last low s m e p h = go (observable last p) refl (leb low p.0) refl
   where
     go : (t : Bool) → observable last p ≡ t → (l : Bool) → leb low p.0 ≡ l → Parsed (observing last low) s m (keep (t && l) e) (observed p)
-    go true f true g = record { run = run_only (λ o. leb low (position o)) (run_map observed (run_only (observable last) h.run f)) g; within = h.within }
-    go true f false g = record { run = run_fail (λ o. leb low (position o)) (run_map observed (run_only (observable last) h.run f)) g; within = tt }
-    go false f l g = record { run = run_none (λ o. leb low (position o)) (run_map observed (run_fail (observable last) h.run f)); within = tt }
+    go true f true g = record { run = run_only (λ o. leb low (position o)) (run-map observed (run_only (observable last) h.run f)) g; within = h.within }
+    go true f false g = record { run = run-fail (λ o. leb low (position o)) (run-map observed (run_only (observable last) h.run f)) g; within = tt }
+    go false f l g = record { run = run_none (λ o. leb low (position o)) (run-map observed (run-fail (observable last) h.run f)); within = tt }
 
 -- ---- so many observations
 
@@ -95,33 +95,33 @@ pub passed-no : {A : Type 0} (f : List ℕ → Res A) (none : A) (s : List ℕ) 
 passed-no f none s = record { ran = record { value = none; ran = record { run = refl } }; within = tt }
 
 module _ (year month : ℕ) where
-  abbrev pub observationItem : ℕ × Unit {0} → Format Observation
-  observationItem = fromLow (λ u. observation (last_position year month) (position-fits year month)) position (λ u o. u)
+  abbrev pub observation_item : ℕ × Unit {0} → Format Observation
+  observation_item = from_low (λ u. observation (last_position year month) (position-fits year month)) position (λ u o. u)
 
-  abbrev pub observationOnto : ℕ × Unit {0} → Observation → ℕ × Unit {0}
-  observationOnto = rise (λ u. observation (last_position year month) (position-fits year month)) position (λ u o. u)
+  abbrev pub observation_onto : ℕ × Unit {0} → Observation → ℕ × Unit {0}
+  observation_onto = rise (λ u. observation (last_position year month) (position-fits year month)) position (λ u o. u)
 
   -- where n observations from position low on end
-  unfoldable pub observationsEnd : ℕ → ℕ → List ℕ → Res (Unit {0})
-  observationsEnd n low s = ends (itemsParse observationItem observationOnto n (low, tt) s)
+  unfoldable pub observations_end : ℕ → ℕ → List ℕ → Res (Unit {0})
+  observations_end n low s = ends (items_parse observation_item observation_onto n (low, tt) s)
 
-  pub end_start : (n : ℕ) (s : List ℕ) → ends (observations_of year month n s) ≡ observationsEnd n 1 s
-  unfolding observations observationsEnd map_parse
-  end_start n s = ends-bind (λ l. l) (itemsParse observationItem observationOnto n (1, tt) s)
+  pub end-start : (n : ℕ) (s : List ℕ) → ends (observations_of year month n s) ≡ observations_end n 1 s
+  unfolding observations observations_end map_parse
+  end-start n s = ends-bind (λ l. l) (items_parse observation_item observation_onto n (1, tt) s)
 
   module _ (n i low : ℕ) (s : List ℕ) where
-    pub end_last : n ≤ i → observationsEnd (n - i) low s ≡ got tt s
-    unfolding observationsEnd
-    end_last h = ap ends (items_end observationItem observationOnto n i (low, tt) s h)
+    pub end-last : n ≤ i → observations_end (n - i) low s ≡ got tt s
+    unfolding observations_end
+    end-last h = ap ends (items-end observation_item observation_onto n i (low, tt) s h)
 
-    pub end_bad : i < n → observing (last_position year month) low s ≡ bad → observationsEnd (n - i) low s ≡ bad
-    unfolding observationsEnd observation
-    end_bad h e = ap ends (items_bad observationItem observationOnto n i (low, tt) s h e)
+    pub end-bad : i < n → observing (last_position year month) low s ≡ bad → observations_end (n - i) low s ≡ bad
+    unfolding observations_end observation
+    end-bad h e = ap ends (items-bad observation_item observation_onto n i (low, tt) s h e)
 
     pub end_step : (o : Observation) (r : List ℕ) → i < n → observing (last_position year month) low s ≡ got o r
-        → observationsEnd (n - i) low s ≡ observationsEnd (n - (i + 1)) (o.position + 1) r
-    unfolding observationsEnd observation
-    end_step o r h e = ends_step observationItem observationOnto n i (low, tt) s o r h e ∙ ap (λ (k : ℕ). ends (itemsParse observationItem observationOnto (n - (i + 1)) (k, tt) r)) (sym (add-one o.position))
+        → observations_end (n - i) low s ≡ observations_end (n - (i + 1)) (o.position + 1) r
+    unfolding observations_end observation
+    end_step o r h e = ends-step observation_item observation_onto n i (low, tt) s o r h e ∙ ap (λ (k : ℕ). ends (items_parse observation_item observation_onto (n - (i + 1)) (k, tt) r)) (sym (add-one o.position))
 
 -- ---- what stands behind a period's month
 
@@ -129,11 +129,11 @@ behind-join : (t c o e d r : List ℕ) → t ++ (c ++ o) ++ e ++ (d ++ r) ≡ t 
 behind-join t c o e d r = simp append_assoc
 
 module _ (s : List ℕ) {m a b c d : Mark} (year month : ℕ) where
-  pub behind_parsed : Parsed (strip (drop 7 (moment_bytes (period_start year month)))) s m a tt → Parsed (strip (closing "PeriodStart" ++ opening "PeriodEnd")) s a b tt
+  pub behind-parsed : Parsed (strip (drop 7 (moment_bytes (period_start year month)))) s m a tt → Parsed (strip (closing "PeriodStart" ++ opening "PeriodEnd")) s a b tt
       → Parsed (strip (moment_bytes (period_end year month))) s b c tt → Parsed (strip (closing "PeriodEnd" ++ element "PeriodResolution" (bytes "PT15M"))) s c d tt
       → Parsed (strip (behind_month (year, month))) s m d tt
   unfolding behind_month
-  behind_parsed g h i j =
+  behind-parsed g h i j =
       let t = drop 7 (moment_bytes (period_start year month)) in
       let e = moment_bytes (period_end year month) in
       let two = closing "PeriodStart" ++ opening "PeriodEnd" in
@@ -154,36 +154,36 @@ moment-part m = take_all 22 (drop 7 (moment_bytes m)) (omega (arith, length-drop
 module _ (s : List ℕ) {m a b c d : Mark} {year month : ℕ} where
   month-parsed : Parsed (strip (opening "PeriodStart")) s m a tt → Parsed (fixed_digits 4).parse s a b year → Parsed (strip (bytes "-")) s b c tt → Parsed (fixed_digits 2).parse s c d month
       → Run (pre_parse (opening "PeriodStart") (seq_parse (post_parse (fixed_digits 4).parse (λ y. bytes "-")) (λ y. (fixed_digits 2).parse))) (placed s m) (placed s d) (year, month)
-  month-parsed g h i j = run_pre (opening "PeriodStart") g.run (run_seq (λ y. (fixed_digits 2).parse) (run_post (λ y. bytes "-") h.run i.run) j.run)
+  month-parsed g h i j = run-pre (opening "PeriodStart") g.run (run-seq (λ y. (fixed_digits 2).parse) (run-post (λ y. bytes "-") h.run i.run) j.run)
 
   -- of a month that no period has
-  pub period_none : Parsed (strip (opening "PeriodStart")) s m a tt → Parsed (fixed_digits 4).parse s a b year → Parsed (strip (bytes "-")) s b c tt → Parsed (fixed_digits 2).parse s c d month
+  pub period-none : Parsed (strip (opening "PeriodStart")) s m a tt → Parsed (fixed_digits 4).parse s a b year → Parsed (strip (bytes "-")) s b c tt → Parsed (fixed_digits 2).parse s c d month
       → is_period (year, month) ≡ false → Parsed period.parse s m No (year, month)
   unfolding period month_body
-  period_none g h i j e =
+  period-none g h i j e =
       record {
-        run = run_map (λ q. q) (run_post behind_month (run_fail is_period (month-parsed g h i j) e) (record { run = refl }));
+        run = run-map (λ q. q) (run-post behind_month (run-fail is_period (month-parsed g h i j) e) (record { run = refl }));
         within = tt;
       }
 
-  pub period_parsed : {r : Mark} → Parsed (strip (opening "PeriodStart")) s m a tt → Parsed (fixed_digits 4).parse s a b year → Parsed (strip (bytes "-")) s b c tt → Parsed (fixed_digits 2).parse s c d month
+  pub period-parsed : {r : Mark} → Parsed (strip (opening "PeriodStart")) s m a tt → Parsed (fixed_digits 4).parse s a b year → Parsed (strip (bytes "-")) s b c tt → Parsed (fixed_digits 2).parse s c d month
       → is_period (year, month) ≡ true → Parsed (strip (behind_month (year, month))) s d r tt → Parsed period.parse s m r (year, month)
   unfolding period month_body
-  period_parsed g h i j e k =
-      record { run = run_map (λ q. q) (run_post behind_month (run_only is_period (month-parsed g h i j) e) k.run); within = k.within }
+  period-parsed g h i j e k =
+      record { run = run-map (λ q. q) (run-post behind_month (run_only is_period (month-parsed g h i j) e) k.run); within = k.within }
 
 -- ---- a time series
 
 module _ (s : List ℕ) {m a b c d e f g h : Mark} {x n year month : ℕ} where
-  pub volume_parsed : Parsed (strip (opening "DeliveryDirection")) s m a tt → Parsed (words_parse deliveries) s a b x
+  pub volume-parsed : Parsed (strip (opening "DeliveryDirection")) s m a tt → Parsed (words_parse deliveries) s a b x
       → Parsed (strip (closing "DeliveryDirection" ++ element "UnitType" (bytes "KWT") ++ opening "ObservationCounter")) s b c tt → Parsed counted.parse s c d n
       → Parsed (strip (ending "ObservationCounter" ++ opening "TimeSeriesPeriod")) s d e tt → Parsed period.parse s e f (year, month)
       → (q : Passed (observations_of year month n) s f g) → Parsed (strip (closing "TimeSeriesPeriod")) s g h tt → Parsed volume_body.parse s m h (x, (n, ((year, month), q.ran.value)))
   unfolding volume_body
-  volume_parsed i j k l o p q r =
+  volume-parsed i j k l o p q r =
       record {
-        run = run_pre (opening "DeliveryDirection") i.run
-            (run_seq _ (run_post _ j.run k.run) (run_seq _ (run_post _ l.run o.run) (run_seq _ p.run (run_post _ q.ran.ran r.run))));
+        run = run-pre (opening "DeliveryDirection") i.run
+            (run-seq _ (run-post _ j.run k.run) (run-seq _ (run-post _ l.run o.run) (run-seq _ p.run (run-post _ q.ran.ran r.run))));
         within = r.within;
       }
 
@@ -212,7 +212,7 @@ module _ (s : List ℕ) {m a b c d e : Mark} {x delivery year month rows : ℕ} 
   unfolding own_body
   own-body i j k v r =
       record {
-        run = run_pre (opening "ToETimeSeries" ++ opening "SupplyDirection") i.run (run_seq _ (run_post _ j.run k.run) (run_post _ v.parsed.run r.run));
+        run = run-pre (opening "ToETimeSeries" ++ opening "SupplyDirection") i.run (run-seq _ (run-post _ j.run k.run) (run-post _ v.parsed.run r.run));
         within = r.within;
       }
 
@@ -231,13 +231,13 @@ unfolding shared_body
 shared-ok v ok = ok
 
 module _ (s : List ℕ) {m a b c : Mark} (x : ℕ) {delivery year month rows : ℕ} where
-  pub shared_body : Parsed (strip (opening "ToETimeSeries")) s m a tt → (v : VolumeRead s a b delivery year month rows) → Parsed (strip (closing "ToETimeSeries")) s b c tt
+  pub shared-body : Parsed (strip (opening "ToETimeSeries")) s m a tt → (v : VolumeRead s a b delivery year month rows) → Parsed (strip (closing "ToETimeSeries")) s b c tt
       → Parsed shared_body.parse s m c (delivery, (rows, ((year, month), v.observations)))
   unfolding shared_body
-  shared_body i v r = record { run = run_pre (opening "ToETimeSeries") i.run (run_post _ v.parsed.run r.run); within = r.within }
+  shared-body i v r = record { run = run-pre (opening "ToETimeSeries") i.run (run-post _ v.parsed.run r.run); within = r.within }
 
-  pub shared_read : Parsed (strip (opening "ToETimeSeries")) s m a tt → VolumeRead s a b delivery year month rows → Parsed (strip (closing "ToETimeSeries")) s b c tt
+  pub shared-read : Parsed (strip (opening "ToETimeSeries")) s m a tt → VolumeRead s a b delivery year month rows → Parsed (strip (closing "ToETimeSeries")) s b c tt
       → Parsed (map_parse outline (shared_parse x)) s m c ((x, delivery), ((year, month), rows))
-  shared_read i v r =
+  shared-read i v r =
       kept_of shared_body (of_volume x) outline s m c (delivery, (rows, ((year, month), v.observations))) ((x, delivery), ((year, month), rows))
-      (λ ok. outline-volume x delivery rows year month v.observations (shared-ok (delivery, (rows, ((year, month), v.observations))) ok)) (shared_body i v r)
+      (λ ok. outline-volume x delivery rows year month v.observations (shared-ok (delivery, (rows, ((year, month), v.observations))) ok)) (shared-body i v r)

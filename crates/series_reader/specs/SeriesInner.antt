@@ -1,7 +1,7 @@
 -- How a partner's series are read: the form of each, behind the one before it, and what is kept of them.
 use Rattle.std.specs.Prelude.{◌≡◌, refl, Bool, ◌&&◌, List, ℕ, ◌+◌, ◌*◌, ◌≤◌, leb, length}
 use Rattle.formats.specs.Format.{Format}
-use Rattle.formats.specs.Rising.{fromLow}
+use Rattle.formats.specs.Rising.{from_low}
 use Rattle.formats.specs.declared.Mark.{Mark}
 use Rattle.formats.specs.declared.Mark.TheVariants.{At, No}
 use Rattle.kinds.specs.declared.Kind.{Kind}
@@ -9,16 +9,16 @@ use Rattle.kinds.specs.declared.Kind.TheVariants.{Toe01, Toe02, Toe03}
 use Rattle.message.specs.Contents.{TimeSeries, place}
 use Rattle.message.specs.Bytes.{series_bytes}
 use Rattle.message.specs.Valid.{month_of}
-use Rattle.message.specs.SeriesForm.{ownSeries, sharedSeries}
-use Rattle.message.specs.SeriesListForm.{follows, following, seriesList}
+use Rattle.message.specs.SeriesForm.{own_series, shared_series}
+use Rattle.message.specs.SeriesListForm.{follows, following, series_list}
 use Rattle.message.specs.PartnerForm.{own-01, own-02}
 use Rattle.series_reader.specs.ReadingInner.{Outline}
 
 -- a series with its own supply direction, or with x, that of its access point
 unfoldable pub series_form : Kind → ℕ → Format TimeSeries
-series_form Toe01 x = ownSeries Toe01 own-01.in_series
-series_form Toe02 x = ownSeries Toe02 own-02.in_series
-series_form Toe03 x = sharedSeries x
+series_form Toe01 x = own_series Toe01 own-01.in_series
+series_form Toe02 x = own_series Toe02 own-02.in_series
+series_form Toe03 x = shared_series x
 
 -- its bytes are the file's
 pub series-bytes : (k : Kind) (x : ℕ) (s : TimeSeries) → (series_form k x).render s ≡ series_bytes k s
@@ -29,7 +29,7 @@ series-bytes Toe03 x s = refl
 
 -- the next series of a partner: from place low on, of the month that was seen
 abbrev pub item : Kind → ℕ → ℕ × (ℕ × ℕ) → Format TimeSeries
-item k x = fromLow (following (series_form k x) (series_bytes k) (series-bytes k x)) place (λ seen s. month_of s)
+item k x = from_low (following (series_form k x) (series_bytes k) (series-bytes k x)) place (λ seen s. month_of s)
 
 -- the place of a series, by what is kept of it
 abbrev pub place_in : Outline → ℕ
@@ -50,4 +50,4 @@ counting t s = (month_of s, t.1 + length s.observations)
 
 -- so many series behind the month that was seen
 unfoldable pub list_form : Kind → ℕ → ℕ → ℕ × ℕ → Format (List TimeSeries)
-list_form k x n seen = seriesList (series_form k x) (series_bytes k) (series-bytes k x) n seen
+list_form k x n seen = series_list (series_form k x) (series_bytes k) (series-bytes k x) n seen

@@ -7,11 +7,11 @@ use Rattle.text.specs.Ascii.{bytes}
 use Rattle.text.specs.Decimal.{plain}
 use Rattle.formats.specs.Words.{word_at}
 use Rattle.formats.specs.Format.{Res, got, bad, bind}
-use Rattle.formats.specs.FormatLaws.{got-bad, sound_of}
+use Rattle.formats.specs.FormatLaws.{got-bad, sound-of}
 use Rattle.formats.specs.Combine.{map_parse, only_parse}
-use Rattle.formats.specs.Items.{itemsParse}
+use Rattle.formats.specs.Items.{items_parse}
 use Rattle.formats.specs.Rising.{rise}
-use Rattle.formats.specs.RunLaws.{run_only, run_fail, run_none}
+use Rattle.formats.specs.RunLaws.{run_only, run-fail, run_none}
 use Rattle.formats.specs.PlaceInner.{Parsed}
 use Rattle.formats.specs.declared.Mark.{Mark}
 use Rattle.formats.specs.declared.Mark.TheVariants.{At, No}
@@ -20,10 +20,10 @@ use Rattle.kinds.specs.declared.Kind.TheVariants.{Toe01, Toe02, Toe03}
 use Rattle.message.specs.Contents.{Observation, TimeSeries, place}
 use Rattle.message.specs.Bytes.{opening, closing, element, deliveries, in_series, supply_bytes, observation_bytes, period_bytes, volume_bytes, series_bytes}
 use Rattle.message.specs.Valid.{month_of}
-use Rattle.message.specs.SeriesListForm.{follows, following, seriesList}
+use Rattle.message.specs.SeriesListForm.{follows, following, series_list}
 use Rattle.cursor.specs.MovesInner.{keep}
 use Rattle.series_reader.specs.ReadingInner.{Outline, outline, folded}
-use Rattle.series_reader.specs.ItemsLaws.{run-same, only_same, viewed, view_bad, view_only, foldParse, fold_end, fold_bad, fold_step, longer, longer-both, flat-long, read-long}
+use Rattle.series_reader.specs.ItemsLaws.{run-same, only_same, viewed, view-bad, view-only, fold_parse, fold_end, fold-bad, fold_step, longer, longer-both, flat-long, read-long}
 use Rattle.series_reader.specs.SeriesInner.{series_form, series-bytes, item, place_in, joins, counting, list_form}
 
 -- ---- a series of any kind
@@ -67,8 +67,8 @@ item-kept : (k : Kind) (x low : ℕ) (seen : ℕ × ℕ) (s : List ℕ)
     → only_parse (λ o. leb low (place_in o)) (only_parse (λ (o : Outline). follows seen o.1.0) (map_parse outline (series_form k x).parse)) s ≡ map_parse outline (item k x (low, seen)).parse s
 item-kept k x low seen s =
     only_same (λ o. leb low (place_in o)) (only_parse (λ (o : Outline). follows seen o.1.0) (map_parse outline (series_form k x).parse))
-    (map_parse outline (only_parse (λ t. follows seen (month_of t)) (series_form k x).parse)) (λ q. view_only outline (series_form k x).parse q (λ o. follows seen o.1.0)) s
-    ∙ view_only outline (only_parse (λ t. follows seen (month_of t)) (series_form k x).parse) s (λ o. leb low (place_in o))
+    (map_parse outline (only_parse (λ t. follows seen (month_of t)) (series_form k x).parse)) (λ q. view-only outline (series_form k x).parse q (λ o. follows seen o.1.0)) s
+    ∙ view-only outline (only_parse (λ t. follows seen (month_of t)) (series_form k x).parse) s (λ o. leb low (place_in o))
 
 joined : (k : Kind) (x low : ℕ) (seen : ℕ × ℕ) (s : List ℕ) (m r : Mark) (o : Outline) → Parsed (map_parse outline (series_form k x).parse) s m r o
     → Parsed (map_parse outline (item k x (low, seen)).parse) s m (keep (joins low seen (place_in o) o.1.0) r) o
@@ -76,9 +76,9 @@ joined k x low seen s m r o h = go (leb low (place_in o)) refl (follows seen o.1
   where
     go : (a : Bool) → leb low (place_in o) ≡ a → (b : Bool) → follows seen o.1.0 ≡ b → Parsed (map_parse outline (item k x (low, seen)).parse) s m (keep (a && b) r) o
     go true e true f = record { run = run-same (item-kept k x low seen) (run_only (λ o. leb low (place_in o)) (run_only (λ (o : Outline). follows seen o.1.0) h.run f) e); within = h.within }
-    go false e true f = record { run = run-same (item-kept k x low seen) (run_fail (λ o. leb low (place_in o)) (run_only (λ (o : Outline). follows seen o.1.0) h.run f) e); within = tt }
-    go true e false f = record { run = run-same (item-kept k x low seen) (run_none (λ o. leb low (place_in o)) (run_fail (λ (o : Outline). follows seen o.1.0) h.run f)); within = tt }
-    go false e false f = record { run = run-same (item-kept k x low seen) (run_none (λ o. leb low (place_in o)) (run_fail (λ (o : Outline). follows seen o.1.0) h.run f)); within = tt }
+    go false e true f = record { run = run-same (item-kept k x low seen) (run-fail (λ o. leb low (place_in o)) (run_only (λ (o : Outline). follows seen o.1.0) h.run f) e); within = tt }
+    go true e false f = record { run = run-same (item-kept k x low seen) (run_none (λ o. leb low (place_in o)) (run-fail (λ (o : Outline). follows seen o.1.0) h.run f)); within = tt }
+    go false e false f = record { run = run-same (item-kept k x low seen) (run_none (λ o. leb low (place_in o)) (run-fail (λ (o : Outline). follows seen o.1.0) h.run f)); within = tt }
 
 -- where there was none there is none
 joined-no : (k : Kind) (x low : ℕ) (seen : ℕ × ℕ) (s : List ℕ) (m : Mark) (o : Outline) → Parsed (map_parse outline (series_form k x).parse) s m No o
@@ -90,7 +90,7 @@ pub directions : (k : Kind) (x : ℕ) (s : List ℕ) (m : Mark) (q : ℕ) (o : O
 directions k x s No q o h p = absurd (got-bad (sym p.run.run))
 directions k x s (At n) q o h p =
     let a = viewed outline (series_form k x).parse (drop n s) o (drop q s) p.run.run in
-    let ok = series-ok k x a.0 h (sound_of (series_form k x) (drop n s) a.0 (drop q s) a.1.0).1 in
+    let ok = series-ok k x a.0 h (sound-of (series_form k x) (drop n s) a.0 (drop q s) a.1.0).1 in
     subst (λ (v : Outline). (v.0.0 ≤ 1) × (v.0.1 ≤ 1)) a.1.1 ok
 
 -- the test of a series that is there
@@ -105,39 +105,39 @@ next-kept k x low seen s m No o false h e p = joined-no k x low seen s m o p
 
 -- what is kept of n series, from place low on
 module _ (k : Kind) (x : ℕ) where
-  unfoldable pub listKept : ℕ → ℕ → (ℕ × ℕ) × ℕ → List ℕ → Res ((ℕ × ℕ) × ℕ)
-  listKept n low t s = foldParse (item k x) (onto k x) counting n (low, t.0) t s
+  unfoldable pub list_kept : ℕ → ℕ → (ℕ × ℕ) × ℕ → List ℕ → Res ((ℕ × ℕ) × ℕ)
+  list_kept n low t s = fold_parse (item k x) (onto k x) counting n (low, t.0) t s
 
-  pub list_start : (n : ℕ) (t : (ℕ × ℕ) × ℕ) (s : List ℕ) → map_parse (folded counting t) (list_form k x n t.0).parse s ≡ listKept n 0 t s
-  unfolding listKept list_form seriesList foldParse map_parse
-  list_start n t s = go (itemsParse (item k x) (onto k x) n (0, t.0) s)
+  pub list-start : (n : ℕ) (t : (ℕ × ℕ) × ℕ) (s : List ℕ) → map_parse (folded counting t) (list_form k x n t.0).parse s ≡ list_kept n 0 t s
+  unfolding list_kept list_form series_list fold_parse map_parse
+  list-start n t s = go (items_parse (item k x) (onto k x) n (0, t.0) s)
     where
       go : (y : Res (List TimeSeries)) → bind (bind (bind y (λ l q. got l q)) (λ l q. got l q)) (λ l q. got (folded counting t l) q) ≡ bind y (λ l q. got (folded counting t l) q)
       go bad = refl
       go (got l q) = refl
 
   module _ (n i low : ℕ) (t : (ℕ × ℕ) × ℕ) (s : List ℕ) where
-    pub list_end : n ≤ i → listKept (n - i) low t s ≡ got t s
-    unfolding listKept
-    list_end h = fold_end (item k x) (onto k x) counting n i (low, t.0) t s h
+    pub list-end : n ≤ i → list_kept (n - i) low t s ≡ got t s
+    unfolding list_kept
+    list-end h = fold_end (item k x) (onto k x) counting n i (low, t.0) t s h
 
-    pub list_bad : i < n → map_parse outline (item k x (low, t.0)).parse s ≡ bad → listKept (n - i) low t s ≡ bad
-    unfolding listKept
-    list_bad h e = fold_bad (item k x) (onto k x) counting n i (low, t.0) t s h (view_bad outline (item k x (low, t.0)).parse s e)
+    pub list-bad : i < n → map_parse outline (item k x (low, t.0)).parse s ≡ bad → list_kept (n - i) low t s ≡ bad
+    unfolding list_kept
+    list-bad h e = fold-bad (item k x) (onto k x) counting n i (low, t.0) t s h (view-bad outline (item k x (low, t.0)).parse s e)
 
-    pub list_step : (o : Outline) (r : List ℕ) → i < n → map_parse outline (item k x (low, t.0)).parse s ≡ got o r
-        → listKept (n - i) low t s ≡ listKept (n - (i + 1)) (place_in o + 1) (o.1.0, t.1 + o.1.1) r
-    unfolding listKept
-    list_step o r h e =
+    pub list-step : (o : Outline) (r : List ℕ) → i < n → map_parse outline (item k x (low, t.0)).parse s ≡ got o r
+        → list_kept (n - i) low t s ≡ list_kept (n - (i + 1)) (place_in o + 1) (o.1.0, t.1 + o.1.1) r
+    unfolding list_kept
+    list-step o r h e =
         let a = viewed outline (item k x (low, t.0)).parse s o r e in
         fold_step (item k x) (onto k x) counting n i (low, t.0) t s a.0 r h a.1.0
-        ∙ ap (λ (v : Outline). foldParse (item k x) (onto k x) counting (n - (i + 1)) (suc (place_in v), v.1.0) (v.1.0, t.1 + v.1.1) r) a.1.1
-        ∙ ap (λ (l : ℕ). foldParse (item k x) (onto k x) counting (n - (i + 1)) (l, o.1.0) (o.1.0, t.1 + o.1.1) r) (sym (add-one (place_in o)))
+        ∙ ap (λ (v : Outline). fold_parse (item k x) (onto k x) counting (n - (i + 1)) (suc (place_in v), v.1.0) (v.1.0, t.1 + v.1.1) r) a.1.1
+        ∙ ap (λ (l : ℕ). fold_parse (item k x) (onto k x) counting (n - (i + 1)) (l, o.1.0) (o.1.0, t.1 + o.1.1) r) (sym (add-one (place_in o)))
 
   -- rows are no more than bytes
-  pub item_long : (low : ℕ) (seen : ℕ × ℕ) (s : List ℕ) (p q : ℕ) (o : Outline) → p ≤ length s
+  pub item-long : (low : ℕ) (seen : ℕ × ℕ) (s : List ℕ) (p q : ℕ) (o : Outline) → p ≤ length s
       → Parsed (map_parse outline (item k x (low, seen)).parse) s (At p) (At q) o → p + o.1.1 ≤ q
-  item_long low seen s p q o h r =
+  item-long low seen s p q o h r =
       let a = viewed outline (item k x (low, seen)).parse (drop p s) o (drop q s) r.run.run in
       let l = read-long (item k x (low, seen)) s p q a.0 h r.within a.1.0 in
       let e = ap length (series-bytes k x a.0) in

@@ -13,16 +13,16 @@ use Rattle.kinds.specs.declared.Kind.{Kind}
 use Rattle.kinds.specs.declared.Kind.TheVariants.{Toe01, Toe02, Toe03}
 use Rattle.series_reader.specs.declared.series.SeriesTodo.{SeriesTodo}
 use Rattle.series_reader.specs.declared.series.SeriesSeen.{SeriesSeen}
-use Rattle.passages.specs.PassagesInner.{ownStart, sharedStart}
+use Rattle.passages.specs.PassagesInner.{own_start, shared_start}
 use Rattle.series_reader.specs.ReadingInner.{Outline, outline, folded}
 use Rattle.series_reader.specs.SeriesInner.{joins, item, place_in, counting, list_form, Room}
 use Rattle.series_reader.specs.FillingInner.{Fills, rows_of_series}
 
 -- a series' supply direction, its own or its access point's, and the cursor behind it
 abbrev pub series_start : List ℕ → Kind → ℕ → Cursor → Read
-series_start s Toe01 x c = ownStart s c
-series_start s Toe02 x c = ownStart s c
-series_start s Toe03 x c = sharedStart s c x
+series_start s Toe01 x c = own_start s c
+series_start s Toe02 x c = own_start s c
+series_start s Toe03 x c = shared_start s c x
 
 -- what is left behind a series, and where it isn't there
 abbrev pub series_next : SeriesSeen → SeriesTodo

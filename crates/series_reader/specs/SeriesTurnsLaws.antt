@@ -21,16 +21,16 @@ use Rattle.message.specs.Bytes.{opening, closing}
 use Rattle.message.specs.SeriesForm.{volume_body, of_volume}
 use Rattle.series_reader.specs.declared.series.SeriesTodo.{SeriesTodo}
 use Rattle.series_reader.specs.declared.elements.SeriesFound.{SeriesFound}
-use Rattle.passages.specs.PassagesInner.{ownStart}
-use Rattle.series_reader.specs.PassagesLaws.{SupplySteps, own_steps, own_fits, shared_steps, series_end}
+use Rattle.passages.specs.PassagesInner.{own_start}
+use Rattle.series_reader.specs.PassagesLaws.{SupplySteps, own-steps, own-fits, shared-steps, series-end}
 use Rattle.series_reader.specs.ReadingInner.{Outline, outline, VolumeRead}
 use Rattle.series_reader.specs.ReadingLaws.{parsed-no, shared_parse}
 use Rattle.series_reader.specs.ItemsLaws.{run-same}
 use Rattle.series_reader.specs.SeriesInner.{series_form, joins, item, place_in, Room}
-use Rattle.series_reader.specs.SeriesLaws.{next-kept, listKept, list_start, list_end, list_bad, list_step, item_long}
+use Rattle.series_reader.specs.SeriesLaws.{next-kept, list_kept, list-start, list-end, list-bad, list-step, item-long}
 use Rattle.series_reader.specs.FillingInner.{Fills, rows_of_series}
 use Rattle.series_reader.specs.FillingLaws.{fills-no}
-use Rattle.series_reader.specs.SeriesFillingLaws.{own_filled, shared_filled, next-fills, seriesFrom, series_filled, series_fill_none, series_fill_bad, series_fill_step}
+use Rattle.series_reader.specs.SeriesFillingLaws.{own-filled, shared-filled, next-fills, series_from, series-filled, series-fill-none, series-fill-bad, series-fill-step}
 use Rattle.series_reader.specs.VolumesInner.{VolumeDone}
 use Rattle.series_reader.specs.SeriesTurnsInner.{series_start, SeriesAfter, SeriesEnd, SeriesOn, SeriesTurned, SeriesStep, SeriesWhole}
 
@@ -48,29 +48,29 @@ module _ (s : List ℕ) (h h₁ : Cursor) (x : ℕ) (partner rows : ℕ) (ys zs 
       × Fills (series_form k y).parse (rows_of_series partner) s (standing s h) rows ys zs
 
   module _ (done : VolumeRead s (standing s h₁) m v.delivery v.year v.month v.rows × Fills volume_body.parse (λ w. rows_of_series partner (of_volume x w)) s (standing s h₁) rows ys zs) (end : Parsed (strip (closing "ToETimeSeries")) s m e tt) where
-    own-seen : (h₁ ≡ (ownStart s h).to) × (x ≡ (ownStart s h).value) → (x ≤ 1) × (SupplySteps s (standing s h) (standing s h₁) x)
-    own-seen i = rw (i.0, i.1) (own_fits s h, own_steps s h)
+    own-seen : (h₁ ≡ (own_start s h).to) × (x ≡ (own_start s h).value) → (x ≤ 1) × (SupplySteps s (standing s h) (standing s h₁) x)
+    own-seen i = rw (i.0, i.1) (own-fits s h, own-steps s h)
 
     seen : (k : Kind) (y : ℕ) → y ≤ 1 → (h₁ ≡ (series_start s k y h).to) × (x ≡ (series_start s k y h).value) → Seen k y
     unfolding series_form Seen
     seen Toe01 y b i =
         let z = own-seen i in
-        let f = own_filled s partner z.1.before_supply z.1.supply z.1.behind_supply done end in
+        let f = own-filled s partner z.1.before_supply z.1.supply z.1.behind_supply done end in
         (z.0, f.0, f.1)
     seen Toe02 y b i =
         let z = own-seen i in
-        let f = own_filled s partner z.1.before_supply z.1.supply z.1.behind_supply done end in
+        let f = own-filled s partner z.1.before_supply z.1.supply z.1.behind_supply done end in
         (z.0, f.0, f.1)
     seen Toe03 y b i =
-        let start = subst (λ (c : Cursor). Parsed (strip (opening "ToETimeSeries")) s (standing s h) (standing s c) tt) (sym i.0) (shared_steps s h y) in
-        let f = shared_filled s x partner start done end in
+        let start = subst (λ (c : Cursor). Parsed (strip (opening "ToETimeSeries")) s (standing s h) (standing s c) tt) (sym i.0) (shared-steps s h y) in
+        let f = shared-filled s x partner start done end in
         let g = subst (λ (z : ℕ). Parsed (map_parse outline (shared_parse z)) s (standing s h) e ((x, v.delivery), ((v.year, v.month), v.rows)) × Fills (shared_parse z) (rows_of_series partner) s (standing s h) rows ys zs) i.1 f in
         (rw i.1 b, g.0, g.1)
 
 -- as many rows as there are bytes before the next place
 item_room : (k : Kind) (x low : ℕ) (seen : ℕ × ℕ) (s : List ℕ) (m : Mark) (q rows : ℕ) (o : Outline) → Within s m → Room m rows → Parsed (map_parse outline (item k x (low, seen)).parse) s m (At q) o → rows + o.1.1 ≤ q
 item_room k x low seen s No q rows o w r p = absurd (got-bad (sym p.run.run))
-item_room k x low seen s (At n) q rows o w r p = omega (arith, r, item_long k x low seen s n q o w p)
+item_room k x low seen s (At n) q rows o w r p = omega (arith, r, item-long k x low seen s n q o w p)
 
 module _ (s : List ℕ) (t : SeriesTodo) (h : Cursor) (ys : List ℕ) (h₁ : Cursor) (x : ℕ) (h₂ : Cursor) (v : SeriesFound) (zs : List ℕ) (h₃ : Cursor) (t' : SeriesTodo) where
   unfoldable behind : Mark
@@ -113,7 +113,7 @@ unfolding behind
 series-done s t h ys h₁ x e₁ h₂ v zs e₂ h₃ t' e₃ long = (
   e₃.0,
   λ i. turned_by s t h ys h₁ x h₂ v zs h₃ t' long i.0 e₂.0 i.1
-      (seen s h h₁ x t.partner t.rows ys zs (standing s h₂) (standing s (past_tag s (bytes "</ToETimeSeries>") h₂)) v (e₂.1, e₂.2) (series_end s h₂) t.kind t.supply i.0 e₁) e₃,
+      (seen s h h₁ x t.partner t.rows ys zs (standing s h₂) (standing s (past_tag s (bytes "</ToETimeSeries>") h₂)) v (e₂.1, e₂.2) (series-end s h₂) t.kind t.supply i.0 e₁) e₃,
 )
 
 -- ---- what is left
@@ -121,20 +121,20 @@ series-done s t h ys h₁ x e₁ h₂ v zs e₂ h₃ t' e₃ long = (
 module _ (s : List ℕ) (k : Kind) (x partner : ℕ) where
   -- so many series from place low on, behind a month and so many rows: read at m₀ they end at m, tell v, and leave o of the numbers d
   abbrev pub Rest : Mark → ℕ → ℕ → ℕ × ℕ → ℕ → List ℕ → Mark → (ℕ × ℕ) × ℕ → List ℕ → Type 0
-  Rest m₀ n low seen rows d m v o = Parsed (listKept k x n low (seen, rows)) s m₀ m v × Fills (seriesFrom k x n low seen) (flat_map (rows_of_series partner)) s m₀ rows d o
+  Rest m₀ n low seen rows d m v o = Parsed (list_kept k x n low (seen, rows)) s m₀ m v × Fills (series_from k x n low seen) (flat_map (rows_of_series partner)) s m₀ rows d o
 
   rest-last : (m : Mark) (low : ℕ) (seen : ℕ × ℕ) (rows : ℕ) (d : List ℕ) → Within s m → Rest m 0 low seen rows d m (seen, rows) d
   rest-last (At p) low seen rows d w =
-      (parsed (listKept k x 0 low (seen, rows)) s p (seen, rows) p (list_end k x 0 0 low (seen, rows) (drop p s) (omega arith)) w, series_fill_none k x 0 0 low seen partner s p rows d (omega arith))
-  rest-last No low seen rows d w = (parsed-no (listKept k x 0 low (seen, rows)) s (seen, rows), fills-no refl)
+      (parsed (list_kept k x 0 low (seen, rows)) s p (seen, rows) p (list-end k x 0 0 low (seen, rows) (drop p s) (omega arith)) w, series-fill-none k x 0 0 low seen partner s p rows d (omega arith))
+  rest-last No low seen rows d w = (parsed-no (list_kept k x 0 low (seen, rows)) s (seen, rows), fills-no refl)
 
   -- the next one isn't there
   rest-none : (m₀ : Mark) (n low : ℕ) (seen : ℕ × ℕ) (rows : ℕ) (d : List ℕ) (v : (ℕ × ℕ) × ℕ) (o : List ℕ) (u : Outline) → 0 < n → Parsed (map_parse outline (item k x (low, seen)).parse) s m₀ No u → length o ≡ length d
       → Rest m₀ n low seen rows d No v o
-  rest-none No n low seen rows d v o u i p l = (parsed-no (listKept k x n low (seen, rows)) s v, fills-no l)
+  rest-none No n low seen rows d v o u i p l = (parsed-no (list_kept k x n low (seen, rows)) s v, fills-no l)
   rest-none (At p) n low seen rows d v o u i r l = (
-    not_there (listKept k x n low (seen, rows)) s p v (rw sub-zero at (list_bad k x n 0 low (seen, rows) (drop p s) i r.run.run)),
-    rw sub-zero at (series_fill_bad k x n 0 low seen partner s p rows d o i r.run.run l),
+    not_there (list_kept k x n low (seen, rows)) s p v (rw sub-zero at (list-bad k x n 0 low (seen, rows) (drop p s) i r.run.run)),
+    rw sub-zero at (series-fill-bad k x n 0 low seen partner s p rows d o i r.run.run l),
   )
 
   -- the next one is there, and its rows are stored
@@ -142,8 +142,8 @@ module _ (s : List ℕ) (k : Kind) (x partner : ℕ) where
       → Fills (item k x (low, seen)).parse (rows_of_series partner) s m₀ rows d d' → Rest (At q) (n - 1) (place_in u + 1) u.1.0 (rows + u.1.1) d' m v o → Rest m₀ n low seen rows d m v o
   rest-one No n low seen rows d d' m v o q u i p f r = absurd (got-bad (sym p.run.run))
   rest-one (At p) n low seen rows d d' m v o q u i e f r = (
-    record { run = record { run = rw sub-zero at (list_step k x n 0 low (seen, rows) (drop p s) u (drop q s) i e.run.run) ∙ r.0.run.run }; within = r.0.within },
-    rw sub-zero at (series_fill_step k x n 0 low seen partner s p rows d u i e.run.run f r.1),
+    record { run = record { run = rw sub-zero at (list-step k x n 0 low (seen, rows) (drop p s) u (drop q s) i e.run.run) ∙ r.0.run.run }; within = r.0.within },
+    rw sub-zero at (series-fill-step k x n 0 low seen partner s p rows d u i e.run.run f r.1),
   )
 
 -- ---- the turns
@@ -161,18 +161,18 @@ module _ (s : List ℕ) (t₀ : SeriesTodo) (c₀ : Cursor) (ys : List ℕ) wher
     pub leads : (m : Mark) (v : (ℕ × ℕ) × ℕ) (o : List ℕ) → Rest s t₀.kind t₀.supply t₀.partner (standing s h) t.left t.low (t.year, t.month) t.rows d m v o
         → Rest s t₀.kind t₀.supply t₀.partner (standing s c₀) t₀.left t₀.low (t₀.year, t₀.month) t₀.rows ys m v o
 
-  pub leads_first : Starts → SeriesLead c₀ t₀ ys
-  leads_first i = record { kind = refl; supply = refl; partner = refl; room = i.1; leads = λ m v o r. r }
+  pub leads-first : Starts → SeriesLead c₀ t₀ ys
+  leads-first i = record { kind = refl; supply = refl; partner = refl; room = i.1; leads = λ m v o r. r }
 
-  pub leads_last : (h : Cursor) (t : SeriesTodo) (d : List ℕ) → (Starts → SeriesLead h t d) → t.left ≡ 0 → SeriesWhole s t₀ c₀ ys h t d
-  leads_last h t d f e i =
+  pub leads-last : (h : Cursor) (t : SeriesTodo) (d : List ℕ) → (Starts → SeriesLead h t d) → t.left ≡ 0 → SeriesWhole s t₀ c₀ ys h t d
+  leads-last h t d f e i =
       let l = f (i.0, i.2) in
       let v : (ℕ × ℕ) × ℕ = ((t.year, t.month), t.rows) in
       let r = l.leads (standing s h) v d (rw e (rest-last s t₀.kind t₀.supply t₀.partner (standing s h) t.low (t.year, t.month) t.rows d (standing-within s h))) in
       let z = rw i.1 at r in (
-        record { run = run-same (λ q. sym (list_start t₀.kind t₀.supply t₀.left ((t₀.year, t₀.month), t₀.rows) q)) z.0.run; within = z.0.within },
+        record { run = run-same (λ q. sym (list-start t₀.kind t₀.supply t₀.left ((t₀.year, t₀.month), t₀.rows) q)) z.0.run; within = z.0.within },
         l.room,
-        series_filled t₀.kind t₀.supply t₀.left (t₀.year, t₀.month) z.1,
+        series-filled t₀.kind t₀.supply t₀.left (t₀.year, t₀.month) z.1,
         l.partner,
       )
 
@@ -203,5 +203,5 @@ module _ (s : List ℕ) (t₀ : SeriesTodo) (c₀ : Cursor) (ys : List ℕ) wher
               (rw (from-none m w.0) (rest-none s t₀.kind t₀.supply t₀.partner (standing s h) t.left t.low (t.year, t.month) t.rows d v o z.told some p (w.1.keeps ∙ same)));
         })
 
-    pub leads_on : SeriesLead h' t' d'
-    leads_on = turned (standing s h') refl (rw (l.kind, l.supply) at z.parsed) (rw (l.kind, l.supply, l.partner) at z.fills) z.next
+    pub leads-on : SeriesLead h' t' d'
+    leads-on = turned (standing s h') refl (rw (l.kind, l.supply) at z.parsed) (rw (l.kind, l.supply, l.partner) at z.fills) z.next

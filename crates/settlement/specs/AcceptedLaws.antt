@@ -22,11 +22,11 @@ module _ (bytes : List ℕ) (before after : List ℤ) (r : Settled) (long : row_
   unfolding settle_answer
   by-book = call.answer ∙ ap (λ (x : Option Refusal). settle_says x (row_count (book_of bytes))) (settling-long bytes (length before) long)
 
-  pub accepted_settles : Accepted bytes → r ≡ Rows (row_count (book_of bytes))
+  pub accepted-settles : Accepted bytes → r ≡ Rows (row_count (book_of bytes))
   unfolding settle_says
-  accepted_settles a = by-book ∙ ap (λ (x : Option Refusal). settle_says x (row_count (book_of bytes))) (accepted bytes a)
+  accepted-settles a = by-book ∙ ap (λ (x : Option Refusal). settle_says x (row_count (book_of bytes))) (accepted bytes a)
 
-  pub settles_accepted : (count : ℕ) → r ≡ Rows count → Accepted bytes
+  pub settles-accepted : (count : ℕ) → r ≡ Rows count → Accepted bytes
   unfolding Accepted
-  settles_accepted count e =
+  settles-accepted count e =
       settling-long bytes (row_width * row_count (book_of bytes)) (omega arith) ∙ answered-none (book_refusal bytes) (row_count (book_of bytes)) count (sym by-book ∙ e)

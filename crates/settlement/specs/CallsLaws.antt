@@ -18,16 +18,16 @@ module _ (bytes : List ℕ) (lent : List ℤ) where
   unfolding settle_answer settle_says afterwards
   refused_as r h = record { answer = rw (← h); rows = rw (← h) }
 
-  pub call_refused : (r : Refusal) → some r ≡ book_refusal bytes → SettleCalled bytes lent lent (Refused r.number r.item)
+  pub call-refused : (r : Refusal) → some r ≡ book_refusal bytes → SettleCalled bytes lent lent (Refused r.number r.item)
   unfolding settling_refusal or_else
-  call_refused r h = refused_as r (rw (← h))
+  call-refused r h = refused_as r (rw (← h))
 
-  pub call_short : book_refusal bytes ≡ none → length lent < row_width * row_count (book_of bytes) → SettleCalled bytes lent lent (Refused 10 0)
+  pub call-short : book_refusal bytes ≡ none → length lent < row_width * row_count (book_of bytes) → SettleCalled bytes lent lent (Refused 10 0)
   unfolding settling_refusal or_else
-  call_short h k = refused_as (record { number = 10; item = 0 }) (rw (h, lt-leb (row_width * row_count (book_of bytes)) (length lent) k))
+  call-short h k = refused_as (record { number = 10; item = 0 }) (rw (h, lt-leb (row_width * row_count (book_of bytes)) (length lent) k))
 
-  pub call_filled : (count : ℕ) (left : List ℤ) → book_refusal bytes ≡ none → row_width * row_count (book_of bytes) ≤ length lent → count ≡ row_count (book_of bytes) → left ≡ sets lent 0 (rows (book_of bytes)) → SettleCalled bytes lent left (Rows count)
+  pub call-filled : (count : ℕ) (left : List ℤ) → book_refusal bytes ≡ none → row_width * row_count (book_of bytes) ≤ length lent → count ≡ row_count (book_of bytes) → left ≡ sets lent 0 (rows (book_of bytes)) → SettleCalled bytes lent left (Rows count)
   unfolding settle_answer settle_says afterwards
-  call_filled count left h k n f =
+  call-filled count left h k n f =
       let none_is : settling_refusal bytes (length lent) ≡ none = settling-long bytes (length lent) k ∙ h in
       record { answer = rw (none_is, n); rows = rw none_is (f ∙ sets_over (rows (book_of bytes)) lent (omega (arith, rows-length (book_of bytes)))) }

@@ -14,7 +14,7 @@ use Rattle.volumes.specs.Baseline.{is_on}
 use Rattle.settlement.specs.SectionsInner.{engagement_count_in, engagements_in, engaged_in, Opened}
 use Rattle.settlement.specs.DaysInner.{Gatherable, Gathers, Gathered}
 use Rattle.settlement.specs.PartsLaws.{engagement-count, engagement-named}
-use Rattle.settlement.specs.DrawnLaws.{engagement_placed}
+use Rattle.settlement.specs.DrawnLaws.{engagement-placed}
 
 -- those of the first i engagements
 unfoldable pub engaged_to : List ℕ → ℕ → ℕ → ℕ → Bool
@@ -78,7 +78,7 @@ gathers-more engagements before masks i e v h is long inside bits m = record { e
 -- the engagements of an opened book can be gathered, and from masks of no day they are gathered
 module _ {bytes engagements : List ℕ} (s : Opened bytes engagements) where
   pub gatherable : Gatherable engagements 256
-  gatherable = record { point = λ i h. (engagement_placed s i h).point; day = λ i h. (engagement_placed s i h).day }
+  gatherable = record { point = λ i h. (engagement-placed s i h).point; day = λ i h. (engagement-placed s i h).day }
 
 pub gathered : (engagements masks : List ℕ) → length masks ≡ 256 → Gathers engagements (replicate 256 0) masks → Gathered engagements masks
 gathered engagements masks long m =

@@ -57,8 +57,8 @@ module _ {bytes engagements : List ℕ} (s : Opened bytes engagements) where
   table_of d = s.sound.table d
 
   -- X is 1 or more, so it stands in the section
-  pub category_in : (d : ℕ) → 2 * category_at (calendar_section bytes) d + 2 ≤ length (table_section bytes)
-  category_in d = go (ltb (2 * category_at (calendar_section bytes) d) (length table)) refl
+  pub category-in : (d : ℕ) → 2 * category_at (calendar_section bytes) d + 2 ≤ length (table_section bytes)
+  category-in d = go (ltb (2 * category_at (calendar_section bytes) d) (length table)) refl
     where
       table : List ℕ
       table = table_section bytes
@@ -126,15 +126,15 @@ module _ {bytes engagements : List ℕ} (s : Opened bytes engagements) where
       }
 
   -- the refusals from row i on: that of row i, or of those after it
-  pub refusal_row : (i : ℕ) → i < engagement_count_in engagements → refusal_at (book_with bytes engagements) i ≡ row_refusal i (refusal_number (book_with bytes engagements) (engagement_at engagements i)) (refusal_at (book_with bytes engagements) (i + 1))
-  refusal_row i h =
+  pub refusal-row : (i : ℕ) → i < engagement_count_in engagements → refusal_at (book_with bytes engagements) i ≡ row_refusal i (refusal_number (book_with bytes engagements) (engagement_at engagements i)) (refusal_at (book_with bytes engagements) (i + 1))
+  refusal-row i h =
       let book = book_with bytes engagements in
       let d = engagement_at engagements i in
       refusal-next book i (i + 1) d refl (omega (arith, row-count))
       ∙ ap (λ (e : Engagement). row_refusal i (refusal_number book e) (refusal_at book (i + 1))) (row_named i d h)
 
-  pub refusal_last : (i : ℕ) → engagement_count_in engagements ≤ i → refusal_at (book_with bytes engagements) i ≡ none
-  refusal_last i h = refusal-end (book_with bytes engagements) i (omega (arith, row-count))
+  pub refusal-last : (i : ℕ) → engagement_count_in engagements ≤ i → refusal_at (book_with bytes engagements) i ≡ none
+  refusal-last i h = refusal-end (book_with bytes engagements) i (omega (arith, row-count))
 
 -- its point is one that a book can have, its day a settled one of the calendar, its rows are those of a day at most
 pub record Placing (c : Calendar) (e : Engagement) : Type 0 where
@@ -144,9 +144,9 @@ pub record Placing (c : Calendar) (e : Engagement) : Type 0 where
   pub few : row_width * e.count ≤ row_width * longest_day
 
 module _ {bytes engagements : List ℕ} (s : Opened bytes engagements) (i : ℕ) (h : i < engagement_count_in engagements) where
-  pub engagement_placed : Placing (calendar_of bytes) (engagement_at engagements i)
+  pub engagement-placed : Placing (calendar_of bytes) (engagement_at engagements i)
   unfolding book_with
-  engagement_placed =
+  engagement-placed =
       let p = s.sound.engagements (engagement_at engagements i) (member s i h) in
       record {
         point = point-few s i h;

@@ -16,26 +16,26 @@ use Rattle.volumes.specs.BaselineLaws.{complete-append}
 use Rattle.volumes.specs.Settlement.{needed_by, needed, rows_of}
 use Rattle.volumes.specs.SettlementLaws.{settles}
 use Rattle.baseline.specs.declared.shown.Shown.{Shown}
-use Rattle.baseline.specs.ShownLaws.{start_at}
+use Rattle.baseline.specs.ShownLaws.{start-at}
 use Rattle.baseline.specs.FilledInner.{Unrefused, LevelsFilled}
 use Rattle.settlement.specs.RowsInner.{readings_from, rows_from}
 use Rattle.settlement.specs.RowsLaws.{rows-from}
-use Rattle.integers.specs.RangesLaws.{map_range_cong}
+use Rattle.integers.specs.RangesLaws.{map-range-cong}
 
 module _ {shown : Shown} {calendar readings : List ℕ} {book : Book} (s : Unrefused shown calendar readings book) where
   pub own_at : (first : ℕ) → first ≡ origin_of shown.c shown.e.point + start shown.c shown.e → (k : ℕ) → reading_at readings (first + k) ≡ own_reading book shown.e k
   unfolding own_reading
   own_at first f k =
-      let q = start_at s.shows in
+      let q = start-at s.shows in
       let place : first + k ≡ origin_of shown.c shown.e.point + (start book.calendar shown.e + k) = omega arith in
       ap (reading_at readings) place ∙ sym (s.shows.reading shown.e.point (start book.calendar shown.e + k))
 
-  pub own_whole : (first : ℕ) → first ≡ origin_of shown.c shown.e.point + start shown.c shown.e → complete (readings_from shown.e readings first) ≡ true
+  pub own-whole : (first : ℕ) → first ≡ origin_of shown.c shown.e.point + start shown.c shown.e → complete (readings_from shown.e readings first) ≡ true
   unfolding needed quarter_hours
-  own_whole first f =
+  own-whole first f =
       let own = map (own_reading book shown.e) (range 0 shown.e.count) in
       let other = needed_by (point_of book shown.e).method book shown.e in
-      ap complete (map_range_cong (λ k. reading_at readings (first + k)) (own_reading book shown.e) 0 shown.e.count (λ k _ _. own_at first f k))
+      ap complete (map-range-cong (λ k. reading_at readings (first + k)) (own_reading book shown.e) 0 shown.e.count (λ k _ _. own_at first f k))
       ∙ (both (complete own) (complete other) (sym (complete-append own other) ∙ (settles book shown.e s.good).known)).0
 
   pub rows_are : {before : List ℕ} (levels : List ℕ) (first : ℕ) → LevelsFilled shown calendar readings before levels → first ≡ origin_of shown.c shown.e.point + start shown.c shown.e → rows_from book.version shown.e shown.point levels readings first ≡ rows_of book shown.e

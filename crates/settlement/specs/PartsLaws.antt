@@ -11,10 +11,10 @@ use Rattle.book.specs.declared.Engagement.{Engagement}
 use Rattle.book.specs.Engagements.{engagement_at}
 use Rattle.volumes.specs.SettlementLaws.{count_next}
 use Rattle.settlement.specs.SectionsInner.{engagement_count_in, engagements_in, row_count_in}
-use Rattle.settlement.specs.StoresLaws.{sets_append}
+use Rattle.settlement.specs.StoresLaws.{sets-append}
 use Rattle.integers.specs.RangesLaws.{length-range, get_d-made}
-use Rattle.integers.specs.SumsLaws.{sum_append}
-use Rattle.integers.specs.ListsLaws.{flat_map_append}
+use Rattle.integers.specs.SumsLaws.{sum-append}
+use Rattle.integers.specs.ListsLaws.{flat_map-append}
 
 -- how many rows the first i engagements have, and one more
 unfoldable pub row_count_to : List ℕ → ℕ → ℕ
@@ -50,7 +50,7 @@ unfolding row_count_to row_count_in
 count_most engagements i =
     let es = engagements_in engagements in
     let f : Engagement → ℕ = λ e. e.count in
-    omega (arith, ap (sum_of f) (take-append-drop i es), sum_append naturals f (take i es) (drop i es))
+    omega (arith, ap (sum_of f) (take-append-drop i es), sum-append naturals f (take i es) (drop i es))
 
 -- what f makes of the first i engagements
 unfoldable pub parts_to : {A : Type 0} → (Engagement → List A) → List ℕ → ℕ → List A
@@ -73,7 +73,7 @@ module _ {A : Type 0} (f : Engagement → List A) (engagements : List ℕ) where
       let es = engagements_in engagements in
       rw add-one
       (ap (flat_map f) (take-suc es i d (omega (arith, engagement-count engagements)))
-      ∙ flat_map_append f (take i es) (get_or es i d ∷ [])
+      ∙ flat_map-append f (take i es) (get_or es i d ∷ [])
       ∙ ap (λ (l : List A). flat_map f (take i es) ++ l) (append-nil (f (get_or es i d)))
       ∙ ap (λ (e : Engagement). flat_map f (take i es) ++ f e) (engagement-named engagements i d h))
 
@@ -90,5 +90,5 @@ module _ {A : Type 0} (f : Engagement → List A) (engagements : List ℕ) where
         let stored = parts_to f engagements i in
         let own = f (engagement_at engagements i) in
         ap (λ (n : ℕ). sets (sets l 0 stored) n own) (e ∙ sym (parts-length f width each (take i (engagements_in engagements))) ∙ sym (zero-add (length stored)))
-        ∙ sets_append l 0 stored own
+        ∙ sets-append l 0 stored own
         ∙ ap (sets l 0) (sym (parts_next i h))

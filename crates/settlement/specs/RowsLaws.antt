@@ -23,8 +23,8 @@ use Rattle.wire.specs.ReadingsInner.{raise}
 use Rattle.settlement.specs.RaisedInner.{bias, baseline_of, watts_of}
 use Rattle.settlement.specs.RaisedLaws.{over-level, over-grains, is-level}
 use Rattle.settlement.specs.RowsInner.{row_from, first_reading, readings_from, row_at, rows_from, largest}
-use Rattle.settlement.specs.StoresLaws.{flat_map_range_cong}
-use Rattle.integers.specs.RangesLaws.{map_range_cong}
+use Rattle.settlement.specs.StoresLaws.{flat_map-range-cong}
+use Rattle.integers.specs.RangesLaws.{map-range-cong}
 
 pub row-from : (book : Book) (e : Engagement) (k : ℕ) → row book e k ≡ row_from book.version e.direction (point_of book e) (requested_at e k) (baseline book e k) (watts (own_reading book e k))
 unfolding row corrections source_correction fsp_correction injection_correction delivered row_from
@@ -41,7 +41,7 @@ pub rows-from : (book : Book) (e : Engagement) (levels readings : List ℕ) (fir
     → rows_from book.version e (point_of book e) levels readings first ≡ rows_of book e
 unfolding rows_from rows_of quarter_hours requested_at
 rows-from book e levels readings first b w =
-    flat_map_range_cong
+    flat_map-range-cong
     (row_at book.version e.direction (point_of book e) e.requested levels readings first)
     (row book e)
     0
@@ -60,7 +60,7 @@ own-complete bytes e h =
     let book = book_of bytes in
     let own = map (own_reading book e) (range 0 e.count) in
     let other = needed_by (point_of book e).method book e in
-    ap complete (map_range_cong (λ k. reading_at (reading_section bytes) (first_reading (calendar_of bytes) e + k)) (own_reading book e) 0 e.count (λ k _ _. own-reading bytes e k))
+    ap complete (map-range-cong (λ k. reading_at (reading_section bytes) (first_reading (calendar_of bytes) e + k)) (own_reading book e) 0 e.count (λ k _ _. own-reading bytes e k))
     ∙ (both (complete own) (complete other) (sym (complete-append own other) ∙ h.known)).0
 
 -- a difference negated is the one of the two turned round

@@ -13,16 +13,16 @@ use Rattle.settlement.specs.PartsLaws.{parts_to, parts_all}
 
 module _ {bytes engagements : List ℕ} (s : Opened bytes engagements) where
   -- no engagement of a book that is settled is refused
-  pub not_refused : settlement_refusal (book_with bytes engagements) ≡ none → (i : ℕ) → i < engagement_count_in engagements → refusal_number (book_with bytes engagements) (engagement_at engagements i) ≡ none
+  pub not-refused : settlement_refusal (book_with bytes engagements) ≡ none → (i : ℕ) → i < engagement_count_in engagements → refusal_number (book_with bytes engagements) (engagement_at engagements i) ≡ none
   unfolding refusal_number
   not-refused h i k =
       let t = all-settle (book_with bytes engagements) h (engagement_at engagements i) (member s i k) in
       rw (t.known, t.enough)
 
 -- the rows that are filled one engagement after the other are the book's
-pub rows_all : (bytes engagements : List ℕ) (i : ℕ) → engagement_count_in engagements ≤ i → parts_to (rows_of (book_with bytes engagements)) engagements i ≡ rows (book_with bytes engagements)
+pub rows-all : (bytes engagements : List ℕ) (i : ℕ) → engagement_count_in engagements ≤ i → parts_to (rows_of (book_with bytes engagements)) engagements i ≡ rows (book_with bytes engagements)
 unfolding rows book_with
-rows_all bytes engagements i h = parts_all (rows_of (book_with bytes engagements)) engagements i h
+rows-all bytes engagements i h = parts_all (rows_of (book_with bytes engagements)) engagements i h
 
 module _ {bytes engagements masks : List ℕ} (s : Opened bytes engagements) (m : Gathered engagements masks) (i : ℕ) (h : i < engagement_count_in engagements) (good : refusal_number (book_with bytes engagements) (engagement_at engagements i) ≡ none) where
   -- what settling an engagement asks, of one that is not refused

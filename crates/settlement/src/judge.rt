@@ -14,7 +14,7 @@ use judging::Judged;
 use quarters::Calendar;
 
 // Passed, or refused with a number and its item.
-#[derive(Clone, Copy)]
+#[derive(Drop)]
 pub enum Verdict {
     Passed,
     Refused(u64, usize),

@@ -4,7 +4,7 @@ use Rattle.std.proofs.Common.{sym, ap, ◌∙◌, add-zero, add-suc, suc-add, ad
 use Rattle.std.proofs.lemmas.List.{length-map}
 use Rattle.integers.specs.Ranges.{range}
 use Rattle.sheets.specs.AddsInner.{add_at, adds}
-use Rattle.integers.specs.RangesLaws.{length-range, map_range_next}
+use Rattle.integers.specs.RangesLaws.{length-range, map-range-next}
 
 pub length-adds : (l : List ℤ) (at : ℕ) (zs : List ℤ) → length (adds l at zs) ≡ length l
 length-adds l at [] = refl
@@ -44,5 +44,5 @@ pub adds-next : (l : List ℤ) (at : ℕ) (f : ℕ → ℤ) (k : ℕ) → add_at
 adds-next l at f k =
     let n : length (map f (range 0 k)) ≡ k = length-map (range 0 k) f ∙ length-range 0 k in
     let e : map f (range 0 (k + 1)) ≡ map f (range 0 k) ++ (f k ∷ []) =
-    ap (λ (m : ℕ). map f (range 0 m)) (add-one k) ∙ map_range_next f 0 k ∙ ap (λ (m : ℕ). map f (range 0 k) ++ (f m ∷ [])) (omega arith) in
+    ap (λ (m : ℕ). map f (range 0 m)) (add-one k) ∙ map-range-next f 0 k ∙ ap (λ (m : ℕ). map f (range 0 k) ++ (f m ∷ [])) (omega arith) in
     ap (λ (m : ℕ). adds (adds l at (map f (range 0 k))) (at + m) (f k ∷ [])) (sym n) ∙ adds-append l at (map f (range 0 k)) (f k ∷ []) ∙ ap (adds l at) (sym e)

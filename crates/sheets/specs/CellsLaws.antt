@@ -65,8 +65,8 @@ module _ (f g : ℕ → ℤ) (n at count : ℕ) (inside : at + count ≤ n) (bef
           let e : at + (i - at) ≡ i = omega arith in
           subst (λ (m : ℕ). get_or (adds l at zs) m (pos 0) ≡ f (1 + m) +ℤ g (1 + m)) e (within (i - at) (omega arith))
 
-  pub adds_cells : (rest : List ℤ) → adds (map f (range 1 n) ++ rest) at (map (λ k. g (1 + at + k)) (range 0 count)) ≡ map (λ p. f p +ℤ g p) (range 1 n) ++ rest
-  adds_cells rest =
+  pub adds-cells : (rest : List ℤ) → adds (map f (range 1 n) ++ rest) at (map (λ k. g (1 + at + k)) (range 0 count)) ≡ map (λ p. f p +ℤ g p) (range 1 n) ++ rest
+  adds-cells rest =
       let zs = map (λ k. g (1 + at + k)) (range 0 count) in
       let many : length zs ≡ count = length-map (range 0 count) (λ k. g (1 + at + k)) ∙ length-range 0 count in
       let long = cells-length f n in

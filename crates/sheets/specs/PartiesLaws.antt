@@ -22,22 +22,22 @@ use Rattle.settlement.specs.SectionsLaws.{points-counted}
 use Rattle.sheets.specs.PartiesInner.{parties_to, parties_in}
 use Rattle.integers.specs.CountsLaws.{times-append, mem-times}
 use Rattle.integers.specs.RangesLaws.{range-more}
-use Rattle.integers.specs.ListsLaws.{flat_map_append}
+use Rattle.integers.specs.ListsLaws.{flat_map-append}
 
 -- in the columns of one point
 module _ (version party : ℕ) (point : Point) where
-  pub column_source : point.sourceparty ≡ party → stands party (parties_of version point) ≡ true
+  pub column-source : point.sourceparty ≡ party → stands party (parties_of version point) ≡ true
   unfolding stands parties_of
-  column_source p = le-leb 1 (times party (parties_of version point)) (mem-times party (parties_of version point) (Memᴰ.head (sym p)))
+  column-source p = le-leb 1 (times party (parties_of version point)) (mem-times party (parties_of version point) (Memᴰ.head (sym p)))
 
-  pub column_fsp : point.fspparty ≡ party → stands party (parties_of version point) ≡ true
+  pub column-fsp : point.fspparty ≡ party → stands party (parties_of version point) ≡ true
   unfolding stands parties_of
-  column_fsp p = le-leb 1 (times party (parties_of version point)) (mem-times party (parties_of version point) (Memᴰ.tail (Memᴰ.head (sym p))))
+  column-fsp p = le-leb 1 (times party (parties_of version point)) (mem-times party (parties_of version point) (Memᴰ.tail (Memᴰ.head (sym p))))
 
   -- in neither of the two, it has to stand in the third, which is one from version 2 on
-  pub column_else : (point.sourceparty ≡ party → ⊥) → (point.fspparty ≡ party → ⊥) → stands party (parties_of version point) ≡ (splits version && eqb point.injectionparty party)
+  pub column-else : (point.sourceparty ≡ party → ⊥) → (point.fspparty ≡ party → ⊥) → stands party (parties_of version point) ≡ (splits version && eqb point.injectionparty party)
   unfolding stands parties_of times
-  column_else p q = rw (ne_eqb party point.sourceparty (λ e. p (sym e)), ne_eqb party point.fspparty (λ e. q (sym e))) (go (splits version) (eqb point.injectionparty party) refl)
+  column-else p q = rw (ne_eqb party point.sourceparty (λ e. p (sym e)), ne_eqb party point.fspparty (λ e. q (sym e))) (go (splits version) (eqb point.injectionparty party) refl)
     where
       go : (t u : Bool) → eqb point.injectionparty party ≡ u → leb 1 (0 + (0 + times party (cond t (point.injectionparty ∷ []) []))) ≡ (t && u)
       go false u e = refl
@@ -55,20 +55,20 @@ module _ (version : ℕ) (register : List ℕ) where
       ap (λ (n : ℕ). flat_map (parties_of version) (map p (range 0 n))) (sym (add-one i))
       ∙ ap (λ (l : List ℕ). flat_map (parties_of version) (map p l)) (range-more 0 i)
       ∙ ap (flat_map (parties_of version)) (map-append p (range 0 i) ((0 + i) ∷ []))
-      ∙ flat_map_append (parties_of version) (map p (range 0 i)) (p (0 + i) ∷ [])
+      ∙ flat_map-append (parties_of version) (map p (range 0 i)) (p (0 + i) ∷ [])
       ∙ ap (λ (l : List ℕ). parties_to version register i ++ l) (append-nil (parties_of version (p (0 + i))) ∙ ap (λ (n : ℕ). parties_of version (p n)) e)
 
   times-next : (party i : ℕ) → times party (parties_to version register (suc i)) ≡ times party (parties_to version register i) + times party (parties_of version (point_at register i))
   times-next party i = ap (times party) (to-next i) ∙ times-append party (parties_to version register i) (parties_of version (point_at register i))
 
-  pub no_party : (party : ℕ) → stands party (parties_to version register 0) ≡ false
+  pub no-party : (party : ℕ) → stands party (parties_to version register 0) ≡ false
   unfolding stands parties_to flat_map range times
-  no_party party = refl
+  no-party party = refl
 
   -- not in the first i, and not in row i
-  pub party_next : (party i : ℕ) → stands party (parties_to version register i) ≡ false → stands party (parties_of version (point_at register i)) ≡ false → stands party (parties_to version register (i + 1)) ≡ false
+  pub party-next : (party i : ℕ) → stands party (parties_to version register i) ≡ false → stands party (parties_of version (point_at register i)) ≡ false → stands party (parties_to version register (i + 1)) ≡ false
   unfolding stands
-  party_next party i p q =
+  party-next party i p q =
       rw (add-one, times-next party i)
       (lt-leb 1 (times party (parties_to version register i) + times party (parties_of version (point_at register i))) (omega (arith, leb-false 1 (times party (parties_to version register i)) p, leb-false 1 (times party (parties_of version (point_at register i))) q)))
 
@@ -81,9 +81,9 @@ module _ (version : ℕ) (register : List ℕ) where
       (λ l. let m : 1 ≤ times party (parties_to version register n) = in_row party i n (omega arith) k in omega (arith, times-next party n))
       (eq-or-lt_of_le h)
 
-  pub party_here : (party i : ℕ) → i < point_count_in register → stands party (parties_of version (point_at register i)) ≡ true → stands party (parties_in version register) ≡ true
+  pub party-here : (party i : ℕ) → i < point_count_in register → stands party (parties_of version (point_at register i)) ≡ true → stands party (parties_in version register) ≡ true
   unfolding stands
-  party_here party i h p = le-leb 1 _ (in_row party i (point_count_in register) h (leb-true 1 (times party (parties_of version (point_at register i))) p))
+  party-here party i h p = le-leb 1 _ (in_row party i (point_count_in register) h (leb-true 1 (times party (parties_of version (point_at register i))) p))
 
 -- the parties of the register of a book that passes refusals 1 to 7
 pub parties-are : (bytes : List ℕ) → refusal_of bytes ≡ none → parties_in (version_of bytes) (register_section bytes) ≡ parties (book_of bytes)

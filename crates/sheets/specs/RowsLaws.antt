@@ -17,9 +17,9 @@ use Rattle.volumes.specs.SettlementLaws.{row-length, rows_of-length}
 use Rattle.volumes.specs.Sheets.{start_position, correction_at}
 use Rattle.volumes.specs.SheetsLaws.{correction-inside}
 use Rattle.volumes.specs.SoundInner.{OnTerms, Sound}
-use Rattle.volumes.specs.WidthsLaws.{bounded-more, source_bounded, fsp_bounded, injection_bounded}
+use Rattle.volumes.specs.WidthsLaws.{bounded-more, source-bounded, fsp-bounded, injection-bounded}
 use Rattle.sheets.specs.SharesInner.{gets, source_in, fsp_in, injection_in, gets_at, gets_of, RowsSmall, corrections_for}
-use Rattle.integers.specs.RangesLaws.{map_range_cong}
+use Rattle.integers.specs.RangesLaws.{map-range-cong}
 
 -- the j-th of the k-th part, where all parts have one width
 get_d_part : {A : Type 0} (w : ℕ) (f : ℕ → List A) (a n k j : ℕ) (d : A) → ((i : ℕ) → length (f i) ≡ w) → k < n → j < w → get_or (flat_map f (range a n)) (w * k + j) d ≡ get_or (f (a + k)) j d
@@ -64,7 +64,7 @@ module _ (book : Book) (e : Engagement) (l : List ℤ) (room : row_width * e.cou
   unfolding gets_of gets corrections_for quarter_hours corrections
   rows_get party =
       let rows = sets l 0 (rows_of book e) in
-      map_range_cong
+      map-range-cong
       (gets_at book.version party (point_of book e) rows)
       (λ k. correction_at book party (start_position book.calendar e + k) e)
       0
@@ -72,10 +72,10 @@ module _ (book : Book) (e : Engagement) (l : List ℤ) (room : row_width * e.cou
       (λ k _ h. let q : k < e.count = omega arith in rw (source-read k q, fsp-read k q, injection-read k q) (sym (correction-inside book party e k q)))
 
   -- which are small enough to add up
-  pub rows_small : Sound book → OnTerms e → RowsSmall (sets l 0 (rows_of book e)) e.count
-  rows_small s t =
+  pub rows-small : Sound book → OnTerms e → RowsSmall (sets l 0 (rows_of book e)) e.count
+  rows-small s t =
       record {
-        source = λ k h. rw (source-read k h) (bounded-more (source_bounded book s e k) (omega arith));
-        fsp = λ k h. rw (fsp-read k h) (bounded-more (fsp_bounded book s e t k) (omega arith));
-        injection = λ k h. rw (injection-read k h) (bounded-more (injection_bounded book s e k) (omega arith));
+        source = λ k h. rw (source-read k h) (bounded-more (source-bounded book s e k) (omega arith));
+        fsp = λ k h. rw (fsp-read k h) (bounded-more (fsp-bounded book s e t k) (omega arith));
+        injection = λ k h. rw (injection-read k h) (bounded-more (injection-bounded book s e k) (omega arith));
       }

@@ -28,13 +28,13 @@ abbrev pub pick : ℕ → ℕ → ℤ → ℤ
 pick column party z = cond (eqb column party) z (pos 0)
 
 module _ (version party : ℕ) (point : Point) (source fsp injection : ℤ) where
-  pub gets_two : splits version ≡ false → gets version party point source fsp injection ≡ pick point.sourceparty party source +ℤ pick point.fspparty party fsp
+  pub gets-two : splits version ≡ false → gets version party point source fsp injection ≡ pick point.sourceparty party source +ℤ pick point.fspparty party fsp
   unfolding gets share_of parties_of zip zip_with sum_by
-  gets_two h = rw h (ap (λ (z : ℤ). pick point.sourceparty party source +ℤ z) (+ℤ_idr (pick point.fspparty party fsp)))
+  gets-two h = rw h (ap (λ (z : ℤ). pick point.sourceparty party source +ℤ z) (+ℤ_idr (pick point.fspparty party fsp)))
 
-  pub gets_three : splits version ≡ true → gets version party point source fsp injection ≡ pick point.sourceparty party source +ℤ pick point.fspparty party fsp +ℤ pick point.injectionparty party injection
+  pub gets-three : splits version ≡ true → gets version party point source fsp injection ≡ pick point.sourceparty party source +ℤ pick point.fspparty party fsp +ℤ pick point.injectionparty party injection
   unfolding gets share_of parties_of zip zip_with sum_by
-  gets_three h = rw h (thrice (pick point.sourceparty party source) (pick point.fspparty party fsp) (pick point.injectionparty party injection))
+  gets-three h = rw h (thrice (pick point.sourceparty party source) (pick point.fspparty party fsp) (pick point.injectionparty party injection))
 
 -- what is picked is no larger
 pub pick-bounded : {n : ℕ} {z : ℤ} (column party : ℕ) → Bounded n z → Bounded n (pick column party z)
@@ -46,21 +46,21 @@ pick-bounded {n} {z} column party h = go (eqb column party)
 
 module _ (version party : ℕ) (point : Point) (rows : List ℤ) where
   -- of so many rows so many shares, and the k-th of them
-  pub gets_length : (count : ℕ) → length (gets_of version party point rows count) ≡ count
+  pub gets-length : (count : ℕ) → length (gets_of version party point rows count) ≡ count
   unfolding gets_of
-  gets_length count = length-map (range 0 count) _ ∙ length-range 0 count
+  gets-length count = length-map (range 0 count) _ ∙ length-range 0 count
 
   -- one row more
-  pub gets_next : (l : List ℤ) (at k : ℕ) → adds (adds l at (gets_of version party point rows k)) (at + k) (gets_at version party point rows k ∷ []) ≡ adds l at (gets_of version party point rows (k + 1))
+  pub gets-next : (l : List ℤ) (at k : ℕ) → adds (adds l at (gets_of version party point rows k)) (at + k) (gets_at version party point rows k ∷ []) ≡ adds l at (gets_of version party point rows (k + 1))
   unfolding gets_of
-  gets_next l at k = adds-next l at (gets_at version party point rows) k
+  gets-next l at k = adds-next l at (gets_at version party point rows) k
 
   -- the next cell is as it was
-  pub gets_fits : (l : List ℤ) (at count k : ℕ) → Addable l at (gets_of version party point rows count) → k < count → SFits w64 (get_or (adds l at (gets_of version party point rows k)) (at + k) (pos 0) +ℤ gets_at version party point rows k)
+  pub gets-fits : (l : List ℤ) (at count k : ℕ) → Addable l at (gets_of version party point rows count) → k < count → SFits w64 (get_or (adds l at (gets_of version party point rows k)) (at + k) (pos 0) +ℤ gets_at version party point rows k)
   unfolding gets_of
-  gets_fits l at count k h q =
+  gets-fits l at count k h q =
       let f : ℕ → ℤ = gets_at version party point rows in
-      let n : length (gets_of version party point rows k) ≡ k = gets_length k in
-      let m : length (gets_of version party point rows count) ≡ count = gets_length count in
+      let n : length (gets_of version party point rows k) ≡ k = gets-length k in
+      let m : length (gets_of version party point rows count) ≡ count = gets-length count in
       rw (adds-behind l at (gets_of version party point rows k) (at + k) (omega arith), ← get_d-made f count k (pos 0) q)
       (h.fits k (omega arith))

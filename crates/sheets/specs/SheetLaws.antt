@@ -15,17 +15,17 @@ use Rattle.book.specs.Book.{Book}
 use Rattle.quarters.specs.Quarters.{month_quarters}
 use Rattle.quarters.specs.QuartersLaws.{cell-position}
 use Rattle.volumes.specs.Quarters.{quarter_hours}
-use Rattle.volumes.specs.QuartersLaws.{position_inside}
+use Rattle.volumes.specs.QuartersLaws.{position-inside}
 use Rattle.volumes.specs.Sheets.{start_position, covers, correction_at, sheet_at, sheet}
 use Rattle.volumes.specs.SheetsLaws.{covers-before, covers-after}
 use Rattle.volumes.specs.SoundInner.{Placed, Sound}
 use Rattle.volumes.specs.WidthsLaws.{sheet-part-fits}
 use Rattle.sheets.specs.AddsInner.{adds, Addable}
 use Rattle.sheets.specs.SharesInner.{corrections_for, first_cell}
-use Rattle.sheets.specs.CellsLaws.{cells-length, cell, cells-zero, adds_cells}
+use Rattle.sheets.specs.CellsLaws.{cells-length, cell, cells-zero, adds-cells}
 use Rattle.sheets.specs.PartsInner.{part_at, sheet_to}
-use Rattle.integers.specs.RangesLaws.{length-range, get_d-made, map_range_cong}
-use Rattle.integers.specs.SumsLaws.{sum_append}
+use Rattle.integers.specs.RangesLaws.{length-range, get_d-made, map-range-cong}
+use Rattle.integers.specs.SumsLaws.{sum-append}
 
 -- no engagement, and all of them
 part_none : (book : Book) (party p : ℕ) → part_at book party 0 p ≡ pos 0
@@ -63,16 +63,16 @@ module _ (book : Book) (party i : ℕ) (e : Engagement) (h : i < length book.eng
       let es = book.engagements in
       ap (λ (n : ℕ). sum_z f (take n es)) (add-one i)
       ∙ ap (sum_z f) (take-suc es i e h)
-      ∙ sum_append integers f (take i es) (get_or es i e ∷ [])
+      ∙ sum-append integers f (take i es) (get_or es i e ∷ [])
       ∙ ap (λ (z : ℤ). part_at book party i p +ℤ z) (+ℤ_idr (f (get_or es i e)) ∙ ap f named)
 
   module _ (placed : Placed book.calendar (length book.points) e) (rest : List ℤ) where
     reach : first_cell book.calendar e + e.count ≤ month_quarters book.calendar
-    reach = omega (arith, first-cell book.calendar e, position_inside book.calendar (length book.points) e placed)
+    reach = omega (arith, first-cell book.calendar e, position-inside book.calendar (length book.points) e placed)
 
-    pub sheet_more : adds (sheet_to book party i ++ rest) (first_cell book.calendar e) (corrections_for book party e) ≡ sheet_to book party (i + 1) ++ rest
+    pub sheet-more : adds (sheet_to book party i ++ rest) (first_cell book.calendar e) (corrections_for book party e) ≡ sheet_to book party (i + 1) ++ rest
     unfolding sheet_to corrections_for quarter_hours
-    sheet_more =
+    sheet-more =
         let c = book.calendar in
         let at = first_cell c e in
         let f = part_at book party i in
@@ -80,12 +80,12 @@ module _ (book : Book) (party i : ℕ) (e : Engagement) (h : i < length book.eng
         let n = month_quarters c in
         let s = first-cell c e in
         ap (λ (m : ℕ). adds (sheet_to book party i ++ rest) at (map (λ k. g (m + k)) (range 0 e.count))) s
-        ∙ adds_cells f g n at e.count reach (λ p q. outside book party p e (covers-before c e p (omega arith))) (λ p q. outside book party p e (covers-after c e p (omega arith))) rest
-        ∙ ap (λ (l : List ℤ). l ++ rest) (map_range_cong (λ p. f p +ℤ g p) (part_at book party (i + 1)) 1 n (λ p _ _. sym (part-next p)))
+        ∙ adds-cells f g n at e.count reach (λ p q. outside book party p e (covers-before c e p (omega arith))) (λ p q. outside book party p e (covers-after c e p (omega arith))) rest
+        ∙ ap (λ (l : List ℤ). l ++ rest) (map-range-cong (λ p. f p +ℤ g p) (part_at book party (i + 1)) 1 n (λ p _ _. sym (part-next p)))
 
-    pub sheet_addable : Sound book → Addable (sheet_to book party i ++ rest) (first_cell book.calendar e) (corrections_for book party e)
+    pub sheet-addable : Sound book → Addable (sheet_to book party i ++ rest) (first_cell book.calendar e) (corrections_for book party e)
     unfolding corrections_for quarter_hours sheet_to part_at
-    sheet_addable s =
+    sheet-addable s =
         let c = book.calendar in
         let at = first_cell c e in
         let es = book.engagements in

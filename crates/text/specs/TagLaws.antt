@@ -43,10 +43,10 @@ begins-no-room s (x ∷ t) p h = go (begins (x ∷ t) (drop p s)) refl ∙ sym (
     go false e = refl
 
 module _ (s t : List ℕ) (p i : ℕ) where
-  pub begins_end : length t ≤ i → begins (drop i t) (drop p s) ≡ true
+  pub begins-end : length t ≤ i → begins (drop i t) (drop p s) ≡ true
   unfolding begins
-  begins_end h = rw (drop_of_length-le t h)
+  begins-end h = rw (drop_of_length-le t h)
 
-  pub begins_step : i < length t → p < length s → begins (drop i t) (drop p s) ≡ (eqb (get_or s p 0) (get_or t i 0) && begins (drop (i + 1) t) (drop (p + 1) s))
+  pub begins-step : i < length t → p < length s → begins (drop i t) (drop p s) ≡ (eqb (get_or s p 0) (get_or t i 0) && begins (drop (i + 1) t) (drop (p + 1) s))
   unfolding begins
-  begins_step h k = rw (add-one, add-one, drop-cons t i 0, drop-cons s p 0)
+  begins-step h k = rw (add-one, add-one, drop-cons t i 0, drop-cons s p 0)

@@ -114,11 +114,11 @@ abbrev pub facts_by : ReadAnswer → List ℕ → List ℕ
 facts_by (FileRead f) before = over (fact_numbers f) before
 facts_by (ReadRefused number item) before = before
 
-pub record ReadCoded (file rows_before rows_after factsBefore factsAfter : List ℕ) (code : ℕ) : Type 0 where
+pub record ReadCoded (file rows_before rows_after facts_before facts_after : List ℕ) (code : ℕ) : Type 0 where
   pub answer : ReadAnswer
   pub filled : List ℕ
   pub called : ReadCalled file rows_before filled answer
-  pub rows : rows_after ≡ rows_by (with_facts (length factsBefore) answer) filled rows_before
-  pub facts : factsAfter ≡ facts_by (with_facts (length factsBefore) answer) factsBefore
-  pub coded : code ≡ code_of (read_reply (with_facts (length factsBefore) answer))
-  pub told : Tells (read_reply (with_facts (length factsBefore) answer)) code
+  pub rows : rows_after ≡ rows_by (with_facts (length facts_before) answer) filled rows_before
+  pub facts : facts_after ≡ facts_by (with_facts (length facts_before) answer) facts_before
+  pub coded : code ≡ code_of (read_reply (with_facts (length facts_before) answer))
+  pub told : Tells (read_reply (with_facts (length facts_before) answer)) code

@@ -11,7 +11,7 @@ use Rattle.message.specs.declared.ReadAnswer.TheVariants.{File, Refused}
 use Rattle.message.specs.Rows.{numbers}
 use Rattle.message.specs.Messages.{read_message}
 use Rattle.message.specs.Calls.{read_refusal, message_in, read_answer, ReadCalled}
-use Rattle.message.specs.CallsLaws.{called_refused, one-reading}
+use Rattle.message.specs.CallsLaws.{called-refused, one-reading}
 use Rattle.message.specs.declared.WriteAnswer.{WriteAnswer}
 use Rattle.writer.specs.WriteCalls.{WriteCalled}
 use Rattle.settlement.specs.declared.settle.Settled.{Settled}
@@ -68,26 +68,26 @@ facts-kept (File f) before = refl
 facts-kept (Refused number item) before = refl
 
 -- a reading, by its own record and what is done with its answer
-module _ (file rows_before factsBefore : List ℕ) (r : ReadAnswer) (filled : List ℕ) (fits : length file < 2 ^ 64) (called : ReadCalled file rows_before filled r) where
-  coded : (rows_after factsAfter : List ℕ) (code : ℕ) → rows_after ≡ rows_by (with_facts (length factsBefore) r) filled rows_before → factsAfter ≡ facts_by (with_facts (length factsBefore) r) factsBefore
-      → code ≡ code_of (read_reply (with_facts (length factsBefore) r)) → ReadCoded file rows_before rows_after factsBefore factsAfter code
-  coded rows_after factsAfter code e f g =
-      let lent = length factsBefore in
+module _ (file rows_before facts_before : List ℕ) (r : ReadAnswer) (filled : List ℕ) (fits : length file < 2 ^ 64) (called : ReadCalled file rows_before filled r) where
+  coded : (rows_after facts_after : List ℕ) (code : ℕ) → rows_after ≡ rows_by (with_facts (length facts_before) r) filled rows_before → facts_after ≡ facts_by (with_facts (length facts_before) r) facts_before
+      → code ≡ code_of (read_reply (with_facts (length facts_before) r)) → ReadCoded file rows_before rows_after facts_before facts_after code
+  coded rows_after facts_after code e f g =
+      let lent = length facts_before in
       let small = facts-small lent r (read_small file (length rows_before) called.answer) in
       let few = facts-few lent r (read-few file (length rows_before) fits called.answer) in
       record { answer = r; filled = filled; called = called; rows = e; facts = f; coded = g; told = told-by (read_reply (with_facts lent r)) code g small few }
 
-module _ (file rows_before rows_after factsBefore : List ℕ) (fits : length file < 2 ^ 64) (long : 8 ≤ length factsBefore) where
-  pub read_accepted : (f : FileFacts) → ReadCalled file rows_before rows_after (File f) → ReadCoded file rows_before rows_after factsBefore (over (fact_numbers f) factsBefore) f.rows
-  read_accepted f c =
-      let e = enough (length factsBefore) (File f) long in
-      coded file rows_before factsBefore (File f) rows_after fits c rows_after (over (fact_numbers f) factsBefore) f.rows (rw e) (rw e) (rw e)
+module _ (file rows_before rows_after facts_before : List ℕ) (fits : length file < 2 ^ 64) (long : 8 ≤ length facts_before) where
+  pub read-accepted : (f : FileFacts) → ReadCalled file rows_before rows_after (File f) → ReadCoded file rows_before rows_after facts_before (over (fact_numbers f) facts_before) f.rows
+  read-accepted f c =
+      let e = enough (length facts_before) (File f) long in
+      coded file rows_before facts_before (File f) rows_after fits c rows_after (over (fact_numbers f) facts_before) f.rows (rw e) (rw e) (rw e)
 
-  pub read_refused : (number item : ℕ) → ReadCalled file rows_before rows_after (Refused number item) → ReadCoded file rows_before rows_after factsBefore factsBefore (refusal_code number item)
-  read_refused number item c =
-      let k = (one-reading c (called_refused file rows_before number item c.answer)).1 in
-      let e = enough (length factsBefore) (Refused number item) long in
-      coded file rows_before factsBefore (Refused number item) rows_after fits c rows_after factsBefore (refusal_code number item) (rw e k) (rw e) (rw e)
+  pub read-refused : (number item : ℕ) → ReadCalled file rows_before rows_after (Refused number item) → ReadCoded file rows_before rows_after facts_before facts_before (refusal_code number item)
+  read-refused number item c =
+      let k = (one-reading c (called-refused file rows_before number item c.answer)).1 in
+      let e = enough (length facts_before) (Refused number item) long in
+      coded file rows_before facts_before (Refused number item) rows_after fits c rows_after facts_before (refusal_code number item) (rw e k) (rw e) (rw e)
 
 pub read_short : (file rows facts : List ℕ) (r : ReadAnswer) (code : ℕ) → length file < 2 ^ 64 → length facts < 8 → r ≡ read_answer file (length rows) → code ≡ code_of (read_reply (with_facts 0 r))
     → ReadCoded file rows rows facts facts code

@@ -44,18 +44,18 @@ use Rattle.message.specs.SizeLaws.{file-most}
 use Rattle.reports.specs.RegisteredInner.{Registered}
 use Rattle.reports.specs.RegisteredLaws.{registered}
 use Rattle.reports.specs.FileRows.{is_taken, partner_numbers, directions, partners_of, file_of, file_text, file_rows, observation_by}
-use Rattle.reports.specs.CarryLaws.{row_at, rows_sum}
-use Rattle.reports.specs.FormLaws.{partners-few, partners_valid, file_valid}
+use Rattle.reports.specs.CarryLaws.{row_at, rows-sum}
+use Rattle.reports.specs.FormLaws.{partners-few, partners-valid, file-valid}
 use Rattle.series.specs.VolumesLaws.{volumes-most}
 use Rattle.reports.specs.Calls.{text_of, file_refusal, file_says, file_answer}
-use Rattle.reports.specs.CallsLaws.{kind-is, InForm, file_in_form}
+use Rattle.reports.specs.CallsLaws.{kind-is, InForm, file-in-form}
 use Rattle.reports.specs.Demand3.{is_file}
 use Rattle.kinds.specs.Numbers.{kind_numbered, kind_number}
 use Rattle.kinds.specs.NumbersLaws.{kind-numbered}
 use Rattle.toe_c.specs.FileSizeInner.{file_most}
 use Rattle.integers.specs.AllLaws.{all_map, all_of_map, all_append}
 use Rattle.integers.specs.CountsLaws.{times-mem}
-use Rattle.integers.specs.SumsLaws.{sum-zero, sum_all, sum_swap, sum_once, sum_absent}
+use Rattle.integers.specs.SumsLaws.{sum-zero, sum-all, sum-swap, sum-once, sum-absent}
 use Rattle.reports.specs.FileRowsInner.{positions, observation_at}
 
 -- ---- sums
@@ -165,8 +165,8 @@ once-most : (x n : ℕ) (column : List ℕ) → sum_of (λ y. cond (eqb x y) n 0
 once-most x n column = go (times x (ascending column)) refl
   where
     go : (t : ℕ) → times x (ascending column) ≡ t → sum_of (λ y. cond (eqb x y) n 0) (ascending column) ≤ n
-    go zero f = omega (arith, sum_absent naturals x (λ _. n) (ascending column) f)
-    go (suc t) f = let o = ascending-once column in omega (arith, sum_once naturals x (λ _. n) (ascending column) (o.once x (o.only x (times-mem x (ascending column) (omega arith)))))
+    go zero f = omega (arith, sum-absent naturals x (λ _. n) (ascending column) f)
+    go (suc t) f = let o = ascending-once column in omega (arith, sum-once naturals x (λ _. n) (ascending column) (o.once x (o.only x (times-mem x (ascending column) (omega arith)))))
 
 module _ (book : Book) (kind : Kind) (receiver : ℕ) (e : Engagement) where
   abbrev point : Point
@@ -222,17 +222,17 @@ module _ (book : Book) (kind : Kind) (receiver : ℕ) where
   by-engagement : sum_of (λ n. sum_of (λ d. sum_of (λ p. sum_of (λ e. hits n d p e) book.engagements) (positions book)) directions) (partner_numbers book kind receiver)
       ≡ sum_of (λ e. sum_of (λ n. sum_of (λ d. sum_of (λ p. hits n d p e) (positions book)) directions) (partner_numbers book kind receiver)) book.engagements
   by-engagement =
-      sum_all naturals _ (λ n. sum_of (λ e. sum_of (λ d. sum_of (λ p. hits n d p e) (positions book)) directions) book.engagements) (partner_numbers book kind receiver) (λ n.
-      sum_all naturals _ (λ d. sum_of (λ e. sum_of (λ p. hits n d p e) (positions book)) book.engagements) directions (λ d. sum_swap naturals (λ p e. hits n d p e) (positions book) book.engagements)
-      ∙ sum_swap naturals (λ d e. sum_of (λ p. hits n d p e) (positions book)) directions book.engagements)
-      ∙ sum_swap naturals (λ n e. sum_of (λ d. sum_of (λ p. hits n d p e) (positions book)) directions) (partner_numbers book kind receiver) book.engagements
+      sum-all naturals _ (λ n. sum_of (λ e. sum_of (λ d. sum_of (λ p. hits n d p e) (positions book)) directions) book.engagements) (partner_numbers book kind receiver) (λ n.
+      sum-all naturals _ (λ d. sum_of (λ e. sum_of (λ p. hits n d p e) (positions book)) book.engagements) directions (λ d. sum-swap naturals (λ p e. hits n d p e) (positions book) book.engagements)
+      ∙ sum-swap naturals (λ d e. sum_of (λ p. hits n d p e) (positions book)) directions book.engagements)
+      ∙ sum-swap naturals (λ n e. sum_of (λ d. sum_of (λ p. hits n d p e) (positions book)) directions) (partner_numbers book kind receiver) book.engagements
 
   pub rows_few : Sound book → Registered book → length (file_rows book kind receiver) ≤ row_count book
   unfolding row_count file_rows observation_at observation_by series_watts
   rows_few s r =
-      let counted : sum_of one (file_rows book kind receiver) ≡ length (file_rows book kind receiver) = sum_ones one (file_rows book kind receiver) (rows-ones kind (partners_of book kind receiver) (partners_valid book s r kind receiver)) in
+      let counted : sum_of one (file_rows book kind receiver) ≡ length (file_rows book kind receiver) = sum_ones one (file_rows book kind receiver) (rows-ones kind (partners_of book kind receiver) (partners-valid book s r kind receiver)) in
       let parted : sum_of one (file_rows book kind receiver) ≡ sum_of (λ n. sum_of (λ d. sum_of (λ p. one (row_at book kind receiver n d p)) (positions book)) directions) (partner_numbers book kind receiver)
-      = rows_sum book kind receiver one (λ r e. rw e) in
+      = rows-sum book kind receiver one (λ r e. rw e) in
       let covered : sum_of (λ n. sum_of (λ d. sum_of (λ p. one (row_at book kind receiver n d p)) (positions book)) directions) (partner_numbers book kind receiver)
       ≤ sum_of (λ n. sum_of (λ d. sum_of (λ p. sum_of (λ e. hits n d p e) book.engagements) (positions book)) directions) (partner_numbers book kind receiver)
       = sum-under _ _ (partner_numbers book kind receiver) (λ n. sum-under _ _ directions (λ d. sum-under _ _ (positions book) (λ p. watts-hit book kind receiver (series_of n d.0 d.1) p))) in
@@ -248,21 +248,21 @@ file-answered x m n e = rw e
 
 module _ (bytes : List ℕ) (kind : Kind) (receiver : ℕ) (id moment : List ℕ) where
   -- by the book's own rows, of a file that was asked for in role and form
-  pub file_by_rows : book_refusal bytes ≡ none → InForm (book_of bytes) kind receiver id moment → length (file_text (book_of bytes) kind receiver id moment) ≤ 453166 + 86 * row_count (book_of bytes)
+  pub file-by-rows : book_refusal bytes ≡ none → InForm (book_of bytes) kind receiver id moment → length (file_text (book_of bytes) kind receiver id moment) ≤ 453166 + 86 * row_count (book_of bytes)
   unfolding file_text file_of file_rows
-  file_by_rows e f =
+  file-by-rows e f =
       let s = sound bytes (passing bytes e).passed in
       let r = registered bytes (passing bytes e).passed in
       omega (
         arith,
-        file-most (file_of (book_of bytes) kind receiver id moment) (file_valid (book_of bytes) s r kind receiver id moment f.role f.named f.timed),
+        file-most (file_of (book_of bytes) kind receiver id moment) (file-valid (book_of bytes) s r kind receiver id moment f.role f.named f.timed),
         partners-few (book_of bytes) kind receiver r,
         rows_few (book_of bytes) kind receiver s r,
       )
 
   -- so a buffer of `file_most` bytes fits any file
-  pub file_fits : book_refusal bytes ≡ none → InForm (book_of bytes) kind receiver id moment → length (file_text (book_of bytes) kind receiver id moment) ≤ file_most
-  file-fits e f = omega (arith, file_by_rows e f, volumes-most bytes e)
+  pub file-fits : book_refusal bytes ≡ none → InForm (book_of bytes) kind receiver id moment → length (file_text (book_of bytes) kind receiver id moment) ≤ file_most
+  file-fits e f = omega (arith, file-by-rows e f, volumes-most bytes e)
 
 -- of any file call that is accepted
 module _ (bytes : List ℕ) (number receiver : ℕ) (id moment : List ℕ) (rows_lent file_lent : ℕ) where
@@ -271,9 +271,9 @@ module _ (bytes : List ℕ) (number receiver : ℕ) (id moment : List ℕ) (rows
   few-of kind k e =
       let b = not_first (book_refusal bytes) _ e in
       let e' : file_refusal bytes (kind_number kind) receiver id moment rows_lent file_lent ≡ none = rw (← k) e in
-      let f = file_in_form bytes kind receiver id moment rows_lent file_lent (file-answered (file_refusal bytes (kind_number kind) receiver id moment rows_lent file_lent) _ _ e') in
+      let f = file-in-form bytes kind receiver id moment rows_lent file_lent (file-answered (file_refusal bytes (kind_number kind) receiver id moment rows_lent file_lent) _ _ e') in
       rw (k, kind-numbered kind) (file-fits bytes kind receiver id moment b f)
 
-  pub file_few : file_refusal bytes number receiver id moment rows_lent file_lent ≡ none → length (text_of (book_of bytes) (kind_numbered number) receiver id moment) ≤ file_most
+  pub file-few : file_refusal bytes number receiver id moment rows_lent file_lent ≡ none → length (text_of (book_of bytes) (kind_numbered number) receiver id moment) ≤ file_most
   unfolding file_answer
-  file_few e = let k = kind-is bytes number receiver id moment rows_lent file_lent (file-answered (file_refusal bytes number receiver id moment rows_lent file_lent) _ _ e) in few-of k.0 k.1 e
+  file-few e = let k = kind-is bytes number receiver id moment rows_lent file_lent (file-answered (file_refusal bytes number receiver id moment rows_lent file_lent) _ _ e) in few-of k.0 k.1 e

@@ -35,7 +35,7 @@ use Rattle.series.specs.VolumesLaws.{volumes-most}
 use Rattle.toe_c.specs.Codes.{Reply, counts, refuses, settle_reply, sheet_reply, file_reply, read_reply, write_reply, code_of, Tells, with_facts}
 use Rattle.toe_c.specs.SmallInner.{SmallReply}
 use Rattle.toe_c.specs.SmallLaws.{reply_by, settle-by, sheet-by, file-by, write-by, read_by, decoded}
-use Rattle.toe_c.specs.FileSizeLaws.{file_few}
+use Rattle.toe_c.specs.FileSizeLaws.{file-few}
 
 -- its count, if it is one, is below 2^63
 abbrev pub FewReply : Reply → Type 0
@@ -88,7 +88,7 @@ unfolding file_answer
 file-answer-few {bytes} {kind} {receiver} {id} {moment} {rows_before} {before = before} c =
     let x = file_refusal bytes kind receiver id moment (length rows_before) (length before) in
     let n = length (text_of (book_of bytes) (kind_numbered kind) receiver id moment) in
-    rw (c.answer, file-by x (row_count (book_of bytes)) n) (by-few x n (λ e. omega (arith, file_few bytes kind receiver id moment (length rows_before) (length before) e)))
+    rw (c.answer, file-by x (row_count (book_of bytes)) n) (by-few x n (λ e. omega (arith, file-few bytes kind receiver id moment (length rows_before) (length before) e)))
 
 -- ---- writing: no more bytes than are lent
 

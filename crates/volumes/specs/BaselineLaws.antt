@@ -18,13 +18,13 @@ use Rattle.book.specs.declared.Engagement.{Engagement}
 use Rattle.book.specs.Book.{Book}
 use Rattle.volumes.specs.OrderLaws.{le-library}
 use Rattle.volumes.specs.Quarters.{quarter_hours}
-use Rattle.volumes.specs.RankingLaws.{length_ranked, largest}
+use Rattle.volumes.specs.RankingLaws.{length-ranked, largest}
 use Rattle.volumes.specs.Baseline.{watts, known, complete, mean, reading_before, window, day_reading, day_readings, own_window, day_window, eligible_days, x_of, y_of, latest, day_sum, taken, high, addend}
 use Rattle.grains.specs.GrainsInner.{Shares}
-use Rattle.integers.specs.SumsLaws.{sum_append, sum_cong, sum_swap, sum_map, sum_flat_map}
+use Rattle.integers.specs.SumsLaws.{sum-append, sum-cong, sum-swap, sum-map, sum-flat_map}
 use Rattle.volumes.specs.RankingInner.{sum_of_largest}
-use Rattle.integers.specs.RangesLaws.{map_range_next, map_range_cong}
-use Rattle.integers.specs.ListsLaws.{length_flat_map}
+use Rattle.integers.specs.RangesLaws.{map-range-next, map-range-cong}
+use Rattle.integers.specs.ListsLaws.{length-flat_map}
 
 pub complete-append : (l m : List Reading) → complete (l ++ m) ≡ (complete l && complete m)
 unfolding complete
@@ -38,17 +38,17 @@ complete-append (r ∷ l) m = go (known r) (complete-append l m)
 -- one more reading
 pub complete-next : (f : ℕ → Reading) (a n : ℕ) → complete (map f (range a (suc n))) ≡ (complete (map f (range a n)) && known (f (a + n)))
 unfolding complete
-complete-next f a n = ap complete (map_range_next f a n) ∙ complete-append (map f (range a n)) (f (a + n) ∷ []) ∙ ap (λ t. complete (map f (range a n)) && t) (and-true (known (f (a + n))))
+complete-next f a n = ap complete (map-range-next f a n) ∙ complete-append (map f (range a n)) (f (a + n) ∷ []) ∙ ap (λ t. complete (map f (range a n)) && t) (and-true (known (f (a + n))))
 
 pub watts-next : (f : ℕ → Reading) (a n : ℕ) → sum_z watts (map f (range a (suc n))) ≡ sum_z watts (map f (range a n)) +ℤ watts (f (a + n))
 unfolding sum_by
-watts-next f a n = ap (sum_z watts) (map_range_next f a n) ∙ sum_append integers watts (map f (range a n)) (f (a + n) ∷ []) ∙ ap (λ z. sum_z watts (map f (range a n)) +ℤ z) (+ℤ_idr (watts (f (a + n))))
+watts-next f a n = ap (sum_z watts) (map-range-next f a n) ∙ sum-append integers watts (map f (range a n)) (f (a + n) ∷ []) ∙ ap (λ z. sum_z watts (map f (range a n)) +ℤ z) (+ℤ_idr (watts (f (a + n))))
 
 -- the 12 from quarter-hour q - 24 on, which lie in the calendar where q is 24 or more
 pub window-inside : (book : Book) (p q : ℕ) → 24 ≤ q → window book p q ≡ map (λ i. book.reading p (q - 24 + i)) (range 0 12)
 unfolding window reading_before
 window-inside book p q h =
-    map_range_cong _ _ 0 12 (λ i low most.
+    map-range-cong _ _ 0 12 (λ i low most.
     let e : q - (24 - i) ≡ q - 24 + i = omega arith in
     rw (le-leb (24 - i) q (omega arith), e))
 
@@ -58,14 +58,14 @@ window-outside book p q h = rw (lt-leb 24 q h)
 
 module _ (book : Book) (e : Engagement) where
   -- "The Y latest eligible days are taken; of them the X": X of them where there are Y
-  pub taken_length : x_of book e ≤ y_of book e → y_of book e ≤ length (eligible_days book e) → length (taken book e) ≡ x_of book e
+  pub taken-length : x_of book e ≤ y_of book e → y_of book e ≤ length (eligible_days book e) → length (taken book e) ≡ x_of book e
   unfolding taken latest
-  taken_length h k = simp (length-take, length_ranked) (omega arith)
+  taken-length h k = simp (length-take, length-ranked) (omega arith)
 
   -- "with the greatest sum": a latest day that is left has no greater sum than one that is taken
-  pub taken_largest : (d f : ℕ) → Memᴰ d (taken book e) → Memᴰ f (latest book e) → Memᴰ f (taken book e) ⊎ (day_sum book e f ≤ℤ day_sum book e d)
+  pub taken-largest : (d f : ℕ) → Memᴰ d (taken book e) → Memᴰ f (latest book e) → Memᴰ f (taken book e) ⊎ (day_sum book e f ≤ℤ day_sum book e d)
   unfolding taken
-  taken_largest d f m k = ⊎_elim inl (λ h. inr (le-library h)) (largest (day_sum book e) (x_of book e) (latest book e) d f m k)
+  taken-largest d f m k = ⊎_elim inl (λ h. inr (le-library h)) (largest (day_sum book e) (x_of book e) (latest book e) d f m k)
 
 -- products with natural numbers
 mul-mul : (z : ℤ) (m n : ℕ) → (z *ℤ pos m) *ℤ pos n ≡ z *ℤ pos (m * n)
@@ -102,11 +102,11 @@ window-12 book p q = refl
 
 -- X baselines are the X readings, and 12 X addends X times the own 12 less the 12 of each day
 module _ (book : Book) (e : Engagement) (low : 1 ≤ x_of book e) (most : x_of book e ≤ 10) (all : length (taken book e) ≡ x_of book e) where
-  pub high_whole : (k : ℕ) → high book e k *ℤ pos (x_of book e) ≡ grains_z (sum_z (λ d. watts (day_reading book e k d)) (taken book e))
+  pub high-whole : (k : ℕ) → high book e k *ℤ pos (x_of book e) ≡ grains_z (sum_z (λ d. watts (day_reading book e k d)) (taken book e))
   unfolding high
-  high_whole k =
+  high-whole k =
       mean-whole (map (day_reading book e k) (taken book e)) (x_of book e) (length-map (taken book e) (day_reading book e k) ∙ all) (shares-x (x_of book e) low most)
-      ∙ ap grains_z (sum_map integers watts (day_reading book e k) (taken book e))
+      ∙ ap grains_z (sum-map integers watts (day_reading book e k) (taken book e))
 
   own : mean (own_window book e) *ℤ pos 12 ≡ grains_z (sum_z watts (own_window book e))
   unfolding own_window
@@ -115,12 +115,12 @@ module _ (book : Book) (e : Engagement) (low : 1 ≤ x_of book e) (most : x_of b
   days : mean (flat_map (day_window book e) (taken book e)) *ℤ pos (12 * x_of book e) ≡ grains_z (sum_z (λ d. sum_z watts (day_window book e d)) (taken book e))
   unfolding day_window
   days =
-      mean-whole (flat_map (day_window book e) (taken book e)) (12 * x_of book e) (length_flat_map 12 (day_window book e) (λ d. window-12 _ _ _) (taken book e) ∙ ap (λ n. 12 * n) all) (shares-12x (x_of book e) low most)
-      ∙ ap grains_z (sum_flat_map integers watts (day_window book e) (taken book e))
+      mean-whole (flat_map (day_window book e) (taken book e)) (12 * x_of book e) (length-flat_map 12 (day_window book e) (λ d. window-12 _ _ _) (taken book e) ∙ ap (λ n. 12 * n) all) (shares-12x (x_of book e) low most)
+      ∙ ap grains_z (sum-flat_map integers watts (day_window book e) (taken book e))
 
-  pub addend_whole : addend book e *ℤ pos (12 * x_of book e) ≡ grains_z (sum_z watts (own_window book e) *ℤ pos (x_of book e) -ℤ sum_z (λ d. sum_z watts (day_window book e d)) (taken book e))
+  pub addend-whole : addend book e *ℤ pos (12 * x_of book e) ≡ grains_z (sum_z watts (own_window book e) *ℤ pos (x_of book e) -ℤ sum_z (λ d. sum_z watts (day_window book e d)) (taken book e))
   unfolding addend
-  addend_whole =
+  addend-whole =
       dif-mul (mean (own_window book e)) (mean (flat_map (day_window book e) (taken book e))) (12 * x_of book e)
       ∙ ap₂ ◌-ℤ◌ (sym (mul-mul (mean (own_window book e)) 12 (x_of book e)) ∙ ap (λ z. z *ℤ pos (x_of book e)) own ∙ mul-swap (sum_z watts (own_window book e)) per_watt (x_of book e)) days
       ∙ sym (dif-mul (sum_z watts (own_window book e) *ℤ pos (x_of book e)) (sum_z (λ d. sum_z watts (day_window book e d)) (taken book e)) per_watt)
@@ -129,6 +129,6 @@ module _ (book : Book) (e : Engagement) (low : 1 ≤ x_of book e) (most : x_of b
 pub high_sum : (book : Book) (e : Engagement) → length (taken book e) ≡ x_of book e → sum_z (high book e) (quarter_hours e) ≡ sum_of_largest (day_sum book e) (x_of book e) (latest book e) *ℤ pos (share (x_of book e))
 unfolding high mean sum_of_largest taken day_sum day_readings
 high_sum book e all =
-    sum_cong integers _ _ (quarter_hours e) (λ k m. ap₂ (λ z n. z *ℤ pos (share n)) (sum_map integers watts (day_reading book e k) (taken book e)) (length-map (taken book e) (day_reading book e k) ∙ all))
+    sum-cong integers _ _ (quarter_hours e) (λ k m. ap₂ (λ z n. z *ℤ pos (share n)) (sum-map integers watts (day_reading book e k) (taken book e)) (length-map (taken book e) (day_reading book e k) ∙ all))
     ∙ sum_z-mul (λ k. sum_z (λ d. watts (day_reading book e k d)) (taken book e)) (share (x_of book e)) (quarter_hours e)
-    ∙ ap (λ z. z *ℤ pos (share (x_of book e))) (sum_swap integers (λ k d. watts (day_reading book e k d)) (quarter_hours e) (taken book e) ∙ sum_cong integers _ _ (taken book e) (λ d m. sym (sum_map integers watts (λ k. day_reading book e k d) (quarter_hours e))))
+    ∙ ap (λ z. z *ℤ pos (share (x_of book e))) (sum-swap integers (λ k d. watts (day_reading book e k d)) (quarter_hours e) (taken book e) ∙ sum-cong integers _ _ (taken book e) (λ d m. sym (sum-map integers watts (λ k. day_reading book e k d) (quarter_hours e))))

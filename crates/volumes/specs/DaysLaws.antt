@@ -10,7 +10,7 @@ use Rattle.integers.specs.KeepLaws.{keep_append}
 use Rattle.book.specs.declared.Engagement.{Engagement}
 use Rattle.book.specs.Book.{Book}
 use Rattle.volumes.specs.Ranking.{ranked}
-use Rattle.volumes.specs.RankingLaws.{insert_last, ranked_next}
+use Rattle.volumes.specs.RankingLaws.{insert_last, ranked-next}
 use Rattle.volumes.specs.Baseline.{before, eligible_days, y_of, latest}
 
 -- the days that pass a test among a - 1 down to d
@@ -30,9 +30,9 @@ get_d-before (suc a) (suc j) z h = let e = get_d-before a j z (omega arith) in o
 
 module _ (test : ℕ → Bool) (a : ℕ) where
   -- nothing is scanned yet
-  pub scanned_none : scanned test a a ≡ []
+  pub scanned-none : scanned test a a ≡ []
   unfolding scanned keep
-  scanned_none = let e : a - a ≡ 0 = omega arith in rw e
+  scanned-none = let e : a - a ≡ 0 = omega arith in rw e
 
   -- the next day, d, after those from a - 1 down to f = d + 1
   scanned-next : (d f : ℕ) → f ≡ d + 1 → d < a → scanned test a d ≡ scanned test a f ++ keep test (d ∷ [])
@@ -42,18 +42,18 @@ module _ (test : ℕ → Bool) (a : ℕ) where
       let k : get_or (before a) (a - f) 0 ≡ d = get_d-before a (a - f) 0 (omega arith) ∙ omega arith in
       rw n (ap (keep test) (take-suc (before a) (a - f) 0 (rw length_before (omega arith)) ∙ ap (λ m. take (a - f) (before a) ++ (m ∷ [])) k) ∙ keep_append test (take (a - f) (before a)) (d ∷ []))
 
-  pub scanned_yes : (d f : ℕ) → f ≡ d + 1 → d < a → test d ≡ true → scanned test a d ≡ scanned test a f ++ (d ∷ [])
+  pub scanned-yes : (d f : ℕ) → f ≡ d + 1 → d < a → test d ≡ true → scanned test a d ≡ scanned test a f ++ (d ∷ [])
   unfolding keep
-  scanned_yes d f e h t = scanned-next d f e h ∙ rw t
+  scanned-yes d f e h t = scanned-next d f e h ∙ rw t
 
-  pub scanned_no : (d f : ℕ) → f ≡ d + 1 → d < a → test d ≡ false → scanned test a d ≡ scanned test a f
+  pub scanned-no : (d f : ℕ) → f ≡ d + 1 → d < a → test d ≡ false → scanned test a d ≡ scanned test a f
   unfolding keep
-  scanned_no d f e h t = scanned-next d f e h ∙ rw t (append-nil (scanned test a f))
+  scanned-no d f e h t = scanned-next d f e h ∙ rw t (append-nil (scanned test a f))
 
   -- all are scanned
-  pub scanned_all : scanned test a 0 ≡ keep test (before a)
+  pub scanned-all : scanned test a 0 ≡ keep test (before a)
   unfolding scanned
-  scanned_all = ap (keep test) (take_all (a - 0) (before a) (rw length_before (omega arith)))
+  scanned-all = ap (keep test) (take_all (a - 0) (before a) (rw length_before (omega arith)))
 
   -- what is scanned comes first
   scanned-first : (d : ℕ) → keep test (before a) ≡ scanned test a d ++ keep test (drop (a - d) (before a))
@@ -61,15 +61,15 @@ module _ (test : ℕ → Bool) (a : ℕ) where
   scanned-first d = ap (keep test) (sym (take-append-drop (a - d) (before a))) ∙ keep_append test (take (a - d) (before a)) (drop (a - d) (before a))
 
   -- so a scan that has found y days has the y latest, and one that ends with no more has all there are
-  pub scanned_full : (d y : ℕ) → length (scanned test a d) ≡ y → take y (keep test (before a)) ≡ scanned test a d
-  scanned_full d y e = ap (take y) (scanned-first d) ∙ take_at (scanned test a d) (keep test (drop (a - d) (before a))) y e
+  pub scanned-full : (d y : ℕ) → length (scanned test a d) ≡ y → take y (keep test (before a)) ≡ scanned test a d
+  scanned-full d y e = ap (take y) (scanned-first d) ∙ take_at (scanned test a d) (keep test (drop (a - d) (before a))) y e
 
-  pub scanned_few : (y : ℕ) → length (scanned test a 0) ≤ y → take y (keep test (before a)) ≡ scanned test a 0
-  scanned_few y h = ap (take y) (sym scanned-all) ∙ take_all y (scanned test a 0) h
+  pub scanned-few : (y : ℕ) → length (scanned test a 0) ≤ y → take y (keep test (before a)) ≡ scanned test a 0
+  scanned-few y h = ap (take y) (sym scanned-all) ∙ take_all y (scanned test a 0) h
 
 -- the ranking of what is scanned: one more day goes behind its equals
 pub ranked-yes : (test : ℕ → Bool) (key : ℕ → ℤ) (a d f : ℕ) → f ≡ d + 1 → d < a → test d ≡ true → ranked key (scanned test a d) ≡ insert_last key d (ranked key (scanned test a f))
-ranked-yes test key a d f e h t = ap (ranked key) (scanned_yes test a d f e h t) ∙ ranked_next key (scanned test a f) d
+ranked-yes test key a d f e h t = ap (ranked key) (scanned-yes test a d f e h t) ∙ ranked-next key (scanned test a f) d
 
 -- "fewer than Y eligible days" are fewer than Y latest ones
 pub few-latest : (book : Book) (e : Engagement) → ltb (length (eligible_days book e)) (y_of book e) ≡ ltb (length (latest book e)) (y_of book e)

@@ -1,6 +1,6 @@
 -- The sum of the n largest, by recursion: it grows with the keys, and by no more than all keys together do.
--- No code needs it. It is for bounds on baselines: with readings that are known within bounds, the mean of the X largest is too (`largest_grows`, C-16); and
--- one corrected reading moves an engagement's baselines together by no more than its own mean's share (`largest_within` with `high_sum`, C-22).
+-- No code needs it. It is for bounds on baselines: with readings that are known within bounds, the mean of the X largest is too (`largest-grows`, C-16); and
+-- one corrected reading moves an engagement's baselines together by no more than its own mean's share (`largest-within` with `high_sum`, C-22).
 use Rattle.std.specs.Prelude.{◌≡◌, Bool, cond, ℤ, pos, ◌+ℤ◌, ◌-ℤ◌, take}
 use Rattle.std.proofs.Math.Path.{refl, sym, ap}
 use Rattle.std.proofs.Common.{◌∙◌, eq-or-lt_of_le}
@@ -17,7 +17,7 @@ use Rattle.integers.specs.ZLaws.{eq_z, sum, dif, le_yes}
 use Rattle.integers.specs.Sums.{sum_by, sum_z}
 use Rattle.volumes.specs.OrderLaws.{Le, le_refl, le_trans, le-of-no, add-le, max_z, max-left, max-right, over-left, over-right, max-under, max-add}
 use Rattle.volumes.specs.Ranking.{insert, ranked}
-use Rattle.volumes.specs.RankingLaws.{AtMost, Falling, next, falling_ranked, length_ranked}
+use Rattle.volumes.specs.RankingLaws.{AtMost, Falling, next, falling-ranked, length-ranked}
 use Rattle.volumes.specs.RankingInner.{sum_of_largest}
 
 module _ {ℓ} {A : Type ℓ} (key : A → ℤ) where
@@ -47,9 +47,9 @@ module _ {ℓ} {A : Type ℓ} (key : A → ℤ) where
       go false e ih = under n k ih (le-of-no (key y) (key x) e)
 
   -- the n + 1 largest of x ∷ l: x with the n largest of l, or the n + 1 largest of l, whichever sum is greater
-  pub sum_of_largest : (n : ℕ) (x : A) (l : List A) → n < length l → sum_of_largest key (suc n) (x ∷ l) ≡ max_z (key x +ℤ sum_of_largest key n l) (sum_of_largest key (suc n) l)
+  pub sum-of-largest : (n : ℕ) (x : A) (l : List A) → n < length l → sum_of_largest key (suc n) (x ∷ l) ≡ max_z (key x +ℤ sum_of_largest key n l) (sum_of_largest key (suc n) l)
   unfolding sum_of_largest ranked
-  sum_of_largest n x l h = inserted n x (ranked key l) (falling_ranked key l) (rw length_ranked h)
+  sum-of-largest n x l h = inserted n x (ranked key l) (falling-ranked key l) (rw length-ranked h)
 
 module _ {A : Type 0} (key : A → ℤ) where
   sum-insert : (x : A) (l : List A) → sum_z key (insert key x l) ≡ key x +ℤ sum_z key l
@@ -66,9 +66,9 @@ module _ {A : Type 0} (key : A → ℤ) where
   sum-ranked [] = refl
   sum-ranked (x ∷ l) = sum-insert x (ranked key l) ∙ ap (λ z. key x +ℤ z) (sum-ranked l)
 
-  pub all_largest : (n : ℕ) (l : List A) → n ≡ length l → sum_of_largest key n l ≡ sum_z key l
+  pub all-largest : (n : ℕ) (l : List A) → n ≡ length l → sum_of_largest key n l ≡ sum_z key l
   unfolding sum_of_largest
-  all_largest n l e = ap (λ n. sum_z key (take n (ranked key l))) (e ∙ sym (length_ranked key l)) ∙ ap (sum_z key) (take-length (ranked key l)) ∙ sum-ranked l
+  all-largest n l e = ap (λ n. sum_z key (take n (ranked key l))) (e ∙ sym (length-ranked key l)) ∙ ap (sum_z key) (take-length (ranked key l)) ∙ sum-ranked l
 
 none-largest : {A : Type 0} (key : A → ℤ) (l : List A) → sum_of_largest key 0 l ≡ pos 0
 unfolding sum_of_largest sum_by
@@ -97,25 +97,25 @@ module _ {A : Type 0} (f g : A → ℤ) (h : (a : A) → Le (f a) (g a)) where
   sum-grows (a ∷ l) = add-le (f a) (g a) (sum_z f l) (sum_z g l) (h a) (sum-grows l)
 
   -- no smaller keys, no smaller sum
-  pub largest_grows : (n : ℕ) (l : List A) → n ≤ length l → Le (sum_of_largest f n l) (sum_of_largest g n l)
-  largest_grows zero l k = rw (none-largest f l, none-largest g l) (record { law = omega arith })
-  largest_grows (suc n) [] k = absurd (omega arith)
-  largest_grows (suc n) (x ∷ l) k =
+  pub largest-grows : (n : ℕ) (l : List A) → n ≤ length l → Le (sum_of_largest f n l) (sum_of_largest g n l)
+  largest-grows zero l k = rw (none-largest f l, none-largest g l) (record { law = omega arith })
+  largest-grows (suc n) [] k = absurd (omega arith)
+  largest-grows (suc n) (x ∷ l) k =
       ⊎_elim
-      (λ e. rw (all_largest f (suc n) (x ∷ l) (ap suc e), all_largest g (suc n) (x ∷ l) (ap suc e)) (sum-grows (x ∷ l)))
-      (λ i. rw (sum_of_largest f n x l i, sum_of_largest g n x l i) (max-under (f x +ℤ sum_of_largest f n l) (sum_of_largest f (suc n) l) _ (le_trans (add-le (f x) (g x) (sum_of_largest f n l) (sum_of_largest g n l) (h x) (largest_grows n l (omega arith))) (over-left (g x +ℤ sum_of_largest g n l) (sum_of_largest g (suc n) l))) (le_trans (largest_grows (suc n) l i) (over-right (g x +ℤ sum_of_largest g n l) (sum_of_largest g (suc n) l)))))
+      (λ e. rw (all-largest f (suc n) (x ∷ l) (ap suc e), all-largest g (suc n) (x ∷ l) (ap suc e)) (sum-grows (x ∷ l)))
+      (λ i. rw (sum-of-largest f n x l i, sum-of-largest g n x l i) (max-under (f x +ℤ sum_of_largest f n l) (sum_of_largest f (suc n) l) _ (le_trans (add-le (f x) (g x) (sum_of_largest f n l) (sum_of_largest g n l) (h x) (largest-grows n l (omega arith))) (over-left (g x +ℤ sum_of_largest g n l) (sum_of_largest g (suc n) l))) (le_trans (largest-grows (suc n) l i) (over-right (g x +ℤ sum_of_largest g n l) (sum_of_largest g (suc n) l)))))
       (eq-or-lt_of_le {n = n} {m = length l} (omega arith))
 
   -- and no greater than by the keys' whole growth
-  pub largest_within : (n : ℕ) (l : List A) → n ≤ length l → Le (sum_of_largest g n l) (sum_of_largest f n l +ℤ (sum_z g l -ℤ sum_z f l))
+  pub largest-within : (n : ℕ) (l : List A) → n ≤ length l → Le (sum_of_largest g n l) (sum_of_largest f n l +ℤ (sum_z g l -ℤ sum_z f l))
   unfolding sum_by
-  largest_within zero l k = rw (none-largest f l, none-largest g l) (nothing (sum_z f l) (sum_z g l) (sum-grows l))
-  largest_within (suc n) [] k = absurd (omega arith)
-  largest_within (suc n) (x ∷ l) k =
+  largest-within zero l k = rw (none-largest f l, none-largest g l) (nothing (sum_z f l) (sum_z g l) (sum-grows l))
+  largest-within (suc n) [] k = absurd (omega arith)
+  largest-within (suc n) (x ∷ l) k =
       ⊎_elim
-      (λ e. rw (all_largest f (suc n) (x ∷ l) (ap suc e), all_largest g (suc n) (x ∷ l) (ap suc e)) (whole (f x +ℤ sum_z f l) (g x +ℤ sum_z g l)))
-      (λ i. rw (sum_of_largest f n x l i, sum_of_largest g n x l i)
+      (λ e. rw (all-largest f (suc n) (x ∷ l) (ap suc e), all-largest g (suc n) (x ∷ l) (ap suc e)) (whole (f x +ℤ sum_z f l) (g x +ℤ sum_z g l)))
+      (λ i. rw (sum-of-largest f n x l i, sum-of-largest g n x l i)
       (max-under (g x +ℤ sum_of_largest g n l) (sum_of_largest g (suc n) l) _
-      (le_trans (with-one (f x) (g x) (sum_of_largest f n l) (sum_of_largest g n l) (sum_z f l) (sum_z g l) (largest_within n l (omega arith))) (add_right (g x +ℤ sum_z g l -ℤ (f x +ℤ sum_z f l)) (over-left (f x +ℤ sum_of_largest f n l) (sum_of_largest f (suc n) l))))
-      (le_trans (without (f x) (g x) (sum_of_largest f (suc n) l) (sum_of_largest g (suc n) l) (sum_z f l) (sum_z g l) (h x) (largest_within (suc n) l i)) (add_right (g x +ℤ sum_z g l -ℤ (f x +ℤ sum_z f l)) (over-right (f x +ℤ sum_of_largest f n l) (sum_of_largest f (suc n) l))))))
+      (le_trans (with-one (f x) (g x) (sum_of_largest f n l) (sum_of_largest g n l) (sum_z f l) (sum_z g l) (largest-within n l (omega arith))) (add_right (g x +ℤ sum_z g l -ℤ (f x +ℤ sum_z f l)) (over-left (f x +ℤ sum_of_largest f n l) (sum_of_largest f (suc n) l))))
+      (le_trans (without (f x) (g x) (sum_of_largest f (suc n) l) (sum_of_largest g (suc n) l) (sum_z f l) (sum_z g l) (h x) (largest-within (suc n) l i)) (add_right (g x +ℤ sum_z g l -ℤ (f x +ℤ sum_z f l)) (over-right (f x +ℤ sum_of_largest f n l) (sum_of_largest f (suc n) l))))))
       (eq-or-lt_of_le {n = n} {m = length l} (omega arith))

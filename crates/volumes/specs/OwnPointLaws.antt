@@ -59,52 +59,52 @@ engaged-of p d (e ∷ l) = go (eqb e.point p) (engaged-of p d l)
     go false h = h
 
 module _ (book : Book) (e : Engagement) where
-  pub engaged_only : (d : ℕ) → engaged book e.point d ≡ engaged (only book e) 0 d
+  pub engaged-only : (d : ℕ) → engaged book e.point d ≡ engaged (only book e) 0 d
   unfolding engaged only
-  engaged_only d = engaged-of e.point d book.engagements
+  engaged-only d = engaged-of e.point d book.engagements
 
-  pub suits_only : (d : ℕ) → suits book e d ≡ suits (only book e) (alone e) d
+  pub suits-only : (d : ℕ) → suits book e d ≡ suits (only book e) (alone e) d
   unfolding only alone quarter_hours start reference point_of known complete reading_before window day_reading day_readings day_window windowed allowed suits range
-  suits_only d = refl
+  suits-only d = refl
 
-  pub regular_only : (d : ℕ) → regular book e d ≡ regular (only book e) (alone e) d
+  pub regular-only : (d : ℕ) → regular book e d ≡ regular (only book e) (alone e) d
   unfolding only alone reference point_of regular
-  regular_only d = refl
+  regular-only d = refl
 
-  pub eligible_only : (d : ℕ) → eligible book e d ≡ eligible (only book e) (alone e) d
+  pub eligible-only : (d : ℕ) → eligible book e d ≡ eligible (only book e) (alone e) d
   unfolding alone eligible
-  eligible_only d = λ i. not (engaged_only d i) && (regular_only d i && suits_only d i)
+  eligible-only d = λ i. not (engaged-only d i) && (regular-only d i && suits-only d i)
 
-  pub days_only : eligible_days book e ≡ eligible_days (only book e) (alone e)
+  pub days-only : eligible_days book e ≡ eligible_days (only book e) (alone e)
   unfolding alone eligible_days
-  days_only = λ i. keep (λ d. eligible_only d i) (before e.day)
+  days-only = λ i. keep (λ d. eligible-only d i) (before e.day)
 
-  pub taken_only : taken book e ≡ taken (only book e) (alone e)
+  pub taken-only : taken book e ≡ taken (only book e) (alone e)
   unfolding only alone quarter_hours start reference watts day_reading day_readings latest day_sum taken sum_by
-  taken_only = λ i. take (x_of book e) (ranked (day_sum book e) (take (y_of book e) (days_only i)))
+  taken-only = λ i. take (x_of book e) (ranked (day_sum book e) (take (y_of book e) (days-only i)))
 
   by_only : (m : Method) (k : ℕ) → baseline_by m book e k ≡ baseline_by m (only book e) (alone e) k
   unfolding only alone quarter_hours start reference point_of watts known complete mean reading_before window own_reading day_reading own_window day_window high addend last_reading baseline_by range
   by_only LastQuarter k = refl
-  by_only HighXOfY k = λ i. mean (map (day_reading book e k) (taken_only i))
-  by_only Adjusted k = λ i. mean (map (day_reading book e k) (taken_only i)) +ℤ (mean (own_window book e) -ℤ mean (flat_map (day_window book e) (taken_only i)))
+  by_only HighXOfY k = λ i. mean (map (day_reading book e k) (taken-only i))
+  by_only Adjusted k = λ i. mean (map (day_reading book e k) (taken-only i)) +ℤ (mean (own_window book e) -ℤ mean (flat_map (day_window book e) (taken-only i)))
 
-  pub baseline_only : (k : ℕ) → baseline book e k ≡ baseline (only book e) (alone e) k
+  pub baseline-only : (k : ℕ) → baseline book e k ≡ baseline (only book e) (alone e) k
   unfolding baseline only alone point_of
-  baseline_only k = by_only (point_of book e).method k
+  baseline-only k = by_only (point_of book e).method k
 
-  pub delivered_only : (k : ℕ) → delivered book e k ≡ delivered (only book e) (alone e) k
+  pub delivered-only : (k : ℕ) → delivered book e k ≡ delivered (only book e) (alone e) k
   unfolding only alone delivered point_of own_reading start
-  delivered_only k = ap (λ z. delivered_by e.direction (point_of book e) z (grains_z (watts (own_reading book e k)))) (baseline_only k)
+  delivered-only k = ap (λ z. delivered_by e.direction (point_of book e) z (grains_z (watts (own_reading book e k)))) (baseline-only k)
 
-  pub row_only : (k : ℕ) → row book e k ≡ row (only book e) (alone e) k
+  pub row-only : (k : ℕ) → row book e k ≡ row (only book e) (alone e) k
   unfolding only alone row corrections source_correction fsp_correction injection_correction requested_at own_reading start
-  row_only k =
+  row-only k =
       let read = grains_z (watts (own_reading book e k)) in
       ap₂
       (λ z v. z ∷ pos v ∷ signed e.direction (pos (source_by book.version e.direction z read v)) ∷ signed e.direction (pos (requested_at e k) -ℤ pos v) ∷ signed e.direction (pos (injection_by book.version e.direction z read v)) ∷ [])
-      (baseline_only k)
-      (delivered_only k)
+      (baseline-only k)
+      (delivered-only k)
 
   needed-only : (m : Method) → needed_by m book e ≡ needed_by m (only book e) (alone e)
   unfolding only alone start reading_before window own_window last_reading needed_by
@@ -112,7 +112,7 @@ module _ (book : Book) (e : Engagement) where
   needed-only HighXOfY = refl
   needed-only Adjusted = refl
 
-  pub refusal_only : refusal_number book e ≡ refusal_number (only book e) (alone e)
+  pub refusal-only : refusal_number book e ≡ refusal_number (only book e) (alone e)
   unfolding only alone quarter_hours start point_of own_reading needed refusal_number
-  refusal_only =
-      ap₂ (λ l days. cond (complete (map (own_reading book e) (quarter_hours e) ++ l)) (cond (too_few (point_of book e).method (y_of book e) (length days)) (some 9) none) (some 8)) (needed-only (point_of book e).method) days_only
+  refusal-only =
+      ap₂ (λ l days. cond (complete (map (own_reading book e) (quarter_hours e) ++ l)) (cond (too_few (point_of book e).method (y_of book e) (length days)) (some 9) none) (some 8)) (needed-only (point_of book e).method) days-only

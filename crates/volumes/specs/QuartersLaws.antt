@@ -58,21 +58,21 @@ day-before-inside c a d h l =
     omega (arith, day-start-next c d, day-start-next c (suc d), (quarters-range c d).least, (quarters-range c (suc d)).least, day-start-mono c (suc (suc d)) (days_of c) (omega arith))
 
 module _ (c : Calendar) (points : ℕ) (e : Engagement) (h : Placed c points e) where
-  pub start_inside : (k : ℕ) → k < e.count → start c e + k < quarters_of c
+  pub start-inside : (k : ℕ) → k < e.count → start c e + k < quarters_of c
   unfolding start
-  start_inside k l = let i : in_calendar c e.day (e.first + k) < quarters_of c = day-inside c e.day (e.first + k) h.inside (omega (arith, h.ends)) in omega arith
+  start-inside k l = let i : in_calendar c e.day (e.first + k) < quarters_of c = day-inside c e.day (e.first + k) h.inside (omega (arith, h.ends)) in omega arith
 
   -- a reference place is below 96, and so on its day, which isn't one on which the clocks change
-  pub reference_place : (k : ℕ) → k < e.count → reference_quarter c e.day (e.first + k) < usual_day
-  reference_place k m = reference-below c e.day (e.first + k) (omega (arith, h.ends))
+  pub reference-place : (k : ℕ) → k < e.count → reference_quarter c e.day (e.first + k) < usual_day
+  reference-place k m = reference-below c e.day (e.first + k) (omega (arith, h.ends))
 
-  pub reference_on : (d k : ℕ) → is_clock_change c d ≡ false → k < e.count → reference_quarter c e.day (e.first + k) < quarters c d
-  reference_on d k n m = omega (arith, reference_place k m, no_change c d n)
+  pub reference-on : (d k : ℕ) → is_clock_change c d ≡ false → k < e.count → reference_quarter c e.day (e.first + k) < quarters c d
+  reference-on d k n m = omega (arith, reference-place k m, no_change c d n)
 
-  pub reference_inside : (d k : ℕ) → d < e.day → k < e.count → reference c e d k < quarters_of c
+  pub reference-inside : (d k : ℕ) → d < e.day → k < e.count → reference c e d k < quarters_of c
   unfolding reference
-  reference_inside d k l m = omega (arith, reference_place k m, day-before-inside c e.day d h.inside l)
+  reference-inside d k l m = omega (arith, reference-place k m, day-before-inside c e.day d h.inside l)
 
   -- its positions are 1 to the month's quarter-hours
-  pub position_inside : position c e.day e.first + e.count ≤ month_quarters c + 1
-  position_inside = settled-inside c e.day e.first e.count h.settled h.inside h.ends
+  pub position-inside : position c e.day e.first + e.count ≤ month_quarters c + 1
+  position-inside = settled-inside c e.day e.first e.count h.settled h.inside h.ends

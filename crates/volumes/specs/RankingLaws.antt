@@ -16,48 +16,48 @@ use Rattle.volumes.specs.Ranking.{insert, ranked}
 use Rattle.integers.specs.RangesLaws.{get_d-mem}
 
 module _ {ℓ} {A : Type ℓ} (key : A → ℤ) where
-  pub length_insert : (a : A) (l : List A) → length (insert key a l) ≡ suc (length l)
+  pub length-insert : (a : A) (l : List A) → length (insert key a l) ≡ suc (length l)
   unfolding insert
-  length_insert a [] = refl
-  length_insert a (b ∷ l) = go (le_z (key b) (key a)) (length_insert a l)
+  length-insert a [] = refl
+  length-insert a (b ∷ l) = go (le_z (key b) (key a)) (length-insert a l)
     where
       go : (t : Bool) → length (insert key a l) ≡ suc (length l) → length (cond t (a ∷ b ∷ l) (b ∷ insert key a l)) ≡ suc (suc (length l))
       go true ih = refl
       go false ih = ap suc ih
 
-  pub length_ranked : (l : List A) → length (ranked key l) ≡ length l
+  pub length-ranked : (l : List A) → length (ranked key l) ≡ length l
   unfolding ranked
-  length_ranked [] = refl
-  length_ranked (a ∷ l) = length_insert a (ranked key l) ∙ ap suc (length_ranked l)
+  length-ranked [] = refl
+  length-ranked (a ∷ l) = length-insert a (ranked key l) ∙ ap suc (length-ranked l)
 
   -- the same elements
-  pub from_insert : (z a : A) (l : List A) → Memᴰ z (insert key a l) → (z ≡ a) ⊎ Memᴰ z l
+  pub from-insert : (z a : A) (l : List A) → Memᴰ z (insert key a l) → (z ≡ a) ⊎ Memᴰ z l
   unfolding insert
-  from_insert z a [] m = Memᴰ.cases_cons m
-  from_insert z a (b ∷ l) m = go (le_z (key b) (key a)) (from_insert z a l) m
+  from-insert z a [] m = Memᴰ.cases_cons m
+  from-insert z a (b ∷ l) m = go (le_z (key b) (key a)) (from-insert z a l) m
     where
       go : (t : Bool) → (Memᴰ z (insert key a l) → (z ≡ a) ⊎ Memᴰ z l) → Memᴰ z (cond t (a ∷ b ∷ l) (b ∷ insert key a l)) → (z ≡ a) ⊎ Memᴰ z (b ∷ l)
       go true ih m = Memᴰ.cases_cons m
       go false ih m = ⊎_elim (λ e. inr (Memᴰ.head e)) (λ n. ⊎_elim inl (λ k. inr (Memᴰ.tail k)) (ih n)) (Memᴰ.cases_cons m)
 
-  pub into_insert : (z a : A) (l : List A) → Memᴰ z (a ∷ l) → Memᴰ z (insert key a l)
+  pub into-insert : (z a : A) (l : List A) → Memᴰ z (a ∷ l) → Memᴰ z (insert key a l)
   unfolding insert
-  into_insert z a [] m = m
-  into_insert z a (b ∷ l) m = go (le_z (key b) (key a)) (into_insert z a l) m
+  into-insert z a [] m = m
+  into-insert z a (b ∷ l) m = go (le_z (key b) (key a)) (into-insert z a l) m
     where
       go : (t : Bool) → (Memᴰ z (a ∷ l) → Memᴰ z (insert key a l)) → Memᴰ z (a ∷ b ∷ l) → Memᴰ z (cond t (a ∷ b ∷ l) (b ∷ insert key a l))
       go true ih m = m
       go false ih m = ⊎_elim (λ e. Memᴰ.tail (ih (Memᴰ.head e))) (λ n. ⊎_elim (λ e. Memᴰ.head e) (λ k. Memᴰ.tail (ih (Memᴰ.tail k))) (Memᴰ.cases_cons n)) (Memᴰ.cases_cons m)
 
-  pub into_ranked : (z : A) (l : List A) → Memᴰ z l → Memᴰ z (ranked key l)
+  pub into-ranked : (z : A) (l : List A) → Memᴰ z l → Memᴰ z (ranked key l)
   unfolding ranked
-  into_ranked z [] m = m
-  into_ranked z (a ∷ l) m = into_insert z a (ranked key l) (⊎_elim (λ e. Memᴰ.head e) (λ k. Memᴰ.tail (into_ranked z l k)) (Memᴰ.cases_cons m))
+  into-ranked z [] m = m
+  into-ranked z (a ∷ l) m = into-insert z a (ranked key l) (⊎_elim (λ e. Memᴰ.head e) (λ k. Memᴰ.tail (into-ranked z l k)) (Memᴰ.cases_cons m))
 
-  pub from_ranked : (z : A) (l : List A) → Memᴰ z (ranked key l) → Memᴰ z l
+  pub from-ranked : (z : A) (l : List A) → Memᴰ z (ranked key l) → Memᴰ z l
   unfolding ranked
-  from_ranked z [] m = m
-  from_ranked z (a ∷ l) m = ⊎_elim (λ e. Memᴰ.head e) (λ k. Memᴰ.tail (from_ranked z l k)) (from_insert z a (ranked key l) m)
+  from-ranked z [] m = m
+  from-ranked z (a ∷ l) m = ⊎_elim (λ e. Memᴰ.head e) (λ k. Memᴰ.tail (from-ranked z l k)) (from-insert z a (ranked key l) m)
 
   -- falling
   abbrev pub AtMost : ℤ → List A → Type ℓ
@@ -70,21 +70,21 @@ module _ {ℓ} {A : Type ℓ} (key : A → ℤ) where
   le-key : {a b : A} {m : ℤ} → a ≡ b → Le (key b) m → Le (key a) m
   le-key e h = rw e h
 
-  pub falling_insert : (a : A) (l : List A) → Falling l → Falling (insert key a l)
+  pub falling-insert : (a : A) (l : List A) → Falling l → Falling (insert key a l)
   unfolding insert
-  falling_insert a [] none = next (λ z m. absurd (Memᴰ.not-nil m)) none
-  falling_insert a (b ∷ l) (next h r) = go (le_z (key b) (key a)) refl (falling_insert a l r)
+  falling-insert a [] none = next (λ z m. absurd (Memᴰ.not-nil m)) none
+  falling-insert a (b ∷ l) (next h r) = go (le_z (key b) (key a)) refl (falling-insert a l r)
     where
       go : (t : Bool) → le_z (key b) (key a) ≡ t → Falling (insert key a l) → Falling (cond t (a ∷ b ∷ l) (b ∷ insert key a l))
       go true e ih =
           let q : Le (key b) (key a) = record { law = le_yes (key b) (key a) e } in
           next (λ z m. ⊎_elim (λ p. le-key p q) (λ k. le_trans (h z k) q) (Memᴰ.cases_cons m)) (next h r)
-      go false e ih = next (λ z m. ⊎_elim (λ p. le-key p (le-of-no (key b) (key a) e)) (h z) (from_insert z a l m)) ih
+      go false e ih = next (λ z m. ⊎_elim (λ p. le-key p (le-of-no (key b) (key a) e)) (h z) (from-insert z a l m)) ih
 
-  pub falling_ranked : (l : List A) → Falling (ranked key l)
+  pub falling-ranked : (l : List A) → Falling (ranked key l)
   unfolding ranked
-  falling_ranked [] = none
-  falling_ranked (a ∷ l) = falling_insert a (ranked key l) (falling_ranked l)
+  falling-ranked [] = none
+  falling-ranked (a ∷ l) = falling-insert a (ranked key l) (falling-ranked l)
 
   -- the first n of a falling list are no smaller than the rest
   in-drop : (n : ℕ) (z : A) (l : List A) → Memᴰ z (drop n l) → Memᴰ z l
@@ -99,7 +99,7 @@ module _ {ℓ} {A : Type ℓ} (key : A → ℤ) where
 
   pub largest : (n : ℕ) (l : List A) (a z : A) → Memᴰ a (take n (ranked key l)) → Memᴰ z l → Memᴰ z (take n (ranked key l)) ⊎ Le (key z) (key a)
   largest n l a z m k =
-      ⊎_elim inl (λ i. inr (first-over-rest n (ranked key l) (falling_ranked l) a z m i)) (Memᴰ.append_cases (take n (ranked key l)) (rw take-append-drop (into_ranked z l k)))
+      ⊎_elim inl (λ i. inr (first-over-rest n (ranked key l) (falling-ranked l) a z m i)) (Memᴰ.append_cases (take n (ranked key l)) (rw take-append-drop (into-ranked z l k)))
 
 -- a goes behind the last that is no smaller
 unfoldable pub insert_last {ℓ} : {A : Type ℓ} → (A → ℤ) → A → List A → List A
@@ -133,23 +133,23 @@ module _ {ℓ} {A : Type ℓ} (key : A → ℤ) where
       go false p false q true r ih = absurd (le-none (key a) (key b) (key c) p q r)
       go false p false q false r ih = rw (r, q, p)
 
-  pub ranked_next : (l : List A) (a : A) → ranked key (l ++ (a ∷ [])) ≡ insert_last key a (ranked key l)
+  pub ranked-next : (l : List A) (a : A) → ranked key (l ++ (a ∷ [])) ≡ insert_last key a (ranked key l)
   unfolding ranked insert insert_last
-  ranked_next [] a = refl
-  ranked_next (c ∷ l) a = ap (insert key c) (ranked_next l a) ∙ insert-swap c a (ranked key l)
+  ranked-next [] a = refl
+  ranked-next (c ∷ l) a = ap (insert key c) (ranked-next l a) ∙ insert-swap c a (ranked key l)
 
   -- the place where a goes: behind j that are no smaller, before one that is
-  pub insert_last_at : (a z : A) (l : List A) (j : ℕ) → j ≤ length l → ((i : ℕ) → i < j → le_z (key a) (key (get_or l i z)) ≡ true) → (j < length l → le_z (key a) (key (get_or l j z)) ≡ false) → insert_last key a l ≡ take j l ++ (a ∷ drop j l)
+  pub insert-last-at : (a z : A) (l : List A) (j : ℕ) → j ≤ length l → ((i : ℕ) → i < j → le_z (key a) (key (get_or l i z)) ≡ true) → (j < length l → le_z (key a) (key (get_or l j z)) ≡ false) → insert_last key a l ≡ take j l ++ (a ∷ drop j l)
   unfolding insert_last
-  insert_last_at a z [] zero h front back = refl
-  insert_last_at a z [] (suc j) h front back = absurd (omega arith)
-  insert_last_at a z (b ∷ l) zero h front back = rw (back (omega arith))
-  insert_last_at a z (b ∷ l) (suc j) h front back = rw (front 0 (omega arith)) (ap (λ t. b ∷ t) (insert_last_at a z l j (omega arith) (λ i k. front (suc i) (omega arith)) (λ k. back (omega arith))))
+  insert-last-at a z [] zero h front back = refl
+  insert-last-at a z [] (suc j) h front back = absurd (omega arith)
+  insert-last-at a z (b ∷ l) zero h front back = rw (back (omega arith))
+  insert-last-at a z (b ∷ l) (suc j) h front back = rw (front 0 (omega arith)) (ap (λ t. b ∷ t) (insert-last-at a z l j (omega arith) (λ i k. front (suc i) (omega arith)) (λ k. back (omega arith))))
 
   -- in a falling list the earlier is no smaller
-  pub falling_at : (z : A) (l : List A) → Falling key l → (i j : ℕ) → i ≤ j → j < length l → Le (key (get_or l j z)) (key (get_or l i z))
-  falling_at z [] r i j h k = absurd (omega arith)
-  falling_at z (b ∷ l) r zero zero h k = le_refl (key b)
-  falling_at z (b ∷ l) (next f r) zero (suc j) h k = f (get_or l j z) (get_d-mem l j z (omega arith))
-  falling_at z (b ∷ l) r (suc i) zero h k = absurd (omega arith)
-  falling_at z (b ∷ l) (next f r) (suc i) (suc j) h k = falling_at z l r i j (omega arith) (omega arith)
+  pub falling-at : (z : A) (l : List A) → Falling key l → (i j : ℕ) → i ≤ j → j < length l → Le (key (get_or l j z)) (key (get_or l i z))
+  falling-at z [] r i j h k = absurd (omega arith)
+  falling-at z (b ∷ l) r zero zero h k = le_refl (key b)
+  falling-at z (b ∷ l) (next f r) zero (suc j) h k = f (get_or l j z) (get_d-mem l j z (omega arith))
+  falling-at z (b ∷ l) r (suc i) zero h k = absurd (omega arith)
+  falling-at z (b ∷ l) (next f r) (suc i) (suc j) h k = falling-at z l r i j (omega arith) (omega arith)

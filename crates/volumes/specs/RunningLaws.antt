@@ -14,7 +14,7 @@ use Rattle.volumes.specs.Sheets.{start_position, covers, quarter_at}
 use Rattle.volumes.specs.declared.Series.{Series}
 use Rattle.volumes.specs.Series.{Kind, is_engagement, grains_of, grains_at}
 use Rattle.volumes.specs.SoundInner.{Placed, Sound}
-use Rattle.volumes.specs.WidthsLaws.{most, delivered_most}
+use Rattle.volumes.specs.WidthsLaws.{most, delivered-most}
 use Rattle.integers.specs.RunningLaws.{up_to-zero, up_to-add}
 use Rattle.quarters.specs.QuartersInner.{longest_day, most_rows}
 
@@ -45,7 +45,7 @@ only-all m a n g h p =
 module _ (book : Book) (s : Sound book) (kind : Kind) (receiver : ℕ) (series : Series) where
   engagement-only : (e : Engagement) → Only most (start_position book.calendar e) e.count (λ p. grains_of book kind receiver series p e)
   unfolding grains_of covers
-  engagement-only e = record { each = λ p. few (is_engagement book kind receiver series e && covers book.calendar e p) (delivered_most book s e (quarter_at book.calendar e p)); else = λ p f. rw f (none (is_engagement book kind receiver series e) (delivered book e (quarter_at book.calendar e p))) }
+  engagement-only e = record { each = λ p. few (is_engagement book kind receiver series e && covers book.calendar e p) (delivered-most book s e (quarter_at book.calendar e p)); else = λ p f. rw f (none (is_engagement book kind receiver series e) (delivered book e (quarter_at book.calendar e p))) }
     where
       few : (t : Bool) {n : ℕ} → n ≤ most → cond t n 0 ≤ most
       few true h = h
@@ -63,9 +63,9 @@ module _ (book : Book) (s : Sound book) (kind : Kind) (receiver : ℕ) (series :
       omega (arith, up_to-add (λ q. grains_of book kind receiver series q e) (λ q. sum_of (grains_of book kind receiver series q) es) p, only-all most (start_position book.calendar e) e.count (λ q. grains_of book kind receiver series q e) (engagement-only e) p, part-most es p)
 
   -- "the series' grains up to it": no more than the largest volume for each row
-  pub running_most : (p : ℕ) → up_to (grains_at book kind receiver series) p ≤ most * row_count book
+  pub running-most : (p : ℕ) → up_to (grains_at book kind receiver series) p ≤ most * row_count book
   unfolding grains_at row_count
-  running_most p = part-most book.engagements p
+  running-most p = part-most book.engagements p
 
 -- at most a longest day's rows for each of 512 engagements, so that the sum is below 2^63
 count-few : (book : Book) (es : List Engagement) → ((e : Engagement) → Memᴰ e es → Placed book.calendar (length book.points) e) → sum_of (λ e. e.count) es ≤ longest_day * length es
@@ -78,4 +78,4 @@ unfolding row_count
 rows_few book s = omega (arith, count-few book book.engagements s.engagements, s.few)
 
 pub running-fits : (book : Book) → Sound book → (kind : Kind) (receiver : ℕ) (series : Series) (p : ℕ) → up_to (grains_at book kind receiver series) p < 2 ^ 63
-running-fits book s kind receiver series p = omega (arith, running_most book s kind receiver series p, rows_few book s)
+running-fits book s kind receiver series p = omega (arith, running-most book s kind receiver series p, rows_few book s)

@@ -19,7 +19,7 @@ use Rattle.volumes.specs.Sheets.{covers, quarter_at}
 use Rattle.volumes.specs.declared.Series.{Series}
 use Rattle.volumes.specs.Series.{Kind, Toe01, Toe02, Toe03, takes, receiver_of, partner_of, same_supply, same_direction, is_point, is_engagement, grains_of, grains_at, series_watts, series_of}
 use Rattle.integers.specs.RunningLaws.{telescope, floor_at-cong}
-use Rattle.integers.specs.SumsLaws.{sum_all}
+use Rattle.integers.specs.SumsLaws.{sum-all}
 use Rattle.volumes.specs.SeriesInner.{taken_by, Told}
 
 -- up to each position: "the series' grains up to it, over 30,240 rounded down"
@@ -70,10 +70,10 @@ module _ (book : Book) (f s : ℕ) (u : Supply) (d : Direction) where
       ap (λ t. t && (eqb point.fsp f && (eqb point.supplier s && same_supply point.supply u))) (alike point.situation)
       ∙ ap (λ t. takes Toe02 point.situation && t) (and-swap (eqb point.fsp f) (eqb point.supplier s) (same_supply point.supply u))
 
-  pub pair_grains : (p : ℕ) → grains_at book Toe01 f (series_of s u d) p ≡ grains_at book Toe02 s (series_of f u d) p
+  pub pair-grains : (p : ℕ) → grains_at book Toe01 f (series_of s u d) p ≡ grains_at book Toe02 s (series_of f u d) p
   unfolding grains_at grains_of is_engagement
-  pair_grains p = sum_all naturals _ _ book.engagements (λ e. ap (λ t. cond ((t && same_direction e.direction d) && covers book.calendar e p) (delivered book e (quarter_at book.calendar e p)) 0) (same_points (point_of book e)))
+  pair-grains p = sum-all naturals _ _ book.engagements (λ e. ap (λ t. cond ((t && same_direction e.direction d) && covers book.calendar e p) (delivered book e (quarter_at book.calendar e p)) 0) (same_points (point_of book e)))
 
-  pub pair_watts : (p : ℕ) → series_watts book Toe01 f (series_of s u d) p ≡ series_watts book Toe02 s (series_of f u d) p
+  pub pair-watts : (p : ℕ) → series_watts book Toe01 f (series_of s u d) p ≡ series_watts book Toe02 s (series_of f u d) p
   unfolding series_watts
-  pair_watts p = floor_at-cong per_watt (grains_at book Toe01 f (series_of s u d)) (grains_at book Toe02 s (series_of f u d)) p (λ q low most. pair_grains q)
+  pair-watts p = floor_at-cong per_watt (grains_at book Toe01 f (series_of s u d)) (grains_at book Toe02 s (series_of f u d)) p (λ q low most. pair-grains q)

@@ -15,11 +15,11 @@ use Rattle.book.specs.Book.{Book, book_of}
 use Rattle.book.specs.Judged.{refusal_of}
 use Rattle.volumes.specs.Quarters.{quarter_hours}
 use Rattle.volumes.specs.Baseline.{point_of, complete, eligible_days, taken, x_of, y_of}
-use Rattle.volumes.specs.BaselineLaws.{taken_length}
+use Rattle.volumes.specs.BaselineLaws.{taken-length}
 use Rattle.volumes.specs.Settlement.{needed, too_few, refusal_number, row_refusal, refusal_from, settlement_refusal, corrections, row_width, row, rows_of, rows, row_count, book_refusal, settling_refusal, Accepted}
 use Rattle.integers.specs.RangesLaws.{length-range, range-next}
-use Rattle.integers.specs.SumsLaws.{sum_append}
-use Rattle.integers.specs.ListsLaws.{flat_map_append, length_flat_map}
+use Rattle.integers.specs.SumsLaws.{sum-append}
+use Rattle.integers.specs.ListsLaws.{flat_map-append, length-flat_map}
 
 -- an engagement that is not refused
 pub record Settles (book : Book) (e : Engagement) : Type 0 where
@@ -58,7 +58,7 @@ enough-days HighXOfY y n h e = ltb-false n y e
 enough-days Adjusted y n h e = ltb-false n y e
 
 pub takes-x : (book : Book) (e : Engagement) → Settles book e → ((point_of book e).method ≡ LastQuarter → ⊥) → x_of book e ≤ y_of book e → length (taken book e) ≡ x_of book e
-takes-x book e h m k = taken_length book e k (enough-days (point_of book e).method (y_of book e) (length (eligible_days book e)) m h.enough)
+takes-x book e h m k = taken-length book e k (enough-days (point_of book e).method (y_of book e) (length (eligible_days book e)) m h.enough)
 
 -- the refusal of the engagements from row i on: none after the last, else that of row i or of those after it
 unfoldable pub refusal_at : Book → ℕ → Option Refusal
@@ -83,7 +83,7 @@ row-length book e k = refl
 
 pub rows_of-length : (book : Book) (e : Engagement) → length (rows_of book e) ≡ row_width * e.count
 unfolding rows_of quarter_hours
-rows_of-length book e = length_flat_map row_width (row book e) (row-length book e) (range 0 e.count) ∙ ap (λ n. row_width * n) (length-range 0 e.count)
+rows_of-length book e = length-flat_map row_width (row book e) (row-length book e) (range 0 e.count) ∙ ap (λ n. row_width * n) (length-range 0 e.count)
 
 pub rows-length-of : (book : Book) (es : List Engagement) → length (flat_map (rows_of book) es) ≡ row_width * sum_of (λ e. e.count) es
 unfolding flat_map sum_by
@@ -97,11 +97,11 @@ rows-length book = rows-length-of book book.engagements
 -- the rows that the first i engagements count and one more, and those of the first k quarter-hours of an engagement and one more
 pub count_next : (es : List Engagement) (i : ℕ) (e : Engagement) → i < length es → sum_of (λ e. e.count) (take (suc i) es) ≡ sum_of (λ e. e.count) (take i es) + (get_or es i e).count
 unfolding sum_by
-count_next es i e h = ap (sum_of (λ e. e.count)) (take-suc es i e h) ∙ sum_append naturals (λ e. e.count) (take i es) (get_or es i e ∷ []) ∙ omega arith
+count_next es i e h = ap (sum_of (λ e. e.count)) (take-suc es i e h) ∙ sum-append naturals (λ e. e.count) (take i es) (get_or es i e ∷ []) ∙ omega arith
 
 pub row_next : (book : Book) (e : Engagement) (k : ℕ) → flat_map (row book e) (range 0 (suc k)) ≡ flat_map (row book e) (range 0 k) ++ row book e k
 unfolding flat_map
-row_next book e k = ap (flat_map (row book e)) (range-next 0 k ∙ ap (λ n. range 0 k ++ (n ∷ [])) (omega arith)) ∙ flat_map_append (row book e) (range 0 k) (k ∷ []) ∙ ap (λ l. flat_map (row book e) (range 0 k) ++ l) (append-nil (row book e k))
+row_next book e k = ap (flat_map (row book e)) (range-next 0 k ∙ ap (λ n. range 0 k ++ (n ∷ [])) (omega arith)) ∙ flat_map-append (row book e) (range 0 k) (k ∷ []) ∙ ap (λ l. flat_map (row book e) (range 0 k) ++ l) (append-nil (row book e k))
 
 -- with a buffer that is long enough refusals 1 to 9 decide
 pub settling-long : (bytes : List ℕ) (lent : ℕ) → row_width * row_count (book_of bytes) ≤ lent → settling_refusal bytes lent ≡ book_refusal bytes

@@ -25,7 +25,7 @@ use Rattle.volumes.specs.Settlement.{delivered, requested_at, injection_share, i
 use Rattle.volumes.specs.SplitLaws.{shares_whole, signed-zero}
 use Rattle.volumes.specs.Sheets.{start_position, covers, quarter_at, parties_of, parties, share_of, correction_at, sheet_at, sheet, requested_by, requested_volume}
 use Rattle.integers.specs.RangesLaws.{length-range}
-use Rattle.integers.specs.SumsLaws.{sum-zero, sum_cong, sum_swap, sum_once}
+use Rattle.integers.specs.SumsLaws.{sum-zero, sum-cong, sum-swap, sum-once}
 
 -- the corrections of a quarter-hour make up what was requested: the two source parties' shares make up the delivered volume
 three : (d : Direction) (r v : ℤ) (s i : ℕ) → pos (s + i) ≡ v → signed d (pos s) +ℤ (signed d (r -ℤ v) +ℤ (signed d (pos i) +ℤ pos 0)) ≡ signed d r
@@ -49,8 +49,8 @@ balanced book e k =
 share-all : (amounts : List (ℕ × ℤ)) (ps : List ℕ) → ((a : ℕ × ℤ) → Memᴰ a amounts → times a.0 ps ≡ 1) → sum_z (λ party. share_of party amounts) ps ≡ sum_z (λ a. a.1) amounts
 unfolding share_of
 share-all amounts ps h =
-    sum_swap integers (λ party a. cond (eqb a.0 party) a.1 (pos 0)) ps amounts
-    ∙ sum_cong integers _ _ amounts (λ a m. sum_once integers a.0 (λ _. a.1) ps (h a m))
+    sum-swap integers (λ party a. cond (eqb a.0 party) a.1 (pos 0)) ps amounts
+    ∙ sum-cong integers _ _ amounts (λ a m. sum-once integers a.0 (λ _. a.1) ps (h a m))
 
 -- the columns hold all corrections: what has no column in version 1 is 0
 columns-all : (book : Book) (e : Engagement) (k : ℕ) → sum_z (λ a. a.1) (zip (parties_of book.version (point_of book e)) (corrections book e k)) ≡ sum_z (λ z. z) (corrections book e k)
@@ -90,8 +90,8 @@ covered-all book ps e k h =
 sheets-of : (book : Book) (ps : List ℕ) → ((e : Engagement) → Memᴰ e book.engagements → OnceEach book ps e) → (p : ℕ) → sum_z (λ party. sheet_at book party p) ps ≡ requested_volume book p
 unfolding sheet_at requested_volume correction_at requested_by
 sheets-of book ps h p =
-    sum_swap integers (λ party e. correction_at book party p e) ps book.engagements
-    ∙ sum_cong integers _ _ book.engagements (λ e m. at e (covers book.calendar e p) (h e m))
+    sum-swap integers (λ party e. correction_at book party p e) ps book.engagements
+    ∙ sum-cong integers _ _ book.engagements (λ e m. at e (covers book.calendar e p) (h e m))
   where
     at : (e : Engagement) (t : Bool) → OnceEach book ps e → sum_z (λ party. cond t (share_of party (zip (parties_of book.version (point_of book e)) (corrections book e (quarter_at book.calendar e p)))) (pos 0)) ps ≡ cond t (signed e.direction (pos (requested_at e (quarter_at book.calendar e p)))) (pos 0)
     at e true o = covered-all book ps e (quarter_at book.calendar e p) o

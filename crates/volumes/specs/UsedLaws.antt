@@ -7,14 +7,14 @@ use mathlib.Core.List.Memᴰ
 use mathlib.Core.List.{List, [], ◌∷◌, map, flat_map, Memᴰ}
 use Rattle.std.proofs.lemmas.Bool.{not-true}
 use Rattle.integers.specs.Ranges.{range}
-use Rattle.integers.specs.KeepLaws.{mem_keep}
+use Rattle.integers.specs.KeepLaws.{mem-keep}
 use Rattle.wire.specs.declared.Reading.{Reading}
 use Rattle.book.specs.declared.Method.TheVariants.{LastQuarter, Adjusted}
 use Rattle.book.specs.declared.Engagement.{Engagement}
 use Rattle.book.specs.Book.{Book}
 use Rattle.volumes.specs.Quarters.{quarter_hours}
 use Rattle.volumes.specs.Ranking.{ranked}
-use Rattle.volumes.specs.RankingLaws.{from_ranked}
+use Rattle.volumes.specs.RankingLaws.{from-ranked}
 use Rattle.volumes.specs.Baseline.{point_of, known, complete, own_reading, day_reading, day_readings, own_window, day_window, windowed, allowed, suits, engaged, regular, eligible, before, eligible_days, x_of, y_of, latest, day_sum, taken, last_reading}
 use Rattle.volumes.specs.BaselineLaws.{complete-append}
 use Rattle.volumes.specs.Settlement.{needed_by, needed}
@@ -81,32 +81,32 @@ engaged-not book e d h = eligible-is book e d ∙ ap (λ (b : Bool). not b && (r
 
 module _ (book : Book) (e : Engagement) where
   -- "day d before A is eligible": each day that is taken
-  pub taken_eligible : (d : ℕ) → Memᴰ d (taken book e) → (eligible book e d ≡ true) × (d < e.day)
+  pub taken-eligible : (d : ℕ) → Memᴰ d (taken book e) → (eligible book e d ≡ true) × (d < e.day)
   unfolding taken latest eligible_days
-  taken_eligible d m =
-      let k = mem_keep (eligible book e) (before e.day) d (in_take (y_of book e) (eligible_days book e) d (from_ranked (day_sum book e) d (latest book e) (in_take (x_of book e) (ranked (day_sum book e) (latest book e)) d m))) in
+  taken-eligible d m =
+      let k = mem-keep (eligible book e) (before e.day) d (in_take (y_of book e) (eligible_days book e) d (from-ranked (day_sum book e) d (latest book e) (in_take (x_of book e) (ranked (day_sum book e) (latest book e)) d m))) in
       (k.1, days-before e.day d k.0)
 
   taken-day : (d : ℕ) → Memᴰ d (taken book e) → Eligible book e d
-  taken-day d m = eligible-day book e d (taken_eligible d m).0
+  taken-day d m = eligible-day book e d (taken-eligible d m).0
 
   -- no day that is taken has an engagement of the point
   pub taken_free : (d : ℕ) → Memᴰ d (taken book e) → engaged book e.point d ≡ false
   taken_free d m = (taken-day d m).free
 
-  pub taken_known : (k d : ℕ) → k < e.count → Memᴰ d (taken book e) → known (day_reading book e k d) ≡ true
+  pub taken-known : (k d : ℕ) → k < e.count → Memᴰ d (taken book e) → known (day_reading book e k d) ≡ true
   unfolding day_readings quarter_hours
-  taken_known k d h m = complete-known (day_readings book e d) (taken-day d m).whole (day_reading book e k d) (Memᴰ.map (λ j. day_reading book e j d) (range-mem 0 e.count k (omega arith) (omega arith)))
+  taken-known k d h m = complete-known (day_readings book e d) (taken-day d m).whole (day_reading book e k d) (Memᴰ.map (λ j. day_reading book e j d) (range-mem 0 e.count k (omega arith) (omega arith)))
 
-  pub high_complete : (k : ℕ) → k < e.count → complete (map (day_reading book e k) (taken book e)) ≡ true
-  high_complete k h = known-complete (map (day_reading book e k) (taken book e)) (λ r m. go r (Memᴰ.of_map (day_reading book e k) (taken book e) m))
+  pub high-complete : (k : ℕ) → k < e.count → complete (map (day_reading book e k) (taken book e)) ≡ true
+  high-complete k h = known-complete (map (day_reading book e k) (taken book e)) (λ r m. go r (Memᴰ.of_map (day_reading book e k) (taken book e) m))
     where
       go : (r : Reading) → (d : ℕ) × Memᴰ d (taken book e) × (day_reading book e k d ≡ r) → known r ≡ true
-      go r (d, m, q) = ap known (sym q) ∙ taken_known k d h m
+      go r (d, m, q) = ap known (sym q) ∙ taken-known k d h m
 
-  pub windows_complete : (point_of book e).method ≡ Adjusted → complete (flat_map (day_window book e) (taken book e)) ≡ true
+  pub windows-complete : (point_of book e).method ≡ Adjusted → complete (flat_map (day_window book e) (taken book e)) ≡ true
   unfolding flat_map complete windowed
-  windows_complete a = all (taken book e) (λ d m. sym (ap (λ x. windowed x (day_window book e d)) a) ∙ (taken-day d m).windowed)
+  windows-complete a = all (taken book e) (λ d m. sym (ap (λ x. windowed x (day_window book e d)) a) ∙ (taken-day d m).windowed)
     where
       all : (l : List ℕ) → ((d : ℕ) → Memᴰ d l → windowed Adjusted (day_window book e d) ≡ true) → complete (flat_map (day_window book e) l) ≡ true
       all [] h = refl
@@ -117,14 +117,14 @@ module _ (book : Book) (e : Engagement) where
   unfolding needed
   settled-both s = (and-eq-true_iff (complete (map (own_reading book e) (quarter_hours e))) (complete (needed_by (point_of book e).method book e))).0 (sym (complete-append (map (own_reading book e) (quarter_hours e)) (needed_by (point_of book e).method book e)) ∙ s.known)
 
-  pub own_known : Settles book e → (k : ℕ) → k < e.count → known (own_reading book e k) ≡ true
+  pub own-known : Settles book e → (k : ℕ) → k < e.count → known (own_reading book e k) ≡ true
   unfolding quarter_hours
-  own_known s k h = complete-known (map (own_reading book e) (quarter_hours e)) (settled-both s).0 (own_reading book e k) (Memᴰ.map (own_reading book e) (range-mem 0 e.count k (omega arith) (omega arith)))
+  own-known s k h = complete-known (map (own_reading book e) (quarter_hours e)) (settled-both s).0 (own_reading book e k) (Memᴰ.map (own_reading book e) (range-mem 0 e.count k (omega arith) (omega arith)))
 
-  pub own_window_complete : Settles book e → (point_of book e).method ≡ Adjusted → complete (own_window book e) ≡ true
+  pub own-window-complete : Settles book e → (point_of book e).method ≡ Adjusted → complete (own_window book e) ≡ true
   unfolding needed_by
-  own_window_complete s a = sym (ap (λ x. complete (needed_by x book e)) a) ∙ (settled-both s).1
+  own-window-complete s a = sym (ap (λ x. complete (needed_by x book e)) a) ∙ (settled-both s).1
 
-  pub last_known : Settles book e → (point_of book e).method ≡ LastQuarter → known (last_reading book e) ≡ true
+  pub last-known : Settles book e → (point_of book e).method ≡ LastQuarter → known (last_reading book e) ≡ true
   unfolding needed_by
-  last_known s a = complete-known (last_reading book e ∷ []) (sym (ap (λ x. complete (needed_by x book e)) a) ∙ (settled-both s).1) (last_reading book e) (Memᴰ.head refl)
+  last-known s a = complete-known (last_reading book e ∷ []) (sym (ap (λ x. complete (needed_by x book e)) a) ∙ (settled-both s).1) (last_reading book e) (Memᴰ.head refl)

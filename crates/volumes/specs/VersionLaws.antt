@@ -5,7 +5,7 @@ use Rattle.std.proofs.Math.Path.{refl, ap}
 use Rattle.std.proofs.Math.Bool.{cond}
 use mathlib.Core.List.{List, [], ◌∷◌, flat_map, zip, zip_with}
 use Rattle.integers.specs.Sums.{naturals, integers, sum_z}
-use Rattle.integers.specs.SumsLaws.{sum_cong}
+use Rattle.integers.specs.SumsLaws.{sum-cong}
 use Rattle.grains.specs.Grains.{grains_z}
 use Rattle.book.specs.declared.Method.{Method}
 use Rattle.book.specs.declared.Method.TheVariants.{LastQuarter, HighXOfY, Adjusted}
@@ -31,17 +31,17 @@ module _ (book : Book) (one : book.version ≡ 1) where
   unfolding row corrections source_correction fsp_correction injection_correction source_by injection_by
   row_one e k = rw (one, signed-zero e.direction)
 
-  pub parties_one : parties book ≡ flat_map (λ point. point.sourceparty ∷ point.fspparty ∷ []) book.points
+  pub parties-one : parties book ≡ flat_map (λ point. point.sourceparty ∷ point.fspparty ∷ []) book.points
   unfolding parties parties_of
-  parties_one = rw one
+  parties-one = rw one
 
   correction-one : (party p : ℕ) (e : Engagement) → correction_at book party p e ≡ cond (covers book.calendar e p) (share_of party (two_amounts book e (quarter_at book.calendar e p))) (pos 0)
   unfolding correction_at parties_of corrections source_correction fsp_correction source_by two_amounts zip zip_with
   correction-one party p e = rw one
 
-  pub sheet_one : (party p : ℕ) → sheet_at book party p ≡ sum_z (λ e. cond (covers book.calendar e p) (share_of party (two_amounts book e (quarter_at book.calendar e p))) (pos 0)) book.engagements
+  pub sheet-one : (party p : ℕ) → sheet_at book party p ≡ sum_z (λ e. cond (covers book.calendar e p) (share_of party (two_amounts book e (quarter_at book.calendar e p))) (pos 0)) book.engagements
   unfolding sheet_at
-  sheet_one party p = sum_cong integers _ _ book.engagements (λ e m. correction-one party p e)
+  sheet-one party p = sum-cong integers _ _ book.engagements (λ e m. correction-one party p e)
 
 -- a book of another version, else the same
 unfoldable pub of_version : ℕ → Book → Book
@@ -64,13 +64,13 @@ module _ (version : ℕ) (book : Book) where
   by-any HighXOfY e k = refl
   by-any Adjusted e k = refl
 
-  pub delivered_any : (e : Engagement) (k : ℕ) → delivered (of_version version book) e k ≡ delivered book e k
+  pub delivered-any : (e : Engagement) (k : ℕ) → delivered (of_version version book) e k ≡ delivered book e k
   unfolding of_version delivered baseline point_of own_reading
-  delivered_any e k = ap (λ z. delivered_by e.direction (point_of book e) z (grains_z (watts (own_reading book e k)))) (by-any (point_of book e).method e k)
+  delivered-any e k = ap (λ z. delivered_by e.direction (point_of book e) z (grains_z (watts (own_reading book e k)))) (by-any (point_of book e).method e k)
 
   -- the grains of a series, so its watts and every file
-  pub grains_any : (kind : Kind) (receiver : ℕ) (s : Series) (p : ℕ) → grains_at (of_version version book) kind receiver s p ≡ grains_at book kind receiver s p
+  pub grains-any : (kind : Kind) (receiver : ℕ) (s : Series) (p : ℕ) → grains_at (of_version version book) kind receiver s p ≡ grains_at book kind receiver s p
   unfolding of_version grains_at grains_of is_engagement point_of
-  grains_any kind receiver s p =
-      sum_cong naturals _ _ book.engagements (λ e m.
-      ap (λ v. cond (is_engagement book kind receiver s e && covers book.calendar e p) v 0) (delivered_any e (quarter_at book.calendar e p)))
+  grains-any kind receiver s p =
+      sum-cong naturals _ _ book.engagements (λ e m.
+      ap (λ v. cond (is_engagement book kind receiver s e && covers book.calendar e p) v 0) (delivered-any e (quarter_at book.calendar e p)))

@@ -110,9 +110,9 @@ module _ (book : Book) (s : Sound book) (e : Engagement) where
   by-bounded Adjusted k = bounded-more (bounded-add (high-bounded k) addend-bounded) (omega arith)
 
   -- a baseline
-  pub baseline_bounded : (k : ℕ) → Bounded (3 * most) (baseline book e k)
+  pub baseline-bounded : (k : ℕ) → Bounded (3 * most) (baseline book e k)
   unfolding baseline
-  baseline_bounded k = by-bounded (point_of book e).method k
+  baseline-bounded k = by-bounded (point_of book e).method k
 
   -- the largest watts of the engagement's point
   point-limited : Limited (point_of book e)
@@ -125,9 +125,9 @@ module _ (book : Book) (s : Sound book) (e : Engagement) where
       go (point ∷ l) (suc n) h = go l n (λ q m. h q (Memᴰ.tail m))
 
   -- a delivered volume
-  pub delivered_most : (k : ℕ) → delivered book e k ≤ most
+  pub delivered-most : (k : ℕ) → delivered book e k ≤ most
   unfolding delivered limited delivered_by
-  delivered_most k = by_most e.direction (baseline book e k) (grains_z (watts (own_reading book e k)))
+  delivered-most k = by_most e.direction (baseline book e k) (grains_z (watts (own_reading book e k)))
     where
       limit : (z : ℤ) (n : ℕ) → n ≤ 10 ^ 9 → limited z n ≤ most
       limit (pos m) n h = let k : n * per_watt ≤ 1000000000 * per_watt = mul-le-mul_right per_watt h in omega arith
@@ -143,23 +143,23 @@ module _ (book : Book) (s : Sound book) (e : Engagement) where
   signed-bounded Down n z h = bounded-neg h
 
   -- the corrections
-  pub source_bounded : (k : ℕ) → Bounded most (source_correction book e k)
+  pub source-bounded : (k : ℕ) → Bounded most (source_correction book e k)
   unfolding source_correction
-  source_bounded k =
+  source-bounded k =
       let base = baseline book e k in
       let read = grains_z (watts (own_reading book e k)) in
-      signed-bounded e.direction most _ (record { above = omega (arith, source-most book.version e.direction base read (delivered book e k), delivered_most k); below = omega arith })
+      signed-bounded e.direction most _ (record { above = omega (arith, source-most book.version e.direction base read (delivered book e k), delivered-most k); below = omega arith })
 
-  pub injection_bounded : (k : ℕ) → Bounded most (injection_correction book e k)
+  pub injection-bounded : (k : ℕ) → Bounded most (injection_correction book e k)
   unfolding injection_correction
-  injection_bounded k =
+  injection-bounded k =
       let base = baseline book e k in
       let read = grains_z (watts (own_reading book e k)) in
-      signed-bounded e.direction most _ (record { above = omega (arith, injection-most book.version e.direction base read (delivered book e k), delivered_most k); below = omega arith })
+      signed-bounded e.direction most _ (record { above = omega (arith, injection-most book.version e.direction base read (delivered book e k), delivered-most k); below = omega arith })
 
-  pub fsp_bounded : OnTerms e → (k : ℕ) → Bounded most (fsp_correction book e k)
+  pub fsp-bounded : OnTerms e → (k : ℕ) → Bounded most (fsp_correction book e k)
   unfolding fsp_correction requested_at
-  fsp_bounded t k = signed-bounded e.direction most (pos (grains e.requested) -ℤ pos (delivered book e k)) (apart (grains e.requested) (delivered book e k) (mul-le-mul_right per_watt t.most) (delivered_most k))
+  fsp-bounded t k = signed-bounded e.direction most (pos (grains e.requested) -ℤ pos (delivered book e k)) (apart (grains e.requested) (delivered book e k) (mul-le-mul_right per_watt t.most) (delivered-most k))
     where
       apart : (m n : ℕ) → m ≤ most → n ≤ most → Bounded most (pos m -ℤ pos n)
       apart m n h k = record { above = omega (arith, dif (pos m) (pos n)); below = omega (arith, dif (pos m) (pos n)) }
@@ -167,12 +167,12 @@ module _ (book : Book) (s : Sound book) (e : Engagement) where
   -- the five numbers of a row
   pub row_fits : OnTerms e → (k : ℕ) → SFits w64 (baseline book e k) × SFits w64 (pos (delivered book e k)) × SFits w64 (source_correction book e k) × SFits w64 (fsp_correction book e k) × SFits w64 (injection_correction book e k)
   row_fits t k =
-      (bounded-fits (baseline_bounded k) (omega arith), bounded-fits {n = most} (record { above = delivered_most k; below = omega arith }) (omega arith), bounded-fits (source_bounded k) (omega arith), bounded-fits (fsp_bounded t k) (omega arith), bounded-fits (injection_bounded k) (omega arith))
+      (bounded-fits (baseline-bounded k) (omega arith), bounded-fits {n = most} (record { above = delivered-most k; below = omega arith }) (omega arith), bounded-fits (source-bounded k) (omega arith), bounded-fits (fsp-bounded t k) (omega arith), bounded-fits (injection-bounded k) (omega arith))
 
   -- what one engagement adds to a sheet
-  pub correction_bounded : OnTerms e → (party p : ℕ) → Bounded (3 * most) (correction_at book party p e)
+  pub correction-bounded : OnTerms e → (party p : ℕ) → Bounded (3 * most) (correction_at book party p e)
   unfolding correction_at share_of parties_of corrections zip zip_with sum_by
-  correction_bounded t party p = covered (covers book.calendar e p) (all (splits book.version) (quarter_at book.calendar e p))
+  correction-bounded t party p = covered (covers book.calendar e p) (all (splits book.version) (quarter_at book.calendar e p))
     where
       one : (b : Bool) (z : ℤ) → Bounded most z → Bounded most (cond b z (pos 0))
       one true z h = h
@@ -181,13 +181,13 @@ module _ (book : Book) (s : Sound book) (e : Engagement) where
       all : (b : Bool) (k : ℕ) → Bounded (3 * most) (share_of party (zip ((point_of book e).sourceparty ∷ (point_of book e).fspparty ∷ cond b ((point_of book e).injectionparty ∷ []) []) (corrections book e k)))
       all true k =
           bounded-more
-          (bounded-add (one (eqb (point_of book e).sourceparty party) (source_correction book e k) (source_bounded k))
-          (bounded-add (one (eqb (point_of book e).fspparty party) (fsp_correction book e k) (fsp_bounded t k))
-          (bounded-add (one (eqb (point_of book e).injectionparty party) (injection_correction book e k) (injection_bounded k)) (bounded-zero {n = 0})))) (omega arith)
+          (bounded-add (one (eqb (point_of book e).sourceparty party) (source_correction book e k) (source-bounded k))
+          (bounded-add (one (eqb (point_of book e).fspparty party) (fsp_correction book e k) (fsp-bounded t k))
+          (bounded-add (one (eqb (point_of book e).injectionparty party) (injection_correction book e k) (injection-bounded k)) (bounded-zero {n = 0})))) (omega arith)
       all false k =
           bounded-more
-          (bounded-add (one (eqb (point_of book e).sourceparty party) (source_correction book e k) (source_bounded k))
-          (bounded-add (one (eqb (point_of book e).fspparty party) (fsp_correction book e k) (fsp_bounded t k)) (bounded-zero {n = 0}))) (omega arith)
+          (bounded-add (one (eqb (point_of book e).sourceparty party) (source_correction book e k) (source-bounded k))
+          (bounded-add (one (eqb (point_of book e).fspparty party) (fsp_correction book e k) (fsp-bounded t k)) (bounded-zero {n = 0}))) (omega arith)
 
       covered : (b : Bool) {z : ℤ} → Bounded (3 * most) z → Bounded (3 * most) (cond b z (pos 0))
       covered true h = h
@@ -195,7 +195,7 @@ module _ (book : Book) (s : Sound book) (e : Engagement) where
 
 -- a number of a sheet, and what some of the engagements make of it
 pub sheet-part-fits : (book : Book) → Sound book → (l : List Engagement) → ((e : Engagement) → Memᴰ e l → OnTerms e) → length l ≤ 512 → (party p : ℕ) → SFits w64 (sum_z (correction_at book party p) l)
-sheet-part-fits book s l h few party p = bounded-fits (bounded-more (bounded-sum (3 * most) (correction_at book party p) l (λ e m. correction_bounded book s e (h e m) party p)) (mul-le-mul_left (3 * most) few)) (omega arith)
+sheet-part-fits book s l h few party p = bounded-fits (bounded-more (bounded-sum (3 * most) (correction_at book party p) l (λ e m. correction-bounded book s e (h e m) party p)) (mul-le-mul_left (3 * most) few)) (omega arith)
 
 pub sheet-fits : (book : Book) → Sound book → (party p : ℕ) → SFits w64 (sheet_at book party p)
 unfolding sheet_at

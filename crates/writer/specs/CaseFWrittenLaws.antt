@@ -10,7 +10,7 @@ use Rattle.message.specs.CaseFLaws.{series, case_f, text}
 use Rattle.message.specs.CaseFReadLaws.{row_numbers_f, filled, valid-message, message-bytes}
 use Rattle.refusals.specs.Buffers.{over}
 use Rattle.writer.specs.WriteCalls.{WriteCalled}
-use Rattle.writer.specs.RoundTripLaws.{message_written}
+use Rattle.writer.specs.RoundTripLaws.{message-written}
 
 abbrev id : List ℕ
 id = bytes "T-1"
@@ -26,7 +26,7 @@ text-written : (before : List ℕ) → 898 ≤ length before → WriteCalled 1 7
 unfolding message case_f series periods first_of flat_map
 text-written before h =
     subst (λ (s : List ℕ). WriteCalled 1 7 2021 6 (numbers (message case_f).rows) id moment before (over s before) (Bytes (length s))) message-bytes
-    (message_written (message case_f) valid-message before (omega (arith, ap length message-bytes, text-length)))
+    (message-written (message case_f) valid-message before (omega (arith, ap length message-bytes, text-length)))
 
 pub case-F-written : (before : List ℕ) → 898 ≤ length before → WriteCalled 1 7 2021 6 row_numbers_f id moment before (over text before) (Bytes 898)
 case-F-written before h =

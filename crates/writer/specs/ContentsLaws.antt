@@ -51,37 +51,37 @@ observations-step l at n h =
 -- ---- series
 
 module _ (k : Kind) (q : ℕ × ℕ) (l : List ℕ) (at n : ℕ) where
-  pub series_none : n ≡ 0 → flat_map (series_bytes k) (series_in q l at n) ≡ []
+  pub series-none : n ≡ 0 → flat_map (series_bytes k) (series_in q l at n) ≡ []
   unfolding series_in rows_from group flat_map
-  series_none e = rw e
+  series-none e = rw e
 
-  pub series_step : (r : ℕ) → DirectionsRun l at n r
+  pub series-step : (r : ℕ) → DirectionsRun l at n r
       → flat_map (series_bytes k) (series_in q l at n) ≡ series_bytes k (series_at q l at r) ++ flat_map (series_bytes k) (series_in q l (at + 6 * r) (n - r))
   unfolding series_in observations_in flat_map
-  series_step r p = ap (λ (g : List ((ℕ × ℕ) × List Observation)). flat_map (series_bytes k) (map (series_of q) g)) p.first
+  series-step r p = ap (λ (g : List ((ℕ × ℕ) × List Observation)). flat_map (series_bytes k) (map (series_of q) g)) p.first
 
-  pub partners_none : n ≡ 0 → flat_map (partner_bytes k) (partners_in q l at n) ≡ []
+  pub partners-none : n ≡ 0 → flat_map (partner_bytes k) (partners_in q l at n) ≡ []
   unfolding partners_of rows_from group flat_map
-  partners_none e = rw e
+  partners-none e = rw e
 
-  pub partners_step : (r : ℕ) → PartnerRun l at n r
+  pub partners-step : (r : ℕ) → PartnerRun l at n r
       → flat_map (partner_bytes k) (partners_in q l at n) ≡ partner_bytes k (partner_at q l at r) ++ flat_map (partner_bytes k) (partners_in q l (at + 6 * r) (n - r))
   unfolding partners_of series_in flat_map
-  partners_step r p = ap (λ (g : List (ℕ × List ((ℕ × ℕ) × Observation))). flat_map (partner_bytes k) (map (partner_of q) g)) p.first
+  partners-step r p = ap (λ (g : List (ℕ × List ((ℕ × ℕ) × Observation))). flat_map (partner_bytes k) (map (partner_of q) g)) p.first
 
 module _ (q : ℕ × ℕ) (l : List ℕ) (at n : ℕ) where
-  pub series_count : length (series_in q l at n) ≡ length (group directions_keys (map (λ r. r.1) (rows_from l at n)))
+  pub series-count : length (series_in q l at n) ≡ length (group directions_keys (map (λ r. r.1) (rows_from l at n)))
   unfolding series_in
-  series_count = length-map (group directions_keys (map (λ r. r.1) (rows_from l at n))) (series_of q)
+  series-count = length-map (group directions_keys (map (λ r. r.1) (rows_from l at n))) (series_of q)
 
-  pub partners_count : length (partners_in q l at n) ≡ length (group number_keys (rows_from l at n))
+  pub partners-count : length (partners_in q l at n) ≡ length (group number_keys (rows_from l at n))
   unfolding partners_of
-  partners_count = length-map (group number_keys (rows_from l at n)) (partner_of q)
+  partners-count = length-map (group number_keys (rows_from l at n)) (partner_of q)
 
   -- the first row's supply direction is the first series'
-  pub series_supply : 1 ≤ n → supply_of (series_in q l at n) ≡ get_or l (at + 1) 0
+  pub series-supply : 1 ≤ n → supply_of (series_in q l at n) ≡ get_or l (at + 1) 0
   unfolding series_in rows_from supply_of
-  series_supply h =
+  series-supply h =
       let e : n ≡ suc (n - 1) = omega arith in
       let f = first_group directions_keys (row_at l at).1 (map (λ r. r.1) (rows_from l (at + 6) (n - 1))) in
       ap (λ (m : ℕ). supply_of (map (series_of q) (group directions_keys (map (λ r. r.1) (rows_from l at m))))) e

@@ -47,10 +47,10 @@ module _ {K A : Type 0} (E : Keys K) (keys : K → K → Bool) (before : A → A
       ∙ ap (λ (gs : List (K × List A)). by E keys before x y && in_order gs) (sym f.is)
       ∙ ap (λ (b : Bool). by E keys before x y && b) (follow-groups y l)
 
-  pub order_groups : (l : List (K × A)) → in_order (group E l) ≡ ordered (by E keys before) l
+  pub order-groups : (l : List (K × A)) → in_order (group E l) ≡ ordered (by E keys before) l
   unfolding group in_order ordered every
-  order_groups [] = refl
-  order_groups (x ∷ l) = follow-groups x l
+  order-groups [] = refl
+  order-groups (x ∷ l) = follow-groups x l
 
 merge : (k a e r : Bool) → ((k && (a && e)) && r) ≡ ((k && a) && ((k && e) && r))
 merge true a e r = and_assoc a e r
@@ -71,10 +71,10 @@ module _ {K A : Type 0} (E : Keys K) (key : K → Bool) (good : A → Bool) wher
           merge (key x.0) (good x.1) (every good g.1) (every (both key (every good)) gs)
           ∙ ap (λ (k : K). (key x.0 && good x.1) && ((key k && every good g.1) && every (both key (every good)) gs)) (E.alike x.0 g.0 e)
 
-  pub every_group : (l : List (K × A)) → every (both key (every good)) (group E l) ≡ every (both key good) l
+  pub every-group : (l : List (K × A)) → every (both key (every good)) (group E l) ≡ every (both key good) l
   unfolding group every
-  every_group [] = refl
-  every_group (x ∷ l) = push-every x (group E l) ∙ ap (λ (b : Bool). both key good x && b) (every_group l)
+  every-group [] = refl
+  every-group (x ∷ l) = push-every x (group E l) ∙ ap (λ (b : Bool). both key good x && b) (every-group l)
 
 full-push : {K A : Type 0} (E : Keys K) (k : K) (a : A) (gs : List (K × List A)) → All (λ g. 1 ≤ length g.1) gs → All (λ g. 1 ≤ length g.1) (push E k a gs)
 unfolding push All

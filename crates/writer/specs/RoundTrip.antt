@@ -56,7 +56,7 @@ NoFile =
 abbrev pub NoRows : Type 0
 NoRows =
     (kind receiver year month : ℕ) (rows id moment before after : List ℕ) → WriteCalled kind receiver year month rows id moment before after (WriteRefused 13 0)
-    → (file lent filled ownId ownMoment : List ℕ) (r : ReadAnswer) → ReadCalled file lent filled r → GivesBack kind receiver year month rows ownId ownMoment file filled r → ⊥
+    → (file lent filled own_id own_moment : List ℕ) (r : ReadAnswer) → ReadCalled file lent filled r → GivesBack kind receiver year month rows own_id own_moment file filled r → ⊥
 
 pub record RoundTrip : Type 0 where
   pub written : WrittenIsRead

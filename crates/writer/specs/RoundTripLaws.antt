@@ -24,11 +24,11 @@ use Rattle.kinds.specs.Numbers.{kind_numbered, kind_number}
 use Rattle.message.specs.Calls.{id_place, moment_place, facts_of, ReadCalled}
 use Rattle.kinds.specs.NumbersLaws.{kind-numbered, number-kind}
 use Rattle.refusals.specs.BuffersLaws.{over_first}
-use Rattle.message.specs.CallsLaws.{called_file, ReadAccepted, accepted_is, refused_is, one-reading, id_stands, moment_stands}
+use Rattle.message.specs.CallsLaws.{called-file, ReadAccepted, accepted-is, refused-is, one-reading, id-stands, moment-stands}
 use Rattle.writer.specs.Rows.{is_rows, of_month, rows_message}
 use Rattle.writer.specs.RowsLaws.{rows-message, message-rows}
 use Rattle.writer.specs.WriteCalls.{WriteCalled}
-use Rattle.writer.specs.WriteCallsLaws.{WriteAccepted, write_accepted, wrote_file, refused_rows, one-write}
+use Rattle.writer.specs.WriteCallsLaws.{WriteAccepted, write-accepted, wrote-file, refused-rows, one-write}
 use Rattle.writer.specs.RoundTrip.{id_in, moment_in, GivesBack, NoRows, RoundTrip}
 
 in-sixes : (k : Kind) (receiver year month : ℕ) (l : List ℕ) → is_rows k receiver year month l ≡ true → in_sixes l ≡ true
@@ -62,7 +62,7 @@ module _ (number receiver year month : ℕ) (rows id moment before after : List 
       → GivesBack number receiver year month rows id moment (take n after) filled r
   unfolding facts_of
   gives_back lent filled r c h =
-      let d = one-reading c (called_file (take n after) lent made [] made-read (omega (arith, made-count))) in
+      let d = one-reading c (called-file (take n after) lent made [] made-read (omega (arith, made-count))) in
       record {
         facts = facts_of made;
         answer = d.0;
@@ -72,9 +72,9 @@ module _ (number receiver year month : ℕ) (rows id moment before after : List 
         same_month = refl;
         count = made-count;
         same_rows = ap (take (6 * length (rows_in rows))) d.1 ∙ over_first (numbers (rows_in rows)) lent (6 * length (rows_in rows)) (length-numbers (rows_in rows)) ∙ made-rows;
-        same_id = ap (λ (s : List ℕ). take (length id) (drop (id_place a.kind) s)) made_bytes ∙ id_stands made;
+        same_id = ap (λ (s : List ℕ). take (length id) (drop (id_place a.kind) s)) made_bytes ∙ id-stands made;
         same_moment = ap (λ (j : ℕ). take j (drop (moment_place a.kind id) (take n after))) (sym (moment-length moment a.timed))
-            ∙ ap (λ (s : List ℕ). take (length moment) (drop (moment_place a.kind id) s)) made_bytes ∙ moment_stands made;
+            ∙ ap (λ (s : List ℕ). take (length moment) (drop (moment_place a.kind id) s)) made_bytes ∙ moment-stands made;
       }
 
 -- ---- what is read is written again
@@ -92,12 +92,12 @@ module _ (m : Message) (ok : IsMessage m) where
   again-judged =
       message-rows m.kind m.receiver m.year m.month (numbers m.rows) m.id m.moment (numbers-sixes m.rows) (subst IsMessage (sym again-is) ok)
 
-  pub message_written : (before : List ℕ) → length (message_bytes m) ≤ length before
+  pub message-written : (before : List ℕ) → length (message_bytes m) ≤ length before
       → WriteCalled (kind_number m.kind) m.receiver m.year m.month (numbers m.rows) m.id m.moment before (over (message_bytes m) before) (Bytes (length (message_bytes m)))
   unfolding contents
-  message_written before h =
+  message-written before h =
       let e : message_bytes again ≡ message_bytes m = ap message_bytes again-is in
-      let w = wrote_file (kind_number m.kind) m.receiver m.year m.month (numbers m.rows) m.id m.moment before m.kind (kind-numbered m.kind) again-judged
+      let w = wrote-file (kind_number m.kind) m.receiver m.year m.month (numbers m.rows) m.id m.moment before m.kind (kind-numbered m.kind) again-judged
       (and_both ok.file.id ok.file.moment) (omega (arith, ap length e)) in
       subst
       (λ (l : List ℕ). WriteCalled (kind_number m.kind) m.receiver m.year m.month (numbers m.rows) m.id m.moment before (over l before) (Bytes (length l)))
@@ -106,7 +106,7 @@ module _ (m : Message) (ok : IsMessage m) where
   again-written : (before after : List ℕ) (r : WriteAnswer) → WriteCalled (kind_number m.kind) m.receiver m.year m.month (numbers m.rows) m.id m.moment before after r
       → length (message_bytes m) ≤ length before → (r ≡ Bytes (length (message_bytes m))) × (take (length (message_bytes m)) after ≡ message_bytes m)
   again-written before after r c h =
-      let d = one-write c (message_written before h) in
+      let d = one-write c (message-written before h) in
       (d.0, ap (take (length (message_bytes m))) d.1 ∙ over_first (message_bytes m) before (length (message_bytes m)) refl)
 
 module _ (file lent filled : List ℕ) (facts : FileFacts) (a : ReadAccepted file lent filled facts) where
@@ -125,14 +125,14 @@ module _ (file lent filled : List ℕ) (facts : FileFacts) (a : ReadAccepted fil
   found-id : id_in facts file ≡ found.id
   unfolding facts_of
   found-id =
-      ap (λ (f : FileFacts). id_in f file) a.says ∙ ap (λ (s : List ℕ). take (length found.id) (drop (id_place found.kind) s)) found_is.0 ∙ id_stands found
+      ap (λ (f : FileFacts). id_in f file) a.says ∙ ap (λ (s : List ℕ). take (length found.id) (drop (id_place found.kind) s)) found_is.0 ∙ id-stands found
 
   found-moment : moment_in facts file ≡ found.moment
   unfolding facts_of contents
   found-moment =
       ap (λ (f : FileFacts). moment_in f file) a.says
       ∙ ap (λ (j : ℕ). take j (drop (moment_place found.kind found.id) file)) (sym (moment-length found.moment found_is.1.file.moment))
-      ∙ ap (λ (s : List ℕ). take (length found.moment) (drop (moment_place found.kind found.id) s)) found_is.0 ∙ moment_stands found
+      ∙ ap (λ (s : List ℕ). take (length found.moment) (drop (moment_place found.kind found.id) s)) found_is.0 ∙ moment-stands found
 
   found-written : (before after : List ℕ) (r : WriteAnswer)
       → WriteCalled (kind_number facts.kind) facts.receiver facts.year facts.month (take (6 * facts.rows) filled) (id_in facts file) (moment_in facts file) before after r
@@ -163,19 +163,19 @@ module _ (file lent filled : List ℕ) (facts : FileFacts) (a : ReadAccepted fil
 -- ---- both ways
 
 never-read : NoRows
-never-read number receiver year month rows id moment before after w file lent filled ownId ownMoment r c g =
+never-read number receiver year month rows id moment before after w file lent filled own_id own_moment r c g =
     let d = subst (ReadCalled file lent filled) g.answer c in
-    let j = found-judged file lent filled g.facts (accepted_is file lent filled g.facts d) number receiver year month rows g.same_kind g.same_receiver g.same_year g.same_month g.same_rows in
-    true-false (sym j.1 ∙ refused_rows number receiver year month rows id moment before after (accepted_is file lent filled g.facts d).message.kind w j.0)
+    let j = found-judged file lent filled g.facts (accepted-is file lent filled g.facts d) number receiver year month rows g.same_kind g.same_receiver g.same_year g.same_month g.same_rows in
+    true-false (sym j.1 ∙ refused-rows number receiver year month rows id moment before after (accepted-is file lent filled g.facts d).message.kind w j.0)
 
 pub round_trip : RoundTrip
 round_trip =
     record {
       written = λ number receiver year month rows id moment before after n c lent filled r d h.
-          gives_back number receiver year month rows id moment before after n (write_accepted number receiver year month rows id moment before after n c) lent filled r d h;
-      read = λ file lent filled facts c before after r d h. found-written file lent filled facts (accepted_is file lent filled facts c) before after r d h;
+          gives_back number receiver year month rows id moment before after n (write-accepted number receiver year month rows id moment before after n c) lent filled r d h;
+      read = λ file lent filled facts c before after r d h. found-written file lent filled facts (accepted-is file lent filled facts c) before after r d h;
       no_file = λ file lent filled c number receiver year month rows id moment before after n d e.
-          let a = write_accepted number receiver year month rows id moment before after n d in
-          got-bad (sym (made-read number receiver year month rows id moment before after n a) ∙ ap read_message e ∙ refused_is file lent filled c);
+          let a = write-accepted number receiver year month rows id moment before after n d in
+          got-bad (sym (made-read number receiver year month rows id moment before after n a) ∙ ap read_message e ∙ refused-is file lent filled c);
       no_rows = never-read;
     }

@@ -27,7 +27,7 @@ use Rattle.writer.specs.Order.{every, follow, ordered, by, both}
 use Rattle.writer.specs.Rows.{is_observation, is_directions, is_number, one_supply, later_directions, later, is_row, row_before, of_month, is_rows, rows_message}
 use Rattle.integers.specs.AllLaws.{all_map, all_of, all_append, all_both, all_of_map, map-all}
 use Rattle.message.specs.GroupLaws.{first_group}
-use Rattle.writer.specs.OrderLaws.{every_group, full-groups, every-all, all-every, ordered-map, ordered-both, rises-follow, keys_of, in_order, order_groups}
+use Rattle.writer.specs.OrderLaws.{every-group, full-groups, every-all, all-every, ordered-map, ordered-both, rises-follow, keys_of, in_order, order-groups}
 use Rattle.writer.specs.RowsInner.{row_at, six_at, behind}
 use Rattle.integers.specs.RisesLaws.{rises-few}
 
@@ -197,11 +197,11 @@ numbers_fit Toe03 = omega arith
 
 -- what a partner's series are, those of the directions' groups
 module _ (k : Kind) (q : ℕ × ℕ) where
-  abbrev goodPart : (ℕ × ℕ) × Observation → Bool
-  goodPart = both is_directions (is_observation (last q))
+  abbrev good_part : (ℕ × ℕ) × Observation → Bool
+  good_part = both is_directions (is_observation (last q))
 
-  abbrev beforePart : (ℕ × ℕ) × Observation → (ℕ × ℕ) × Observation → Bool
-  beforePart = by directions_keys (later_directions k) later
+  abbrev before_part : (ℕ × ℕ) × Observation → (ℕ × ℕ) × Observation → Bool
+  before_part = by directions_keys (later_directions k) later
 
   pub record PartSeries (gs : List ((ℕ × ℕ) × List Observation)) : Type 0 where
     each : All IsSeries (map (series_of q) gs)
@@ -240,16 +240,16 @@ module _ (k : Kind) (q : ℕ × ℕ) where
   few-series l v r =
       omega (arith, length-map l place, rises-few 0 4 (map place l) (omega arith) r (all_of_map (λ n. n < 4) place l (all_map (λ s h. omega (arith, h.supply, h.volume.delivery)) l v)))
 
-  partner-to : IsPeriod q.0 q.1 → (g : ℕ × List ((ℕ × ℕ) × Observation)) → both (is_number k) (every goodPart) g ≡ true → ordered beforePart g.1 ≡ true → 1 ≤ length g.1
+  partner-to : IsPeriod q.0 q.1 → (g : ℕ × List ((ℕ × ℕ) × Observation)) → both (is_number k) (every good_part) g ≡ true → ordered before_part g.1 ≡ true → 1 ≤ length g.1
       → IsPartner k (partner_of q g)
   unfolding is_number
   partner-to period g v e some =
       let h = group directions_keys g.1 in
       let s = groups-to period h (full-groups directions_keys g.1)
-      (every_group directions_keys is_directions (is_observation (last q)) g.1 ∙ and_right (is_number k g.0) (every goodPart g.1) v)
-      (order_groups directions_keys (later_directions k) later g.1 ∙ e) in
+      (every-group directions_keys is_directions (is_observation (last q)) g.1 ∙ and_right (is_number k g.0) (every good_part g.1) v)
+      (order-groups directions_keys (later_directions k) later g.1 ∙ e) in
       record {
-        number = ltb-true g.0 (10 ^ digits k) (and_left (is_number k g.0) (every goodPart g.1) v);
+        number = ltb-true g.0 (10 ^ digits k) (and_left (is_number k g.0) (every good_part g.1) v);
         counted =
             record {
               some = omega (arith, length-map h (series_of q), group-some directions_keys g.1 some);
@@ -260,12 +260,12 @@ module _ (k : Kind) (q : ℕ × ℕ) where
         one = s.one;
       }
 
-  partner-from : (g : ℕ × List ((ℕ × ℕ) × Observation)) → IsPartner k (partner_of q g) → (both (is_number k) (every goodPart) g ≡ true) × (ordered beforePart g.1 ≡ true)
+  partner-from : (g : ℕ × List ((ℕ × ℕ) × Observation)) → IsPartner k (partner_of q g) → (both (is_number k) (every good_part) g ≡ true) × (ordered before_part g.1 ≡ true)
   unfolding is_number
   partner-from g p =
       let h = groups-from (group directions_keys g.1) p.each p.rising p.one in (
-        and_both (lt-ltb g.0 (10 ^ digits k) p.number) (sym (every_group directions_keys is_directions (is_observation (last q)) g.1) ∙ h.0),
-        sym (order_groups directions_keys (later_directions k) later g.1) ∙ h.1,
+        and_both (lt-ltb g.0 (10 ^ digits k) p.number) (sym (every-group directions_keys is_directions (is_observation (last q)) g.1) ∙ h.0),
+        sym (order-groups directions_keys (later_directions k) later g.1) ∙ h.1,
       )
 
   -- ---- the partners of rows
@@ -279,27 +279,27 @@ module _ (k : Kind) (q : ℕ × ℕ) where
     pub rising : rises 0 (map number l) ≡ true
     pub fits : length l ≤ most
 
-  pub partners_to : IsPeriod q.0 q.1 → (rows : List Row) → every (is_row k (last q)) rows ≡ true → ordered (row_before k) rows ≡ true → Partners (partners_of q rows)
+  pub partners-to : IsPeriod q.0 q.1 → (rows : List Row) → every (is_row k (last q)) rows ≡ true → ordered (row_before k) rows ≡ true → Partners (partners_of q rows)
   unfolding partners_of in_order
-  partners_to period rows v e =
+  partners-to period rows v e =
       let gs = group number_keys rows in
-      let w = every_group number_keys (is_number k) goodPart rows ∙ v in
-      let o = order_groups number_keys ltb beforePart rows ∙ e in
-      let good = every-all (both (is_number k) (every goodPart)) (λ g h. h) gs w in
-      let inside = every-all (λ (g : ℕ × List ((ℕ × ℕ) × Observation)). ordered beforePart g.1) (λ g h. h) gs (and_right (ordered ltb (keys_of gs)) (every (λ g. ordered beforePart g.1) gs) o) in
+      let w = every-group number_keys (is_number k) good_part rows ∙ v in
+      let o = order-groups number_keys ltb before_part rows ∙ e in
+      let good = every-all (both (is_number k) (every good_part)) (λ g h. h) gs w in
+      let inside = every-all (λ (g : ℕ × List ((ℕ × ℕ) × Observation)). ordered before_part g.1) (λ g h. h) gs (and_right (ordered ltb (keys_of gs)) (every (λ g. ordered before_part g.1) gs) o) in
       let both = all_both _ _ gs good (all_both _ _ gs inside (full-groups number_keys rows)) in
       let each = all_of_map (IsPartner k) (partner_of q) gs (all_map (λ g h. partner-to period g h.0 h.1.0 h.1.1) gs both) in
-      let up = ap (rises 0) (map-map number (partner_of q) gs) ∙ ordered-rises 0 (keys_of gs) (from_zero (keys_of gs)) (and_left (ordered ltb (keys_of gs)) (every (λ g. ordered beforePart g.1) gs) o) in
+      let up = ap (rises 0) (map-map number (partner_of q) gs) ∙ ordered-rises 0 (keys_of gs) (from_zero (keys_of gs)) (and_left (ordered ltb (keys_of gs)) (every (λ g. ordered before_part g.1) gs) o) in
       record { each = each; rising = up; fits = few-partners (map (partner_of q) gs) each up }
 
-  pub partners_from : (rows : List Row) → All (IsPartner k) (partners_of q rows) → rises 0 (map number (partners_of q rows)) ≡ true → (every (is_row k (last q)) rows ≡ true) × (ordered (row_before k) rows ≡ true)
+  pub partners-from : (rows : List Row) → All (IsPartner k) (partners_of q rows) → rises 0 (map number (partners_of q rows)) ≡ true → (every (is_row k (last q)) rows ≡ true) × (ordered (row_before k) rows ≡ true)
   unfolding partners_of in_order
-  partners_from rows v r =
+  partners-from rows v r =
       let gs = group number_keys rows in
       let each = all_map (λ g h. partner-from g h) gs (map-all (IsPartner k) (partner_of q) gs v) in
       let up = rises-ordered 0 (keys_of gs) (sym (ap (rises 0) (map-map number (partner_of q) gs)) ∙ r) in (
-        sym (every_group number_keys (is_number k) goodPart rows) ∙ all-every (both (is_number k) (every goodPart)) (λ g h. h.0) gs each,
-        sym (order_groups number_keys ltb beforePart rows) ∙ and_both up (all-every (λ (g : ℕ × List ((ℕ × ℕ) × Observation)). ordered beforePart g.1) (λ g h. h.1) gs each),
+        sym (every-group number_keys (is_number k) good_part rows) ∙ all-every (both (is_number k) (every good_part)) (λ g h. h.0) gs each,
+        sym (order-groups number_keys ltb before_part rows) ∙ and_both up (all-every (λ (g : ℕ × List ((ℕ × ℕ) × Observation)). ordered before_part g.1) (λ g h. h.1) gs each),
       )
 
 -- ---- the file of rows
@@ -331,22 +331,22 @@ module _ (q : ℕ × ℕ) where
       s.0.volume.period
 
 module _ (k : Kind) (receiver year month : ℕ) (id moment : List ℕ) where
-  abbrev ofRows : List Row → Message
-  ofRows rows = record { kind = k; receiver = receiver; id = id; moment = moment; year = year; month = month; rows = rows }
+  abbrev of_rows : List Row → Message
+  of_rows rows = record { kind = k; receiver = receiver; id = id; moment = moment; year = year; month = month; rows = rows }
 
-  message-some : (x : Row) (rows : List Row) → receiver < 10 ^ 10 → is_transaction_id id ≡ true → is_moment moment ≡ true → of_month k year month (x ∷ rows) ≡ true → IsMessage (ofRows (x ∷ rows))
+  message-some : (x : Row) (rows : List Row) → receiver < 10 ^ 10 → is_transaction_id id ≡ true → is_moment moment ≡ true → of_month k year month (x ∷ rows) ≡ true → IsMessage (of_rows (x ∷ rows))
   unfolding contents of_month
   message-some x rows r i m e =
       let rest = and_right (is_period (year, month)) (every (is_row k (last_position year month)) (x ∷ rows) && ordered (row_before k) (x ∷ rows)) e in
       let period = to-period (year, month) (and_left (is_period (year, month)) (every (is_row k (last_position year month)) (x ∷ rows) && ordered (row_before k) (x ∷ rows)) e) in
-      let p = partners_to k (year, month) period (x ∷ rows) (and_left (every (is_row k (last_position year month)) (x ∷ rows)) (ordered (row_before k) (x ∷ rows)) rest)
+      let p = partners-to k (year, month) period (x ∷ rows) (and_left (every (is_row k (last_position year month)) (x ∷ rows)) (ordered (row_before k) (x ∷ rows)) rest)
       (and_right (every (is_row k (last_position year month)) (x ∷ rows)) (ordered (row_before k) (x ∷ rows)) rest) in
       record {
         file = record { receiver = r; id = i; moment = m; fits = p.fits; rising = p.rising; each = p.each; same = rows-months (year, month) x rows };
         none = λ z. absurd (omega (arith, z));
       }
 
-  message-of : (rows : List Row) → receiver < 10 ^ 10 → is_transaction_id id ≡ true → is_moment moment ≡ true → of_month k year month rows ≡ true → IsMessage (ofRows rows)
+  message-of : (rows : List Row) → receiver < 10 ^ 10 → is_transaction_id id ≡ true → is_moment moment ≡ true → of_month k year month rows ≡ true → IsMessage (of_rows rows)
   unfolding contents of_month partners_of group rises All periods flat_map
   message-of [] r i m e =
       record {
@@ -358,11 +358,11 @@ module _ (k : Kind) (receiver year month : ℕ) (id moment : List ℕ) where
       }
   message-of (x ∷ rows) r i m e = message-some x rows r i m e
 
-  of-message : (rows : List Row) → IsMessage (ofRows rows) → of_month k year month rows ≡ true
+  of-message : (rows : List Row) → IsMessage (of_rows rows) → of_month k year month rows ≡ true
   unfolding contents of_month
   of-message [] m = let z = m.none refl in and_both (eq-eqb year 0 z.0) (eq-eqb month 0 z.1)
   of-message (x ∷ rows) m =
-      let p = partners_from k (year, month) (x ∷ rows) m.file.each m.file.rising in
+      let p = partners-from k (year, month) (x ∷ rows) m.file.each m.file.rising in
       and_both (from-period (year, month) (first-period (year, month) k x rows m.file.each)) (and_both p.0 p.1)
 
 pub rows-message : (k : Kind) (receiver year month : ℕ) (l id moment : List ℕ) → is_rows k receiver year month l ≡ true → is_transaction_id id ≡ true → is_moment moment ≡ true

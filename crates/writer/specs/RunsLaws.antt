@@ -30,8 +30,8 @@ abbrev pub OneKey : {K A : Type 0} → (Row → K × A) → List ℕ → K → �
 OneKey f l k at r = (j : ℕ) → j < r → (f (row_at l (at + 6 * j))).0 ≡ k
 
 module _ {K A : Type 0} (f : Row → K × A) (l : List ℕ) (at : ℕ) where
-  pub one_first : OneKey f l (f (row_at l at)).0 at 1
-  one_first j g = ap (λ (p : ℕ). (f (row_at l p)).0) (omega (arith, g))
+  pub one-first : OneKey f l (f (row_at l at)).0 at 1
+  one-first j g = ap (λ (p : ℕ). (f (row_at l p)).0) (omega (arith, g))
 
   pub one_more : (k : K) (r : ℕ) → OneKey f l k at r → (f (row_at l (at + 6 * r))).0 ≡ k → OneKey f l k at (r + 1)
   one_more k r h e j g = go (ltb j r) refl
@@ -64,8 +64,8 @@ module _ {K A : Type 0} (E : Keys K) (f : Row → K × A) (l : List ℕ) where
       ∙ leading E k (f (row_at l at)) (map f (rows_from l (at + 6) r)) (map f (rows_from l (at + 6 * suc r) m)) (each k at (suc r) h) (ends k (at + 6 * suc r) m g)
 
 module _ (l : List ℕ) (at n r : ℕ) (s : 1 ≤ r) (w : r ≤ n) where
-  pub partner_run : OneKey (λ x. x) l (get_or l at 0) at r → (r < n → eqb (get_or l at 0) (get_or l (at + 6 * r) 0) ≡ false) → PartnerRun l at n r
-  partner_run h g =
+  pub partner-run : OneKey (λ x. x) l (get_or l at 0) at r → (r < n → eqb (get_or l at 0) (get_or l (at + 6 * r) 0) ≡ false) → PartnerRun l at n r
+  partner-run h g =
       record {
         some = s;
         within = w;
@@ -75,9 +75,9 @@ module _ (l : List ℕ) (at n r : ℕ) (s : 1 ≤ r) (w : r ≤ n) where
             ∙ ap₂ (λ (a : List Row) (b : List Row). (get_or l at 0, map (λ x. x.1) a) ∷ group number_keys b) (map-id (rows_from l at r)) (map-id (rows_from l (at + 6 * r) (n - r)));
       }
 
-  pub directions_run : OneKey (λ x. x.1) l (get_or l (at + 1) 0, get_or l (at + 2) 0) at r
+  pub directions-run : OneKey (λ x. x.1) l (get_or l (at + 1) 0, get_or l (at + 2) 0) at r
       → (r < n → (eqb (get_or l (at + 1) 0) (get_or l (at + 6 * r + 1) 0) && eqb (get_or l (at + 2) 0) (get_or l (at + 6 * r + 2) 0)) ≡ false) → DirectionsRun l at n r
-  directions_run h g =
+  directions-run h g =
       let k : ℕ × ℕ = (get_or l (at + 1) 0, get_or l (at + 2) 0) in
       record {
         some = s;

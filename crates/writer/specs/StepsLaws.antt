@@ -27,9 +27,9 @@ directions-other k x y e = rw e
 -- ---- a row and those behind it
 
 module _ (k : Kind) (last : ℕ) (l : List ℕ) where
-  pub six_directions : (at : ℕ) → six_at k last l at ≡ true → Directed l at
+  pub six-directions : (at : ℕ) → six_at k last l at ≡ true → Directed l at
   unfolding six_at is_directions
-  six_directions at e =
+  six-directions at e =
       let r = row_at l at in
       let a = and_left (is_row k last r) (eqb (get_or l (at + 5) 0) 0) e in
       let b = and_right (is_number k r.0) (is_directions r.1.0 && is_observation last r.1.1) a in
@@ -39,23 +39,23 @@ module _ (k : Kind) (last : ℕ) (l : List ℕ) where
         delivery = ltb-true r.1.0.1 2 (and_right (ltb r.1.0.0 2) (ltb r.1.0.1 2) p);
       }
 
-  pub behind_none : (at n : ℕ) → n ≡ 0 → behind k last l at n ≡ true
+  pub behind-none : (at n : ℕ) → n ≡ 0 → behind k last l at n ≡ true
   unfolding behind
-  behind_none at n e = rw e
+  behind-none at n e = rw e
 
-  pub behind_not_six : (at n : ℕ) → 1 ≤ n → six_at k last l (at + 6) ≡ false → behind k last l at n ≡ false
+  pub behind-not-six : (at n : ℕ) → 1 ≤ n → six_at k last l (at + 6) ≡ false → behind k last l at n ≡ false
   unfolding behind
-  behind_not_six at zero h e = absurd (omega arith)
-  behind_not_six at (suc n) h e = rw e
+  behind-not-six at zero h e = absurd (omega arith)
+  behind-not-six at (suc n) h e = rw e
 
-  pub behind_not_before : (at n : ℕ) → 1 ≤ n → six_at k last l (at + 6) ≡ true → row_before k (row_at l at) (row_at l (at + 6)) ≡ false → behind k last l at n ≡ false
+  pub behind-not-before : (at n : ℕ) → 1 ≤ n → six_at k last l (at + 6) ≡ true → row_before k (row_at l at) (row_at l (at + 6)) ≡ false → behind k last l at n ≡ false
   unfolding behind
-  behind_not_before at zero h e f = absurd (omega arith)
-  behind_not_before at (suc n) h e f = ap (λ (b : Bool). (b && row_before k (row_at l at) (row_at l (at + 6))) && behind k last l (at + 6) n) e ∙ ap (λ (b : Bool). b && behind k last l (at + 6) n) f
+  behind-not-before at zero h e f = absurd (omega arith)
+  behind-not-before at (suc n) h e f = ap (λ (b : Bool). (b && row_before k (row_at l at) (row_at l (at + 6))) && behind k last l (at + 6) n) e ∙ ap (λ (b : Bool). b && behind k last l (at + 6) n) f
 
-  pub behind_next : (at n m : ℕ) → n ≡ suc m → six_at k last l (at + 6) ≡ true → row_before k (row_at l at) (row_at l (at + 6)) ≡ true → behind k last l at n ≡ behind k last l (at + 6) m
+  pub behind-next : (at n m : ℕ) → n ≡ suc m → six_at k last l (at + 6) ≡ true → row_before k (row_at l at) (row_at l (at + 6)) ≡ true → behind k last l at n ≡ behind k last l (at + 6) m
   unfolding behind
-  behind_next at n m h e f =
+  behind-next at n m h e f =
       ap (behind k last l at) h ∙ ap (λ (b : Bool). (b && row_before k (row_at l at) (row_at l (at + 6))) && behind k last l (at + 6) m) e
       ∙ ap (λ (b : Bool). b && behind k last l (at + 6) m) f
 
@@ -67,13 +67,13 @@ past false true c = refl
 past false false c = refl
 
 module _ (k : Kind) (receiver year month : ℕ) (l : List ℕ) where
-  pub rows_far : 9999999999 < receiver → is_rows k receiver year month l ≡ false
+  pub rows-far : 9999999999 < receiver → is_rows k receiver year month l ≡ false
   unfolding is_rows
-  rows_far h = rw (le-ltb receiver (10 ^ 10) (omega arith))
+  rows-far h = rw (le-ltb receiver (10 ^ 10) (omega arith))
 
-  pub rows_odd : receiver ≤ 9999999999 → (length l % 6 ≡ 0 → ⊥) → is_rows k receiver year month l ≡ false
+  pub rows-odd : receiver ≤ 9999999999 → (length l % 6 ≡ 0 → ⊥) → is_rows k receiver year month l ≡ false
   unfolding is_rows in_sixes
-  rows_odd h n = rw (lt-ltb receiver (10 ^ 10) (omega arith), ne_eqb (length l % 6) 0 n)
+  rows-odd h n = rw (lt-ltb receiver (10 ^ 10) (omega arith), ne_eqb (length l % 6) 0 n)
 
   pub rows_none : receiver ≤ 9999999999 → length l ≡ 0 → is_rows k receiver year month l ≡ (eqb year 0 && eqb month 0)
   unfolding is_rows in_sixes rows_in rows_from zeros of_month
@@ -88,10 +88,10 @@ module _ (k : Kind) (receiver year month : ℕ) (l : List ℕ) where
       (every (is_row k (last_position year month)) (rows_from l 0 (suc n)) && follow (row_before k) (row_at l 0) (rows_from l 6 n))
       ∙ ap (λ (b : Bool). is_period (year, month) && b) (rows_behind k (last_position year month) l 0 n)
 
-  pub rows_some : receiver ≤ 9999999999 → length l % 6 ≡ 0 → 6 ≤ length l
+  pub rows-some : receiver ≤ 9999999999 → length l % 6 ≡ 0 → 6 ≤ length l
       → is_rows k receiver year month l ≡ (is_period (year, month) && (six_at k (last_position year month) l 0 && behind k (last_position year month) l 0 (length l / 6 - 1)))
   unfolding is_rows in_sixes rows_in
-  rows_some h w s =
+  rows-some h w s =
       ap (λ (b : Bool). b && ((eqb (length l % 6) 0 && zeros l 0 (length l / 6)) && of_month k year month (rows_from l 0 (length l / 6)))) (lt-ltb receiver (10 ^ 10) (omega arith))
       ∙ ap (λ (b : Bool). (b && zeros l 0 (length l / 6)) && of_month k year month (rows_from l 0 (length l / 6))) (eq-eqb (length l % 6) 0 w)
       ∙ pieces (length l / 6) (length l / 6 - 1) (omega arith)

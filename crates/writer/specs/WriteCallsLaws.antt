@@ -20,35 +20,35 @@ use Rattle.writer.specs.WriteCalls.{text_from, write_refusal, write_says, write_
 
 module _ (number receiver year month : ℕ) (rows id moment before : List ℕ) where
   -- 12 for the kind
-  pub wrote_no_kind : kind_numbered number ≡ none → WriteCalled number receiver year month rows id moment before before (Refused 12 0)
+  pub wrote-no-kind : kind_numbered number ≡ none → WriteCalled number receiver year month rows id moment before before (Refused 12 0)
   unfolding write_answer write_refusal write_says afterwards
-  wrote_no_kind k = record { answer = rw k; file = rw k }
+  wrote-no-kind k = record { answer = rw k; file = rw k }
 
   module _ (kind : Kind) (k : kind_numbered number ≡ some kind) where
     -- 13
-    pub wrote_no_rows : is_rows kind receiver year month rows ≡ false → WriteCalled number receiver year month rows id moment before before (Refused 13 0)
+    pub wrote-no-rows : is_rows kind receiver year month rows ≡ false → WriteCalled number receiver year month rows id moment before before (Refused 13 0)
     unfolding write_answer write_refusal write_says afterwards
-    wrote_no_rows f = record { answer = rw (k, f); file = rw (k, f) }
+    wrote-no-rows f = record { answer = rw (k, f); file = rw (k, f) }
 
     module _ (r : is_rows kind receiver year month rows ≡ true) where
       -- 12 for ID or moment
-      pub wrote_malformed : (is_transaction_id id && is_moment moment) ≡ false → WriteCalled number receiver year month rows id moment before before (Refused 12 0)
+      pub wrote-malformed : (is_transaction_id id && is_moment moment) ≡ false → WriteCalled number receiver year month rows id moment before before (Refused 12 0)
       unfolding write_answer write_refusal write_says afterwards
-      wrote_malformed f = record { answer = rw (k, r, f); file = rw (k, r, f) }
+      wrote-malformed f = record { answer = rw (k, r, f); file = rw (k, r, f) }
 
       module _ (g : (is_transaction_id id && is_moment moment) ≡ true) where
         -- 10
-        pub wrote_short : length before < length (message_bytes (rows_message kind receiver year month rows id moment))
+        pub wrote-short : length before < length (message_bytes (rows_message kind receiver year month rows id moment))
             → WriteCalled number receiver year month rows id moment before before (Refused 10 1)
         unfolding write_answer write_refusal write_says afterwards
-        wrote_short h = let f = lt-leb (length (message_bytes (rows_message kind receiver year month rows id moment))) (length before) h in record { answer = rw (k, r, g, f); file = rw (k, r, g, f) }
+        wrote-short h = let f = lt-leb (length (message_bytes (rows_message kind receiver year month rows id moment))) (length before) h in record { answer = rw (k, r, g, f); file = rw (k, r, g, f) }
 
         -- the file
-        pub wrote_file : length (message_bytes (rows_message kind receiver year month rows id moment)) ≤ length before
+        pub wrote-file : length (message_bytes (rows_message kind receiver year month rows id moment)) ≤ length before
             → WriteCalled number receiver year month rows id moment before (over (message_bytes (rows_message kind receiver year month rows id moment)) before)
             (Bytes (length (message_bytes (rows_message kind receiver year month rows id moment))))
         unfolding write_answer write_refusal text_from write_says afterwards
-        wrote_file h = let f = le-leb (length (message_bytes (rows_message kind receiver year month rows id moment))) (length before) h in record { answer = rw (k, r, g, f); file = rw (k, r, g, f) }
+        wrote-file h = let f = le-leb (length (message_bytes (rows_message kind receiver year month rows id moment))) (length before) h in record { answer = rw (k, r, g, f); file = rw (k, r, g, f) }
 
 -- ---- from the record to what was written
 
@@ -90,9 +90,9 @@ module _ (number receiver year month : ℕ) (rows id moment before after : List 
   taken-call (some kind) k w f =
       taken-kind kind k (is_rows kind receiver year month rows) (is_transaction_id id && is_moment moment) (leb (length (made kind)) (length before)) refl refl w f
 
-  pub write_accepted : WriteCalled number receiver year month rows id moment before after (Bytes n) → WriteAccepted number receiver year month rows id moment before after n
+  pub write-accepted : WriteCalled number receiver year month rows id moment before after (Bytes n) → WriteAccepted number receiver year month rows id moment before after n
   unfolding write_answer
-  write_accepted c = taken-call (kind_numbered number) refl c.answer c.file
+  write-accepted c = taken-call (kind_numbered number) refl c.answer c.file
 
 -- 13 is answered of rows that are no file's only
 module _ (number receiver year month : ℕ) (rows id moment before after : List ℕ) (kind : Kind) where
@@ -103,9 +103,9 @@ module _ (number receiver year month : ℕ) (rows id moment before after : List 
   no_rows true true false count e = let z : ◌≡◌ {A = ℕ} 13 10 = cc in absurd (omega arith)
   no_rows true true true count e = let z : ◌≡◌ {A = ℕ} 0 1 = cc in absurd (omega arith)
 
-  pub refused_rows : WriteCalled number receiver year month rows id moment before after (Refused 13 0) → kind_numbered number ≡ some kind → is_rows kind receiver year month rows ≡ false
+  pub refused-rows : WriteCalled number receiver year month rows id moment before after (Refused 13 0) → kind_numbered number ≡ some kind → is_rows kind receiver year month rows ≡ false
   unfolding write_answer write_refusal text_from
-  refused_rows c k =
+  refused-rows c k =
       let bytes = message_bytes (rows_message kind receiver year month rows id moment) in
       no_rows (is_rows kind receiver year month rows) (is_transaction_id id && is_moment moment) (leb (length bytes) (length before)) (length bytes)
       (c.answer ∙ ap (λ (o : Option Kind). write_says (write_refusal o receiver year month rows id moment (length before)) (length (text_from o receiver year month rows id moment))) k)

@@ -2,7 +2,7 @@
 use Rattle.cursor.proofs.Walk.{triple_of, entered, cited, tables, tables_of, ◌≡◌, ap}
 use denote.Struct.Laws as LL
 use Rattle.cursor.specs.MovesInner.{past_fixed}
-use Rattle.cursor.proofs.Thin.{Answer, number, gives_meets}
+use Rattle.cursor.proofs.Thin.{Answer, number, gives-meets}
 use Rattle.cursor.specs.contracts.Read as T-Read
 use Rattle.cursor.proofs.Read.TheLaws as L-Read
 use Rattle.cursor.specs.contracts.fixed_by as callee
@@ -32,6 +32,6 @@ unfolding code.routine tables_of
 past-fixed-spec 𝓤 𝓛 𝓜 𝓡 =
     entered 𝓤 𝓛.H (triple_of 𝓛 me.signature (me.spec 𝓛 𝓜.mem 𝓡.run))
     (tables 𝓤 𝓛.H 𝓜 𝓡 code.env).C (tables 𝓤 𝓛.H 𝓜 𝓡 code.env).Λ #me code.function (code.unfolded 𝓤 𝓛.H 𝓜 𝓡)
-    (gives_meets number number answer (λ s x h r. r ≡ past_fixed s x h) (λ s x h h' r. (h' ≡ (past_fixed s x h).to) × (r ≡ (past_fixed s x h).value)) (λ s x h r e. (ap (λ z. z.to) e, ap (λ z. z.value) e)) #callee
+    (gives-meets number number answer (λ s x h r. r ≡ past_fixed s x h) (λ s x h h' r. (h' ≡ (past_fixed s x h).to) × (r ≡ (past_fixed s x h).value)) (λ s x h r e. (ap (λ z. z.to) e, ap (λ z. z.value) e)) #callee
     𝓛 (tables_of 𝓤 𝓛.H 𝓜 (tables 𝓤 𝓛.H 𝓜 𝓡 code.env))
     (cited 𝓤 𝓛.H (triple_of 𝓛 callee.signature (callee.spec 𝓛 𝓜.mem 𝓡.run)) 𝓜 𝓡 code.env #callee callee-def.routine code.calls-cursor::fixed-by (callee-thm.met 𝓤 𝓛 𝓜 𝓡)))

@@ -9,7 +9,7 @@ use Rattle.text.specs.Ascii.{bytes}
 use Rattle.cursor.specs.declared.Cursor.{Cursor}
 use Rattle.cursor.specs.MovesInner.{past_tag, past_fixed}
 use Rattle.cursor.proofs.Lent.{R, sv, By, by-ref}
-use Rattle.cursor.proofs.Lit.{lit_typed, lits, lit-at, lends_lit, lit_back}
+use Rattle.cursor.proofs.Lit.{lit-typed, lits, lit-at, lends-lit, lit-back}
 use Rattle.cursor.proofs.Call_past_tag as call-tag
 use Rattle.cursor.proofs.past_tag.Symbol as tag-def
 use Rattle.cursor.proofs.past_tag.Symbol.{name as #tag}
@@ -79,11 +79,11 @@ module _ {M : Type 1} {𝓤 : Ura M} (𝓛 : Logic 𝓤) (at_mem : Memory → SP
         qed 𝓛 ((‵ (flft κ q) ⊛ ‵ (flft κ₁ q₁) ⊛ ‵ ftrue) ∷ ‵ (owns (MutRef (named 0) κ R ∷ ShrSlice (named 1) κ₁ u8 ∷ []) a vals) ∷ []) ∵ enter ! C Λ code.function (vptr b o ∷ sv s ∷ []) _ $
         alloc1 ! (λ l₀. alloc1 ! (λ l₁. alloc1 ! (λ l₂. alloc1 ! (λ l₃. alloc1 ! (λ l₄. alloc1 ! (λ l₅. alloc1 ! (λ l₆. alloc1 ! (λ l₇. alloc1 ! (λ l₈. alloc1 ! (λ l₉. alloc1 ! (λ l₁₀. alloc1 ! (λ l₁₁. alloc1 ! (λ l₁₂. alloc1 ! (λ l₁₃. alloc1 ! (λ l₁₄. alloc1 ! (λ l₁₅. alloc0 ! $ params1 ! $
         pass1 ! (init ! 28 refl (tt, tt)) $ pass1 ! (init ! 26 refl (tt, (tt, (record { fits = is-s.0.1.0 }, tt)))) $ pass0 ! $
-        assigns ! (agg ! (lits 𝓛 (bytes "<PeriodStart>") tt)) (from ! (stop !)) (init ! 20 refl (lit_typed 𝓛 (bytes "<PeriodStart>") tt)) $
-        assigns ! (agg ! (lits 𝓛 (bytes "-") tt)) (from ! (stop !)) (init ! 18 refl (lit_typed 𝓛 (bytes "-") tt)) $
+        assigns ! (agg ! (lits 𝓛 (bytes "<PeriodStart>") tt)) (from ! (stop !)) (init ! 20 refl (lit-typed 𝓛 (bytes "<PeriodStart>") tt)) $
+        assigns ! (agg ! (lits 𝓛 (bytes "-") tt)) (from ! (stop !)) (init ! 18 refl (lit-typed 𝓛 (bytes "-") tt)) $
         move ! (33 ∷ []) $ fsplit ! $ move ! (1 ∷ []) $ fsplit ! $ move ! (35 ∷ []) $ split ! $ move ! (1 ∷ []) $ split ! $ move ! (5 ∷ 2 ∷ []) $ join ! $
-        lft_new ! tt (λ ν. move ! (26 ∷ []) $ lends_lit 𝓛 tt ν l₅ (bytes "<PeriodStart>") tt (lit< tt, lit< tt) (λ δ₅.
-        move ! (26 ∷ []) $ lends_lit 𝓛 tt ν l₆ (bytes "-") tt (lit< tt, lit< tt) (λ δ₆.
+        lft_new ! tt (λ ν. move ! (26 ∷ []) $ lends-lit 𝓛 tt ν l₅ (bytes "<PeriodStart>") tt (lit< tt, lit< tt) (λ δ₅.
+        move ! (26 ∷ []) $ lends-lit 𝓛 tt ν l₆ (bytes "-") tt (lit< tt, lit< tt) (λ δ₆.
         assigns ! (addr ! (from ! (hop ! (look ! 36 refl) (stop !)))) (from ! (stop !)) (init ! 24 refl (tt, tt)) $
         assigns ! (addr ! (from ! (stop !))) (from ! (stop !)) (init ! 22 refl (tt, tt)) $
         assigns ! (agg ! (and_then ! (load ! (from ! (stop !)) (look ! 22 refl)) (and_then ! (lit ! tt) (no_more !)))) (from ! (stop !)) (init ! 20 refl (tt, (tt, (record { fits = lit< tt }, tt)))) $
@@ -101,8 +101,8 @@ module _ {M : Type 1} {𝓤 : Ura M} (𝓛 : Logic 𝓤) (at_mem : Memory → SP
         move ! (0 ∷ 1 ∷ 3 ∷ []) $
         call-fixed.calls 𝓛 fm at_mem run known-fixed (by-ref 𝓛 κ q (b, o) γ) h₃ κ₁ q₁ s 2 (lit< tt) (λ _ _ _. and_then ! (load ! (from ! (stop !)) (look ! 10 refl)) (and_then ! (load ! (from ! (stop !)) (look ! 34 refl)) (and_then ! (lit ! tt) (no_more !)))) (λ fits₄. land ! (from ! (stop !)) (init ! 30 refl (tt, record { fits = fits₄ })) $
         assigns ! (agg ! (and_then ! (load ! (from ! (stop !)) (look ! 32 refl)) (and_then ! (load ! (from ! (stop !)) (look ! 30 refl)) (no_more !)))) (from ! (stop !)) (init ! 38 refl ((LL.lawful T-MonthFound.the_type L-MonthFound.the_laws 𝓛).typed made₀ _ (made₀-is fits₂ fits₄)).0) $
-        move ! (3 ∷ []) $ lft_end ! tt $ move ! (0 ∷ 7 ∷ []) $ lit_back 𝓛 tt ν l₅ (bytes "<PeriodStart>") (
-        move ! (1 ∷ 7 ∷ []) $ lit_back 𝓛 tt ν l₆ (bytes "-") (
+        move ! (3 ∷ []) $ lft_end ! tt $ move ! (0 ∷ 7 ∷ []) $ lit-back 𝓛 tt ν l₅ (bytes "<PeriodStart>") (
+        move ! (1 ∷ 7 ∷ []) $ lit-back 𝓛 tt ν l₆ (bytes "-") (
         returns ! (look ! 38 refl) $
         forget ! 38 refl $ forget ! 36 refl $ forget ! 34 refl $ forget ! 32 refl $ forget ! 30 refl $ forget ! 2 refl $ forget ! 0 refl $ forget ! 26 refl $ forget ! 24 refl $ forget ! 22 refl $ forget ! 20 refl $ forget ! 18 refl $ forget ! 16 refl $ forget ! 14 refl $ forget ! 12 refl $ forget ! 10 refl $
         move ! (38 ∷ 39 ∷ []) $ free1 ! $ move ! (36 ∷ 37 ∷ []) $ free1 ! $ move ! (34 ∷ 35 ∷ []) $ free1 ! $ move ! (32 ∷ 33 ∷ []) $ free1 ! $ move ! (30 ∷ 31 ∷ []) $ free1 ! $ move ! (2 ∷ 29 ∷ []) $ free1 ! $ move ! (0 ∷ 27 ∷ []) $ free1 ! $ move ! (24 ∷ 25 ∷ []) $ free1 ! $ move ! (22 ∷ 23 ∷ []) $ free1 ! $ move ! (20 ∷ 21 ∷ []) $ free1 ! $ move ! (18 ∷ 19 ∷ []) $ free1 ! $ move ! (16 ∷ 17 ∷ []) $ free1 ! $ move ! (14 ∷ 15 ∷ []) $ free1 ! $ move ! (12 ∷ 13 ∷ []) $ free1 ! $ move ! (10 ∷ 11 ∷ []) $ free1 ! $ move ! (8 ∷ 9 ∷ []) $ free1 ! $ free0 ! $

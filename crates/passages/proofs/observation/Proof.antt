@@ -9,7 +9,7 @@ use Rattle.text.specs.Ascii.{bytes}
 use Rattle.cursor.specs.declared.Cursor.{Cursor}
 use Rattle.cursor.specs.MovesInner.{past_tag, past_number, past_fixed}
 use Rattle.cursor.proofs.Lent.{R, sv, By, by-ref}
-use Rattle.cursor.proofs.Lit.{lit_typed, lits, big_lit, lit-at, lends_lit, lit_back}
+use Rattle.cursor.proofs.Lit.{lit-typed, lits, big-lit, lit-at, lends-lit, lit-back}
 use Rattle.cursor.proofs.Call_past_tag as call-tag
 use Rattle.cursor.proofs.past_tag.Symbol as tag-def
 use Rattle.cursor.proofs.past_tag.Symbol.{name as #tag}
@@ -93,14 +93,14 @@ module _ {M : Type 1} {𝓤 : Ura M} (𝓛 : Logic 𝓤) (at_mem : Memory → SP
         alloc1 ! (λ l₀. alloc1 ! (λ l₁. alloc1 ! (λ l₂. alloc1 ! (λ l₃. alloc1 ! (λ l₄. alloc1 ! (λ l₅. alloc1 ! (λ l₆. alloc1 ! (λ l₇. alloc1 ! (λ l₈. alloc1 ! (λ l₉. alloc1 ! (λ l₁₀. alloc1 ! (λ l₁₁. alloc1 ! (λ l₁₂. alloc1 ! (λ l₁₃. alloc1 ! (λ l₁₄. alloc1 ! (λ l₁₅. alloc1 ! (λ l₁₆. alloc1 ! (λ l₁₇. alloc1 ! (λ l₁₈. alloc1 ! (λ l₁₉. alloc1 ! (λ l₂₀. alloc1 ! (λ l₂₁. alloc0 ! $ params1 ! $
         pass1 ! (init ! 40 refl (tt, tt)) $ pass1 ! (init ! 38 refl (tt, (tt, (record { fits = is-s.0.1.0 }, tt)))) $ pass0 ! $
         -- the literals are made, and the parameters are taken apart
-        assigns ! (agg ! (lits 𝓛 (bytes "<Observation><Position>") tt)) (from ! (stop !)) (init ! 30 refl (lit_typed 𝓛 (bytes "<Observation><Position>") tt)) $
-        assigns ! (agg ! (lits 𝓛 (bytes "/Position><Quantity>") tt)) (from ! (stop !)) (init ! 28 refl (lit_typed 𝓛 (bytes "/Position><Quantity>") tt)) $
-        assigns ! (agg ! (lits 𝓛 (bytes "</Quantity></Observation>") tt)) (from ! (stop !)) (init ! 26 refl (lit_typed 𝓛 (bytes "</Quantity></Observation>") tt)) $
+        assigns ! (agg ! (lits 𝓛 (bytes "<Observation><Position>") tt)) (from ! (stop !)) (init ! 30 refl (lit-typed 𝓛 (bytes "<Observation><Position>") tt)) $
+        assigns ! (agg ! (lits 𝓛 (bytes "/Position><Quantity>") tt)) (from ! (stop !)) (init ! 28 refl (lit-typed 𝓛 (bytes "/Position><Quantity>") tt)) $
+        assigns ! (agg ! (lits 𝓛 (bytes "</Quantity></Observation>") tt)) (from ! (stop !)) (init ! 26 refl (lit-typed 𝓛 (bytes "</Quantity></Observation>") tt)) $
         move ! (45 ∷ []) $ fsplit ! $ move ! (1 ∷ []) $ fsplit ! $ move ! (47 ∷ []) $ split ! $ move ! (1 ∷ []) $ split ! $ move ! (5 ∷ 2 ∷ []) $ join ! $
         -- the literals are lent for a lifetime
-        lft_new ! tt (λ ν. move ! (36 ∷ []) $ lends_lit 𝓛 tt ν l₆ (bytes "<Observation><Position>") tt (lit< tt, lit< tt) (λ δ₆.
-        move ! (36 ∷ []) $ lends_lit 𝓛 tt ν l₇ (bytes "/Position><Quantity>") tt (lit< tt, lit< tt) (λ δ₇.
-        move ! (36 ∷ []) $ lends_lit 𝓛 tt ν l₈ (bytes "</Quantity></Observation>") tt (lit< tt, lit< tt) (λ δ₈.
+        lft_new ! tt (λ ν. move ! (36 ∷ []) $ lends-lit 𝓛 tt ν l₆ (bytes "<Observation><Position>") tt (lit< tt, lit< tt) (λ δ₆.
+        move ! (36 ∷ []) $ lends-lit 𝓛 tt ν l₇ (bytes "/Position><Quantity>") tt (lit< tt, lit< tt) (λ δ₇.
+        move ! (36 ∷ []) $ lends-lit 𝓛 tt ν l₈ (bytes "</Quantity></Observation>") tt (lit< tt, lit< tt) (λ δ₈.
         -- call 1
         assigns ! (addr ! (from ! (hop ! (look ! 49 refl) (stop !)))) (from ! (stop !)) (init ! 34 refl (tt, tt)) $
         assigns ! (addr ! (from ! (stop !))) (from ! (stop !)) (init ! 32 refl (tt, tt)) $ assigns ! (agg ! (and_then ! (load ! (from ! (stop !)) (look ! 32 refl)) (and_then ! (lit ! tt) (no_more !)))) (from ! (stop !)) (init ! 30 refl (tt, (tt, (record { fits = lit< tt }, tt)))) $
@@ -118,7 +118,7 @@ module _ {M : Type 1} {𝓤 : Ura M} (𝓛 : Logic 𝓤) (at_mem : Memory → SP
         -- call 4
         assigns ! (addr ! (from ! (hop ! (look ! 49 refl) (stop !)))) (from ! (stop !)) (init ! 20 refl (tt, tt)) $
         move ! (0 ∷ 1 ∷ 3 ∷ []) $
-        call-number.calls 𝓛 fm at_mem run known-number (by-ref 𝓛 κ q (b, o) γ) h₃ κ₁ q₁ s 46 999999999 (lit< tt) (lit< tt) (λ _ _ _. and_then ! (load ! (from ! (stop !)) (look ! 20 refl)) (and_then ! (load ! (from ! (stop !)) (look ! 47 refl)) (and_then ! (lit ! tt) (and_then ! (big_lit 𝓛 (record { fits = lit< tt })) (no_more !))))) (λ fits₄. land ! (from ! (stop !)) (init ! 43 refl (tt, record { fits = fits₄ })) $
+        call-number.calls 𝓛 fm at_mem run known-number (by-ref 𝓛 κ q (b, o) γ) h₃ κ₁ q₁ s 46 999999999 (lit< tt) (lit< tt) (λ _ _ _. and_then ! (load ! (from ! (stop !)) (look ! 20 refl)) (and_then ! (load ! (from ! (stop !)) (look ! 47 refl)) (and_then ! (lit ! tt) (and_then ! (big-lit 𝓛 (record { fits = lit< tt })) (no_more !))))) (λ fits₄. land ! (from ! (stop !)) (init ! 43 refl (tt, record { fits = fits₄ })) $
         -- call 5
         assigns ! (addr ! (from ! (hop ! (look ! 49 refl) (stop !)))) (from ! (stop !)) (init ! 18 refl (tt, tt)) $
         call-fixed.calls 𝓛 fm at_mem run known-fixed (by-ref 𝓛 κ q (b, o) γ) h₄ κ₁ q₁ s 3 (lit< tt) (λ _ _ _. and_then ! (load ! (from ! (stop !)) (look ! 18 refl)) (and_then ! (load ! (from ! (stop !)) (look ! 47 refl)) (and_then ! (lit ! tt) (no_more !)))) (λ fits₅. land ! (from ! (stop !)) (init ! 41 refl (tt, record { fits = fits₅ })) $
@@ -130,9 +130,9 @@ module _ {M : Type 1} {𝓤 : Ura M} (𝓛 : Logic 𝓤) (at_mem : Memory → SP
         -- what was found is put together
         assigns ! (agg ! (and_then ! (load ! (from ! (stop !)) (look ! 45 refl)) (and_then ! (load ! (from ! (stop !)) (look ! 43 refl)) (and_then ! (load ! (from ! (stop !)) (look ! 41 refl)) (no_more !))))) (from ! (stop !)) (init ! 51 refl ((LL.lawful N.the_type N'.the_laws 𝓛).typed found _ (found_is fits₂ fits₄ fits₅)).0) $
         -- the lifetimes are ended, and the literals' locals come back
-        move ! (2 ∷ []) $ lft_end ! tt $ move ! (0 ∷ 9 ∷ []) $ lit_back 𝓛 tt ν l₆ (bytes "<Observation><Position>") (
-        move ! (1 ∷ 9 ∷ []) $ lit_back 𝓛 tt ν l₇ (bytes "/Position><Quantity>") (
-        move ! (1 ∷ 9 ∷ []) $ lit_back 𝓛 tt ν l₈ (bytes "</Quantity></Observation>") (
+        move ! (2 ∷ []) $ lft_end ! tt $ move ! (0 ∷ 9 ∷ []) $ lit-back 𝓛 tt ν l₆ (bytes "<Observation><Position>") (
+        move ! (1 ∷ 9 ∷ []) $ lit-back 𝓛 tt ν l₇ (bytes "/Position><Quantity>") (
+        move ! (1 ∷ 9 ∷ []) $ lit-back 𝓛 tt ν l₈ (bytes "</Quantity></Observation>") (
         returns ! (look ! 51 refl) $
         forget ! 51 refl $ forget ! 49 refl $ forget ! 47 refl $ forget ! 45 refl $ forget ! 43 refl $ forget ! 41 refl $ forget ! 3 refl $ forget ! 2 refl $ forget ! 0 refl $ forget ! 36 refl $ forget ! 34 refl $ forget ! 32 refl $ forget ! 30 refl $ forget ! 28 refl $ forget ! 26 refl $ forget ! 24 refl $ forget ! 22 refl $ forget ! 20 refl $ forget ! 18 refl $ forget ! 16 refl $ forget ! 14 refl $ forget ! 12 refl $
         move ! (51 ∷ 52 ∷ []) $ free1 ! $ move ! (49 ∷ 50 ∷ []) $ free1 ! $ move ! (47 ∷ 48 ∷ []) $ free1 ! $ move ! (45 ∷ 46 ∷ []) $ free1 ! $ move ! (43 ∷ 44 ∷ []) $ free1 ! $ move ! (41 ∷ 42 ∷ []) $ free1 ! $ move ! (3 ∷ 40 ∷ []) $ free1 ! $ move ! (2 ∷ 38 ∷ []) $ free1 ! $ move ! (0 ∷ 36 ∷ []) $ free1 ! $ move ! (33 ∷ 34 ∷ []) $ free1 ! $ move ! (31 ∷ 32 ∷ []) $ free1 ! $ move ! (29 ∷ 30 ∷ []) $ free1 ! $ move ! (27 ∷ 28 ∷ []) $ free1 ! $ move ! (25 ∷ 26 ∷ []) $ free1 ! $ move ! (23 ∷ 24 ∷ []) $ free1 ! $ move ! (21 ∷ 22 ∷ []) $ free1 ! $ move ! (19 ∷ 20 ∷ []) $ free1 ! $ move ! (17 ∷ 18 ∷ []) $ free1 ! $ move ! (15 ∷ 16 ∷ []) $ free1 ! $ move ! (13 ∷ 14 ∷ []) $ free1 ! $ move ! (11 ∷ 12 ∷ []) $ free1 ! $ move ! (9 ∷ 10 ∷ []) $ free1 ! $ free0 ! $

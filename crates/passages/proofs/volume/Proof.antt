@@ -9,8 +9,8 @@ use Rattle.text.specs.Ascii.{bytes}
 use Rattle.cursor.specs.declared.Cursor.{Cursor}
 use Rattle.cursor.specs.MovesInner.{past_tag, past_word, past_counter}
 use Rattle.cursor.proofs.Lent.{R, sv, ref-at, By, by-ref}
-use Rattle.cursor.proofs.Lends.{Fits, a-number, calls_bare}
-use Rattle.cursor.proofs.Lit.{lit_typed, lits, lit-at, lends_lit, lit_back}
+use Rattle.cursor.proofs.Lends.{Fits, a-number, calls-bare}
+use Rattle.cursor.proofs.Lit.{lit-typed, lits, lit-at, lends-lit, lit-back}
 use Rattle.cursor.proofs.Call_past_tag as call-tag
 use Rattle.cursor.proofs.past_tag.Symbol as tag-def
 use Rattle.cursor.proofs.past_tag.Symbol.{name as #tag}
@@ -84,17 +84,17 @@ module _ {M : Type 1} {𝓤 : Ura M} (𝓛 : Logic 𝓤) (at_mem : Memory → SP
         qed 𝓛 ((‵ (flft κ q) ⊛ ‵ (flft κ₁ q₁) ⊛ ‵ ftrue) ∷ ‵ (owns (MutRef (named 0) κ R ∷ ShrSlice (named 1) κ₁ u8 ∷ []) a vals) ∷ []) ∵ enter ! C Λ code.function (vptr b o ∷ sv s ∷ []) _ $
         alloc1 ! (λ l₀. alloc1 ! (λ l₁. alloc1 ! (λ l₂. alloc1 ! (λ l₃. alloc1 ! (λ l₄. alloc1 ! (λ l₅. alloc1 ! (λ l₆. alloc1 ! (λ l₇. alloc1 ! (λ l₈. alloc1 ! (λ l₉. alloc1 ! (λ l₁₀. alloc1 ! (λ l₁₁. alloc1 ! (λ l₁₂. alloc1 ! (λ l₁₃. alloc1 ! (λ l₁₄. alloc1 ! (λ l₁₅. alloc1 ! (λ l₁₆. alloc1 ! (λ l₁₇. alloc1 ! (λ l₁₈. alloc1 ! (λ l₁₉. alloc1 ! (λ l₂₀. alloc1 ! (λ l₂₁. alloc1 ! (λ l₂₂. alloc1 ! (λ l₂₃. alloc1 ! (λ l₂₄. alloc1 ! (λ l₂₅. alloc0 ! $ params1 ! $
         pass1 ! (init ! 48 refl (tt, tt)) $ pass1 ! (init ! 46 refl (tt, (tt, (record { fits = is-s.0.1.0 }, tt)))) $ pass0 ! $
-        assigns ! (agg ! (lits 𝓛 (bytes "<DeliveryDirection>") tt)) (from ! (stop !)) (init ! 40 refl (lit_typed 𝓛 (bytes "<DeliveryDirection>") tt)) $
-        assigns ! (agg ! (lits 𝓛 (bytes "DeliveryUp") tt)) (from ! (stop !)) (init ! 38 refl (lit_typed 𝓛 (bytes "DeliveryUp") tt)) $
-        assigns ! (agg ! (lits 𝓛 (bytes "DeliveryDown") tt)) (from ! (stop !)) (init ! 36 refl (lit_typed 𝓛 (bytes "DeliveryDown") tt)) $
-        assigns ! (agg ! (lits 𝓛 (bytes "</DeliveryDirection><UnitType>KWT</UnitType><ObservationCounter>") tt)) (from ! (stop !)) (init ! 34 refl (lit_typed 𝓛 (bytes "</DeliveryDirection><UnitType>KWT</UnitType><ObservationCounter>") tt)) $
-        assigns ! (agg ! (lits 𝓛 (bytes "/ObservationCounter><TimeSeriesPeriod>") tt)) (from ! (stop !)) (init ! 32 refl (lit_typed 𝓛 (bytes "/ObservationCounter><TimeSeriesPeriod>") tt)) $
+        assigns ! (agg ! (lits 𝓛 (bytes "<DeliveryDirection>") tt)) (from ! (stop !)) (init ! 40 refl (lit-typed 𝓛 (bytes "<DeliveryDirection>") tt)) $
+        assigns ! (agg ! (lits 𝓛 (bytes "DeliveryUp") tt)) (from ! (stop !)) (init ! 38 refl (lit-typed 𝓛 (bytes "DeliveryUp") tt)) $
+        assigns ! (agg ! (lits 𝓛 (bytes "DeliveryDown") tt)) (from ! (stop !)) (init ! 36 refl (lit-typed 𝓛 (bytes "DeliveryDown") tt)) $
+        assigns ! (agg ! (lits 𝓛 (bytes "</DeliveryDirection><UnitType>KWT</UnitType><ObservationCounter>") tt)) (from ! (stop !)) (init ! 34 refl (lit-typed 𝓛 (bytes "</DeliveryDirection><UnitType>KWT</UnitType><ObservationCounter>") tt)) $
+        assigns ! (agg ! (lits 𝓛 (bytes "/ObservationCounter><TimeSeriesPeriod>") tt)) (from ! (stop !)) (init ! 32 refl (lit-typed 𝓛 (bytes "/ObservationCounter><TimeSeriesPeriod>") tt)) $
         move ! (53 ∷ []) $ fsplit ! $ move ! (1 ∷ []) $ fsplit ! $ move ! (55 ∷ []) $ split ! $ move ! (1 ∷ []) $ split ! $ move ! (5 ∷ 2 ∷ []) $ join ! $
-        lft_new ! tt (λ ν. move ! (46 ∷ []) $ lends_lit 𝓛 tt ν l₅ (bytes "<DeliveryDirection>") tt (lit< tt, lit< tt) (λ δ₅.
-        move ! (46 ∷ []) $ lends_lit 𝓛 tt ν l₆ (bytes "DeliveryUp") tt (lit< tt, lit< tt) (λ δ₆.
-        move ! (44 ∷ []) $ lends_lit 𝓛 tt ν l₈ (bytes "</DeliveryDirection><UnitType>KWT</UnitType><ObservationCounter>") tt (lit< tt, lit< tt) (λ δ₈.
-        move ! (44 ∷ []) $ lends_lit 𝓛 tt ν l₉ (bytes "/ObservationCounter><TimeSeriesPeriod>") tt (lit< tt, lit< tt) (λ δ₉.
-        lft_new ! tt (λ μ. move ! (49 ∷ []) $ lends_lit 𝓛 tt μ l₇ (bytes "DeliveryDown") tt (lit< tt, lit< tt) (λ δ₇.
+        lft_new ! tt (λ ν. move ! (46 ∷ []) $ lends-lit 𝓛 tt ν l₅ (bytes "<DeliveryDirection>") tt (lit< tt, lit< tt) (λ δ₅.
+        move ! (46 ∷ []) $ lends-lit 𝓛 tt ν l₆ (bytes "DeliveryUp") tt (lit< tt, lit< tt) (λ δ₆.
+        move ! (44 ∷ []) $ lends-lit 𝓛 tt ν l₈ (bytes "</DeliveryDirection><UnitType>KWT</UnitType><ObservationCounter>") tt (lit< tt, lit< tt) (λ δ₈.
+        move ! (44 ∷ []) $ lends-lit 𝓛 tt ν l₉ (bytes "/ObservationCounter><TimeSeriesPeriod>") tt (lit< tt, lit< tt) (λ δ₉.
+        lft_new ! tt (λ μ. move ! (49 ∷ []) $ lends-lit 𝓛 tt μ l₇ (bytes "DeliveryDown") tt (lit< tt, lit< tt) (λ δ₇.
         assigns ! (addr ! (from ! (hop ! (look ! 60 refl) (stop !)))) (from ! (stop !)) (init ! 45 refl (tt, tt)) $
         assigns ! (addr ! (from ! (stop !))) (from ! (stop !)) (init ! 43 refl (tt, tt)) $
         assigns ! (agg ! (and_then ! (load ! (from ! (stop !)) (look ! 43 refl)) (and_then ! (lit ! tt) (no_more !)))) (from ! (stop !)) (init ! 41 refl (tt, (tt, (record { fits = lit< tt }, tt)))) $
@@ -114,18 +114,18 @@ module _ {M : Type 1} {𝓤 : Ura M} (𝓛 : Logic 𝓤) (at_mem : Memory → SP
         call-tag.calls 𝓛 fm at_mem run known-tag (by-ref 𝓛 κ q (b, o) γ) h₂ κ₁ (ν ∷ []) q₁ full_share s (lit-at l₈ (bytes "</DeliveryDirection><UnitType>KWT</UnitType><ObservationCounter>") δ₈) tt (λ _ _ _ _ _. and_then ! (load ! (from ! (stop !)) (look ! 29 refl)) (and_then ! (load ! (from ! (stop !)) (look ! 58 refl)) (and_then ! (load ! (from ! (stop !)) (look ! 25 refl)) (no_more !)))) (land ! (from ! (stop !)) (store ! 47 refl (tt, tt)) $
         assigns ! (addr ! (from ! (hop ! (look ! 60 refl) (stop !)))) (from ! (stop !)) (init ! 23 refl (tt, tt)) $
         move ! (0 ∷ 1 ∷ 3 ∷ []) $
-        calls_bare 𝓛 a-number (λ (h' : Cursor) (r : ℕ). (h' ≡ (past_counter (now s) h₃).to) × (r ≡ (past_counter (now s) h₃).value)) (by-ref 𝓛 κ q (b, o) γ) h₃ κ₁ q₁ s fm (λ ν' δ. known-counter (((ν' ∷ [], (κ₁, tt)), (full_share, (q₁, tt)), tt, (ref-at (b, o) δ h₃, (s, tt)), (vptr b o ∷ [], (sv s ∷ [], tt))), tt)) (λ _ _ _. and_then ! (load ! (from ! (stop !)) (look ! 23 refl)) (and_then ! (load ! (from ! (stop !)) (look ! 58 refl)) (no_more !))) (λ h₄ r₄ is₄ e₄. land ! (from ! (stop !)) (init ! 54 refl (tt, record { fits = is₄.1 })) $
+        calls-bare 𝓛 a-number (λ (h' : Cursor) (r : ℕ). (h' ≡ (past_counter (now s) h₃).to) × (r ≡ (past_counter (now s) h₃).value)) (by-ref 𝓛 κ q (b, o) γ) h₃ κ₁ q₁ s fm (λ ν' δ. known-counter (((ν' ∷ [], (κ₁, tt)), (full_share, (q₁, tt)), tt, (ref-at (b, o) δ h₃, (s, tt)), (vptr b o ∷ [], (sv s ∷ [], tt))), tt)) (λ _ _ _. and_then ! (load ! (from ! (stop !)) (look ! 23 refl)) (and_then ! (load ! (from ! (stop !)) (look ! 58 refl)) (no_more !))) (λ h₄ r₄ is₄ e₄. land ! (from ! (stop !)) (init ! 54 refl (tt, record { fits = is₄.1 })) $
         assigns ! (addr ! (from ! (hop ! (look ! 60 refl) (stop !)))) (from ! (stop !)) (init ! 21 refl (tt, tt)) $
         assigns ! (addr ! (from ! (stop !))) (from ! (stop !)) (init ! 19 refl (tt, tt)) $
         assigns ! (agg ! (and_then ! (load ! (from ! (stop !)) (look ! 19 refl)) (and_then ! (lit ! tt) (no_more !)))) (from ! (stop !)) (init ! 17 refl (tt, (tt, (record { fits = lit< tt }, tt)))) $
         move ! (0 ∷ 1 ∷ 3 ∷ 2 ∷ 10 ∷ []) $
         call-tag.calls 𝓛 fm at_mem run known-tag (by-ref 𝓛 κ q (b, o) γ) h₄ κ₁ (ν ∷ []) q₁ full_share s (lit-at l₉ (bytes "/ObservationCounter><TimeSeriesPeriod>") δ₉) tt (λ _ _ _ _ _. and_then ! (load ! (from ! (stop !)) (look ! 21 refl)) (and_then ! (load ! (from ! (stop !)) (look ! 58 refl)) (and_then ! (load ! (from ! (stop !)) (look ! 17 refl)) (no_more !)))) (land ! (from ! (stop !)) (store ! 47 refl (tt, tt)) $
         assigns ! (agg ! (and_then ! (load ! (from ! (stop !)) (look ! 56 refl)) (and_then ! (load ! (from ! (stop !)) (look ! 54 refl)) (no_more !)))) (from ! (stop !)) (init ! 62 refl ((LL.lawful T-VolumeFound.the_type L-VolumeFound.the_laws 𝓛).typed (made₀ r₄) _ (made₀-is r₄ fits₂ is₄)).0) $
-        move ! (2 ∷ []) $ lft_end ! tt $ move ! (0 ∷ 14 ∷ []) $ lit_back 𝓛 tt ν l₅ (bytes "<DeliveryDirection>") (
-        move ! (1 ∷ 14 ∷ []) $ lit_back 𝓛 tt ν l₆ (bytes "DeliveryUp") (
-        move ! (1 ∷ 14 ∷ []) $ lit_back 𝓛 tt ν l₈ (bytes "</DeliveryDirection><UnitType>KWT</UnitType><ObservationCounter>") (
-        move ! (1 ∷ 14 ∷ []) $ lit_back 𝓛 tt ν l₉ (bytes "/ObservationCounter><TimeSeriesPeriod>") (
-        move ! (10 ∷ []) $ lft_end ! tt $ move ! (0 ∷ 14 ∷ []) $ lit_back 𝓛 tt μ l₇ (bytes "DeliveryDown") (
+        move ! (2 ∷ []) $ lft_end ! tt $ move ! (0 ∷ 14 ∷ []) $ lit-back 𝓛 tt ν l₅ (bytes "<DeliveryDirection>") (
+        move ! (1 ∷ 14 ∷ []) $ lit-back 𝓛 tt ν l₆ (bytes "DeliveryUp") (
+        move ! (1 ∷ 14 ∷ []) $ lit-back 𝓛 tt ν l₈ (bytes "</DeliveryDirection><UnitType>KWT</UnitType><ObservationCounter>") (
+        move ! (1 ∷ 14 ∷ []) $ lit-back 𝓛 tt ν l₉ (bytes "/ObservationCounter><TimeSeriesPeriod>") (
+        move ! (10 ∷ []) $ lft_end ! tt $ move ! (0 ∷ 14 ∷ []) $ lit-back 𝓛 tt μ l₇ (bytes "DeliveryDown") (
         returns ! (look ! 62 refl) $
         forget ! 62 refl $ forget ! 60 refl $ forget ! 58 refl $ forget ! 56 refl $ forget ! 54 refl $ forget ! 6 refl $ forget ! 5 refl $ forget ! 0 refl $ forget ! 4 refl $ forget ! 2 refl $ forget ! 47 refl $ forget ! 45 refl $ forget ! 43 refl $ forget ! 41 refl $ forget ! 39 refl $ forget ! 37 refl $ forget ! 35 refl $ forget ! 33 refl $ forget ! 31 refl $ forget ! 29 refl $ forget ! 27 refl $ forget ! 25 refl $ forget ! 23 refl $ forget ! 21 refl $ forget ! 19 refl $ forget ! 17 refl $
         move ! (62 ∷ 63 ∷ []) $ free1 ! $ move ! (60 ∷ 61 ∷ []) $ free1 ! $ move ! (58 ∷ 59 ∷ []) $ free1 ! $ move ! (56 ∷ 57 ∷ []) $ free1 ! $ move ! (54 ∷ 55 ∷ []) $ free1 ! $ move ! (6 ∷ 53 ∷ []) $ free1 ! $ move ! (5 ∷ 51 ∷ []) $ free1 ! $ move ! (0 ∷ 49 ∷ []) $ free1 ! $ move ! (3 ∷ 47 ∷ []) $ free1 ! $ move ! (1 ∷ 45 ∷ []) $ free1 ! $ move ! (42 ∷ 43 ∷ []) $ free1 ! $ move ! (40 ∷ 41 ∷ []) $ free1 ! $ move ! (38 ∷ 39 ∷ []) $ free1 ! $ move ! (36 ∷ 37 ∷ []) $ free1 ! $ move ! (34 ∷ 35 ∷ []) $ free1 ! $ move ! (32 ∷ 33 ∷ []) $ free1 ! $ move ! (30 ∷ 31 ∷ []) $ free1 ! $ move ! (28 ∷ 29 ∷ []) $ free1 ! $ move ! (26 ∷ 27 ∷ []) $ free1 ! $ move ! (24 ∷ 25 ∷ []) $ free1 ! $ move ! (22 ∷ 23 ∷ []) $ free1 ! $ move ! (20 ∷ 21 ∷ []) $ free1 ! $ move ! (18 ∷ 19 ∷ []) $ free1 ! $ move ! (16 ∷ 17 ∷ []) $ free1 ! $ move ! (14 ∷ 15 ∷ []) $ free1 ! $ move ! (12 ∷ 13 ∷ []) $ free1 ! $ free0 ! $

@@ -8,7 +8,7 @@ use borrow.Author.Tests.{le-leb, lt-leb}
 use Rattle.text.specs.declared.Number.TheVariants.{NotDigits}
 use Rattle.text.specs.Decimal.{digit}
 use Rattle.cases.specs.WordsInner.{number_from, number_of}
-use Rattle.cases.specs.WordsLaws.{number-large, number_step, number_stop, number_end}
+use Rattle.cases.specs.WordsLaws.{number-large, number_step, number-stop, number-end}
 use borrow.Author.Rules.{rules}
 use native.Mathlib.Omega.{arith}
 use Rattle.cases.proofs.words.number.Statement.{statement}
@@ -35,7 +35,7 @@ passed : (l : tie.At-loop invariant-loop decreases-loop) → l.loop.i < length (
 passed l h e = l.loop.invariant.2 ∙ number_step (W l) l.loop.i l.loop.acc h e
 
 ended : (l : tie.At-loop invariant-loop decreases-loop) → l.loop.i < length (W l) → digit (byte l) ≡ false → number_of (W l) ≡ NotDigits
-ended l h e = l.loop.invariant.2 ∙ number_stop (W l) l.loop.i l.loop.acc h e
+ended l h e = l.loop.invariant.2 ∙ number-stop (W l) l.loop.i l.loop.acc h e
 
 returns : tie.Need-returns invariant-loop decreases-loop
 returns c = let e : length c.before.args.word.now ≡ 0 = c.if1.true in rw (lt-leb 1 (length c.before.args.word.now) (omega arith))
@@ -83,7 +83,7 @@ loop-again c =
 returns-5 : tie.Need-returns-5 invariant-loop decreases-loop
 returns-5 c =
     let l = c.before in
-    sym (l.loop.invariant.2 ∙ number_end (W l) l.loop.i l.loop.acc c.loop-test.false (search rules))
+    sym (l.loop.invariant.2 ∙ number-end (W l) l.loop.i l.loop.acc c.loop-test.false (search rules))
 
 pub number-spec : {M : Type 1} → statement M
 number-spec =

@@ -13,7 +13,7 @@ use Rattle.cursor.specs.declared.Cursor.{Cursor}
 use Rattle.cursor.proofs.Lent.{Good, sv, ref-at, In, holds, in-local}
 use Rattle.cursor.specs.contracts.Cursor as T
 use Rattle.cursor.proofs.Cursor.TheLaws as T'
-use Rattle.cursor.proofs.Lends.{Plain, Fits, Rows, no_answer, calls_bare, calls_with, calls_rows}
+use Rattle.cursor.proofs.Lends.{Plain, Fits, Rows, no_answer, calls-bare, calls-with, calls-rows}
 use Rattle.reader.specs.contracts.file.past_root as root-of
 use Rattle.reader.proofs.file.past_root.Symbol as root-of-def
 use Rattle.reader.proofs.file.past_root.Symbol.{name as #root-of}
@@ -49,7 +49,7 @@ use Rattle.reader.specs.contracts.partners.PartnersTodo as T-PartnersTodo
 use Rattle.reader.proofs.partners.PartnersTodo.TheLaws as L-PartnersTodo
 use Rattle.reader.specs.contracts.file.FileRead as T-FileRead
 use Rattle.reader.proofs.file.FileRead.TheLaws as L-FileRead
-use Rattle.passages.specs.PassagesInner.{messageFound, messageTo}
+use Rattle.passages.specs.PassagesInner.{message_found, message_to}
 use Rattle.reader.specs.PartnerTurnsInner.{PartnersWhole}
 use Rattle.reader.specs.FileTurnsInner.{Rooted, Received, root_end}
 use Rattle.reader.specs.FileTurnsLaws.{file-done}
@@ -113,7 +113,7 @@ module _ {M : Type 1} {𝓤 : Ura M} (𝓛 : Logic 𝓤) (at_mem : Memory → SP
   made₀-is : (r₁ : Root) → (r₂ : MessageFound) → (r₃ : Receiver) → (r₄ : PartnersTodo) → (h₅ : Cursor) → (is₁ : Fits P-Root r₁) → (is₂ : Fits P-MessageFound r₂) → (is₃ : Fits P-Receiver r₃) → (is₄ : Fits P-PartnersTodo r₄) → (good₁₇ : Good h₅) → Is T-FileRead.the_row (made₀ r₁ r₂ r₃ r₄ h₅) (LL.val T-FileRead.the_type L-FileRead.the_laws (made₀ r₁ r₂ r₃ r₄ h₅) ∷ [])
   made₀-is r₁ r₂ r₃ r₄ h₅ is₁ is₂ is₃ is₄ good₁₇ = LL.owes T-FileRead.the_type L-FileRead.the_laws (made₀ r₁ r₂ r₃ r₄ h₅) (is₁, ((LL.owed T-Receiver.the_type L-Receiver.the_laws r₃ _ is₃).0, (is₄, (is₂, (good₁₇, tt)))))
 
-  exits : (h₁ : Cursor) → (r₁ : Root) → (is₁ : Fits P-Root r₁) → (e₁ : Rooted (now s) start h₁ r₁) → (h₂ : Cursor) → (r₂ : MessageFound) → (is₂ : Fits P-MessageFound r₂) → (e₂ : (h₂ ≡ messageTo (now s) h₁) × (r₂ ≡ messageFound (now s) h₁)) → (h₃ : Cursor) → (r₃ : Receiver) → (is₃ : Fits P-Receiver r₃) → (e₃ : Received (now s) r₁ h₂ h₃ r₃) → (h₄ : Cursor) → (r₄ : PartnersTodo) → (zs : List ℕ) → (len : length zs ≡ length ys) → (is₄ : Fits P-PartnersTodo r₄) → (e₄ : PartnersWhole (now s) r₃.todo h₃ ys h₄ r₄ zs) → (h₅ : Cursor) → (r₅ : Unit {0}) → (is₅ : Fits no_answer r₅) → (e₅ : h₅ ≡ root_end (now s) r₁.kind h₄) → (good₁₇ : Good h₅) → length (now s) < 2 ^ 64 → ent 𝓤 (⋆ 𝓛 (‵ (flft κ₁ q₁) ∷ ‵ (flft κᵣ qᵣ) ∷ ‵ (Rows κᵣ bᵣ oᵣ γᵣ zs (length ys)) ∷ [])) (Post (LL.val T-FileRead.the_type L-FileRead.the_laws (made₀ r₁ r₂ r₃ r₄ h₅)))
+  exits : (h₁ : Cursor) → (r₁ : Root) → (is₁ : Fits P-Root r₁) → (e₁ : Rooted (now s) start h₁ r₁) → (h₂ : Cursor) → (r₂ : MessageFound) → (is₂ : Fits P-MessageFound r₂) → (e₂ : (h₂ ≡ message_to (now s) h₁) × (r₂ ≡ message_found (now s) h₁)) → (h₃ : Cursor) → (r₃ : Receiver) → (is₃ : Fits P-Receiver r₃) → (e₃ : Received (now s) r₁ h₂ h₃ r₃) → (h₄ : Cursor) → (r₄ : PartnersTodo) → (zs : List ℕ) → (len : length zs ≡ length ys) → (is₄ : Fits P-PartnersTodo r₄) → (e₄ : PartnersWhole (now s) r₃.todo h₃ ys h₄ r₄ zs) → (h₅ : Cursor) → (r₅ : Unit {0}) → (is₅ : Fits no_answer r₅) → (e₅ : h₅ ≡ root_end (now s) r₁.kind h₄) → (good₁₇ : Good h₅) → length (now s) < 2 ^ 64 → ent 𝓤 (⋆ 𝓛 (‵ (flft κ₁ q₁) ∷ ‵ (flft κᵣ qᵣ) ∷ ‵ (Rows κᵣ bᵣ oᵣ γᵣ zs (length ys)) ∷ [])) (Post (LL.val T-FileRead.the_type L-FileRead.the_laws (made₀ r₁ r₂ r₃ r₄ h₅)))
   exits h₁ r₁ is₁ e₁ h₂ r₂ is₂ e₂ h₃ r₃ is₃ e₃ h₄ r₄ zs len is₄ e₄ h₅ r₅ is₅ e₅ good₁₇ long =
       qed 𝓛 (‵ (flft κ₁ q₁) ∷ ‵ (flft κᵣ qᵣ) ∷ ‵ (Rows κᵣ bᵣ oᵣ γᵣ zs (length ys)) ∷ []) ∵
       suffices ! _ (ends_at 𝓛 me.ended stayed (me.clauses 𝓛 at_mem run) (((κ₁, (κᵣ, tt)), (q₁, (qᵣ, tt)), tt, a, vals), tt) (LL.val T-FileRead.the_type L-FileRead.the_laws (made₀ r₁ r₂ r₃ r₄ h₅)) (made₀ r₁ r₂ r₃ r₄ h₅) (tt, (zs, tt)) (tt, (len, tt))) $ says ! (file-done (now s) ys h₁ r₁ e₁ h₂ r₂ e₂ h₃ r₃ e₃ h₄ r₄ zs e₄ h₅ e₅ long) $
@@ -130,19 +130,19 @@ module _ {M : Type 1} {𝓤 : Ura M} (𝓛 : Logic 𝓤) (at_mem : Memory → SP
         move ! (34 ∷ []) $ use1 𝓛 (In 𝓛 l₃ start) (holds 𝓛 l₃ start good_start) $
         assigns ! (addr ! (from ! (stop !))) (from ! (stop !)) (init ! 23 refl (tt, tt)) $
         move ! (0 ∷ 3 ∷ 6 ∷ []) $
-        calls_bare 𝓛 P-Root (λ (h' : Cursor) (r : Root). Rooted (now s) start h' r) (in-local 𝓛 l₃) start κ₁ q₁ s fm (λ ν' δ. known-root-of (((ν' ∷ [], (κ₁, tt)), (full_share, (q₁, tt)), tt, (ref-at (l₃, 0) δ start, (s, tt)), (vptr l₃ 0 ∷ [], (sv s ∷ [], tt))), tt)) (λ _ _ _. and_then ! (load ! (from ! (stop !)) (look ! 23 refl)) (and_then ! (load ! (from ! (stop !)) (look ! 38 refl)) (no_more !))) (λ h₁ r₁ is₁ e₁. land ! (from ! (stop !)) (init ! 33 refl ((LL.lawful T-Root.the_type L-Root.the_laws 𝓛).typed r₁ _ is₁).0) $
+        calls-bare 𝓛 P-Root (λ (h' : Cursor) (r : Root). Rooted (now s) start h' r) (in-local 𝓛 l₃) start κ₁ q₁ s fm (λ ν' δ. known-root-of (((ν' ∷ [], (κ₁, tt)), (full_share, (q₁, tt)), tt, (ref-at (l₃, 0) δ start, (s, tt)), (vptr l₃ 0 ∷ [], (sv s ∷ [], tt))), tt)) (λ _ _ _. and_then ! (load ! (from ! (stop !)) (look ! 23 refl)) (and_then ! (load ! (from ! (stop !)) (look ! 38 refl)) (no_more !))) (λ h₁ r₁ is₁ e₁. land ! (from ! (stop !)) (init ! 33 refl ((LL.lawful T-Root.the_type L-Root.the_laws 𝓛).typed r₁ _ is₁).0) $
         assigns ! (addr ! (from ! (stop !))) (from ! (stop !)) (init ! 21 refl (tt, tt)) $
-        calls_bare 𝓛 P-MessageFound (λ (h' : Cursor) (r : MessageFound). (h' ≡ messageTo (now s) h₁) × (r ≡ messageFound (now s) h₁)) (in-local 𝓛 l₃) h₁ κ₁ q₁ s fm (λ ν' δ. known-message-passage (((ν' ∷ [], (κ₁, tt)), (full_share, (q₁, tt)), tt, (ref-at (l₃, 0) δ h₁, (s, tt)), (vptr l₃ 0 ∷ [], (sv s ∷ [], tt))), tt)) (λ _ _ _. and_then ! (load ! (from ! (stop !)) (look ! 21 refl)) (and_then ! (load ! (from ! (stop !)) (look ! 38 refl)) (no_more !))) (λ h₂ r₂ is₂ e₂. land ! (from ! (stop !)) (init ! 31 refl ((LL.lawful T-MessageFound.the_type L-MessageFound.the_laws 𝓛).typed r₂ _ is₂).0) $
+        calls-bare 𝓛 P-MessageFound (λ (h' : Cursor) (r : MessageFound). (h' ≡ message_to (now s) h₁) × (r ≡ message_found (now s) h₁)) (in-local 𝓛 l₃) h₁ κ₁ q₁ s fm (λ ν' δ. known-message-passage (((ν' ∷ [], (κ₁, tt)), (full_share, (q₁, tt)), tt, (ref-at (l₃, 0) δ h₁, (s, tt)), (vptr l₃ 0 ∷ [], (sv s ∷ [], tt))), tt)) (λ _ _ _. and_then ! (load ! (from ! (stop !)) (look ! 21 refl)) (and_then ! (load ! (from ! (stop !)) (look ! 38 refl)) (no_more !))) (λ h₂ r₂ is₂ e₂. land ! (from ! (stop !)) (init ! 31 refl ((LL.lawful T-MessageFound.the_type L-MessageFound.the_laws 𝓛).typed r₂ _ is₂).0) $
         assigns ! (addr ! (from ! (stop !))) (from ! (stop !)) (init ! 19 refl (tt, tt)) $
-        calls_with 𝓛 P-Receiver (λ (h' : Cursor) (r : Receiver). Received (now s) r₁ h₂ h' r) (in-local 𝓛 l₃) h₂ κ₁ q₁ s P-Root r₁ is₁ fm (λ ν' δ. known-receiver-of (((ν' ∷ [], (κ₁, tt)), (full_share, (q₁, tt)), tt, (ref-at (l₃, 0) δ h₂, (s, (r₁, tt))), (vptr l₃ 0 ∷ [], (sv s ∷ [], (LL.val T-Root.the_type L-Root.the_laws r₁ ∷ [], tt)))), tt)) (λ _ _ _. and_then ! (load ! (from ! (stop !)) (look ! 19 refl)) (and_then ! (load ! (from ! (stop !)) (look ! 38 refl)) (and_then ! (load ! (from ! (stop !)) (look ! 33 refl)) (no_more !)))) (λ h₃ r₃ is₃ e₃. land ! (from ! (stop !)) (init ! 29 refl ((LL.lawful T-Receiver.the_type L-Receiver.the_laws 𝓛).typed r₃ _ is₃).0) $
+        calls-with 𝓛 P-Receiver (λ (h' : Cursor) (r : Receiver). Received (now s) r₁ h₂ h' r) (in-local 𝓛 l₃) h₂ κ₁ q₁ s P-Root r₁ is₁ fm (λ ν' δ. known-receiver-of (((ν' ∷ [], (κ₁, tt)), (full_share, (q₁, tt)), tt, (ref-at (l₃, 0) δ h₂, (s, (r₁, tt))), (vptr l₃ 0 ∷ [], (sv s ∷ [], (LL.val T-Root.the_type L-Root.the_laws r₁ ∷ [], tt)))), tt)) (λ _ _ _. and_then ! (load ! (from ! (stop !)) (look ! 19 refl)) (and_then ! (load ! (from ! (stop !)) (look ! 38 refl)) (and_then ! (load ! (from ! (stop !)) (look ! 33 refl)) (no_more !)))) (λ h₃ r₃ is₃ e₃. land ! (from ! (stop !)) (init ! 29 refl ((LL.lawful T-Receiver.the_type L-Receiver.the_laws 𝓛).typed r₃ _ is₃).0) $
         assigns ! (of_opd ! (load ! (from ! (fld ! refl (stop !))) (look_in ! 29 (sub ! 1 refl (whole !))))) (from ! (stop !)) (init ! 27 refl ((LL.lawful T-PartnersTodo.the_type L-PartnersTodo.the_laws 𝓛).typed r₃.todo _ (LL.owed T-Receiver.the_type L-Receiver.the_laws r₃ _ is₃).1.0).0) $
         assigns ! (addr ! (from ! (stop !))) (from ! (stop !)) (init ! 17 refl (tt, tt)) $
         assigns ! (addr ! (from ! (fld ! refl (hop ! (look_in ! 36 (sub ! 0 refl (whole !))) (stop !))))) (from ! (stop !)) (init ! 15 refl (tt, tt)) $
         assigns ! (agg ! (and_then ! (load ! (from ! (stop !)) (look ! 15 refl)) (and_then ! (load ! (from ! (fld ! refl (stop !))) (look_in ! 36 (sub ! 1 refl (whole !)))) (no_more !)))) (from ! (stop !)) (init ! 13 refl (tt, (tt, (record { fits = room.0 }, tt)))) $
         move ! (0 ∷ 1 ∷ 2 ∷ 5 ∷ 3 ∷ []) $
-        calls_rows 𝓛 P-PartnersTodo (λ (h' : Cursor) (r : PartnersTodo) (zs : List ℕ). PartnersWhole (now s) r₃.todo h₃ ys h' r zs) (in-local 𝓛 l₃) h₃ κ₁ κᵣ q₁ qᵣ s P-PartnersTodo r₃.todo (LL.owed T-Receiver.the_type L-Receiver.the_laws r₃ _ is₃).1.0 bᵣ oᵣ γᵣ ys room fm (λ ν' δ μ' ε. known-partners-of (((ν' ∷ [], (κ₁, (μ' ∷ [], tt))), (full_share, (q₁, (full_share, tt))), tt, (ref-at (l₃, 0) δ h₃, (s, (r₃.todo, (record { ref_ptr = (bᵣ, oᵣ); ghost_name = ε; now = ys }, tt)))), (vptr l₃ 0 ∷ [], (sv s ∷ [], (LL.val T-PartnersTodo.the_type L-PartnersTodo.the_laws r₃.todo ∷ [], (slice_val (bᵣ, oᵣ) (length ys) ∷ [], tt))))), tt)) (λ _ _ _ _ _. and_then ! (load ! (from ! (stop !)) (look ! 17 refl)) (and_then ! (load ! (from ! (stop !)) (look ! 38 refl)) (and_then ! (load ! (from ! (stop !)) (look ! 27 refl)) (and_then ! (load ! (from ! (stop !)) (look ! 13 refl)) (no_more !))))) (λ h₄ r₄ zs len is₄ e₄. land ! (from ! (stop !)) (init ! 25 refl ((LL.lawful T-PartnersTodo.the_type L-PartnersTodo.the_laws 𝓛).typed r₄ _ is₄).0) $
+        calls-rows 𝓛 P-PartnersTodo (λ (h' : Cursor) (r : PartnersTodo) (zs : List ℕ). PartnersWhole (now s) r₃.todo h₃ ys h' r zs) (in-local 𝓛 l₃) h₃ κ₁ κᵣ q₁ qᵣ s P-PartnersTodo r₃.todo (LL.owed T-Receiver.the_type L-Receiver.the_laws r₃ _ is₃).1.0 bᵣ oᵣ γᵣ ys room fm (λ ν' δ μ' ε. known-partners-of (((ν' ∷ [], (κ₁, (μ' ∷ [], tt))), (full_share, (q₁, (full_share, tt))), tt, (ref-at (l₃, 0) δ h₃, (s, (r₃.todo, (record { ref_ptr = (bᵣ, oᵣ); ghost_name = ε; now = ys }, tt)))), (vptr l₃ 0 ∷ [], (sv s ∷ [], (LL.val T-PartnersTodo.the_type L-PartnersTodo.the_laws r₃.todo ∷ [], (slice_val (bᵣ, oᵣ) (length ys) ∷ [], tt))))), tt)) (λ _ _ _ _ _. and_then ! (load ! (from ! (stop !)) (look ! 17 refl)) (and_then ! (load ! (from ! (stop !)) (look ! 38 refl)) (and_then ! (load ! (from ! (stop !)) (look ! 27 refl)) (and_then ! (load ! (from ! (stop !)) (look ! 13 refl)) (no_more !))))) (λ h₄ r₄ zs len is₄ e₄. land ! (from ! (stop !)) (init ! 25 refl ((LL.lawful T-PartnersTodo.the_type L-PartnersTodo.the_laws 𝓛).typed r₄ _ is₄).0) $
         assigns ! (addr ! (from ! (stop !))) (from ! (stop !)) (init ! 9 refl (tt, tt)) $
-        calls_with 𝓛 no_answer (λ (h' : Cursor) (r : Unit {0}). h' ≡ root_end (now s) r₁.kind h₄) (in-local 𝓛 l₃) h₄ κ₁ q₁ s P-Root r₁ is₁ fm (λ ν' δ. known-end-of (((ν' ∷ [], (κ₁, tt)), (full_share, (q₁, tt)), tt, (ref-at (l₃, 0) δ h₄, (s, (r₁, tt))), (vptr l₃ 0 ∷ [], (sv s ∷ [], (LL.val T-Root.the_type L-Root.the_laws r₁ ∷ [], tt)))), tt)) (λ _ _ _. and_then ! (load ! (from ! (stop !)) (look ! 9 refl)) (and_then ! (load ! (from ! (stop !)) (look ! 38 refl)) (and_then ! (load ! (from ! (stop !)) (look ! 33 refl)) (no_more !)))) (λ h₅ r₅ is₅ e₅. land ! (from ! (stop !)) (init ! 11 refl (tt, tt)) $
+        calls-with 𝓛 no_answer (λ (h' : Cursor) (r : Unit {0}). h' ≡ root_end (now s) r₁.kind h₄) (in-local 𝓛 l₃) h₄ κ₁ q₁ s P-Root r₁ is₁ fm (λ ν' δ. known-end-of (((ν' ∷ [], (κ₁, tt)), (full_share, (q₁, tt)), tt, (ref-at (l₃, 0) δ h₄, (s, (r₁, tt))), (vptr l₃ 0 ∷ [], (sv s ∷ [], (LL.val T-Root.the_type L-Root.the_laws r₁ ∷ [], tt)))), tt)) (λ _ _ _. and_then ! (load ! (from ! (stop !)) (look ! 9 refl)) (and_then ! (load ! (from ! (stop !)) (look ! 38 refl)) (and_then ! (load ! (from ! (stop !)) (look ! 33 refl)) (no_more !)))) (λ h₅ r₅ is₅ e₅. land ! (from ! (stop !)) (init ! 11 refl (tt, tt)) $
         learn ! (λ good₁₇. assigns ! (of_opd ! (load ! (from ! (stop !)) (look ! 0 refl))) (from ! (stop !)) (init ! 7 refl ((LL.lawful T.the_type T'.the_laws 𝓛).typed h₅ _ good₁₇).0) $
         assigns ! (agg ! (and_then ! (load ! (from ! (stop !)) (look ! 33 refl)) (and_then ! (load ! (from ! (fld ! refl (stop !))) (look_in ! 29 (sub ! 0 refl (whole !)))) (and_then ! (load ! (from ! (stop !)) (look ! 25 refl)) (and_then ! (load ! (from ! (stop !)) (look ! 31 refl)) (and_then ! (load ! (from ! (stop !)) (look ! 7 refl)) (no_more !))))))) (from ! (stop !)) (init ! 40 refl ((LL.lawful T-FileRead.the_type L-FileRead.the_laws 𝓛).typed (made₀ r₁ r₂ r₃ r₄ h₅) _ (made₀-is r₁ r₂ r₃ r₄ h₅ is₁ is₂ is₃ is₄ good₁₇)).0) $
         returns ! (look ! 40 refl) $

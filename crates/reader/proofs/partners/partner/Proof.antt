@@ -9,7 +9,7 @@ use denote.Struct.Laws as LL
 use denote.Builtin.{SliceRefOf}
 use Rattle.cursor.specs.declared.Cursor.{Cursor}
 use Rattle.cursor.proofs.Lent.{R, sv, ref-at, By, by-ref}
-use Rattle.cursor.proofs.Lends.{Plain, Fits, Rows, calls_with, calls_rows}
+use Rattle.cursor.proofs.Lends.{Plain, Fits, Rows, calls-with, calls-rows}
 use Rattle.reader.specs.contracts.partners.past_head as head_of
 use Rattle.reader.proofs.partners.past_head.Symbol as head-of-def
 use Rattle.reader.proofs.partners.past_head.Symbol.{name as #head-of}
@@ -95,15 +95,15 @@ module _ {M : Type 1} {𝓤 : Ura M} (𝓛 : Logic 𝓤) (at_mem : Memory → SP
           move ! (27 ∷ []) $ fsplit ! $ move ! (1 ∷ []) $ fsplit ! $ move ! (1 ∷ []) $ fsplit ! $ move ! (1 ∷ []) $ fsplit ! $ move ! (31 ∷ []) $ split ! $ move ! (1 ∷ []) $ split ! $ move ! (1 ∷ []) $ split ! $ move ! (8 ∷ 3 ∷ []) $ join ! $
           assigns ! (addr ! (from ! (hop ! (look ! 30 refl) (stop !)))) (from ! (stop !)) (init ! 16 refl (tt, tt)) $
           move ! (0 ∷ 3 ∷ 7 ∷ []) $
-          calls_with 𝓛 P-SeriesTodo (λ (h' : Cursor) (r : SeriesTodo). (h' ≡ (head_of (now s) x.kind h).to) × (r ≡ head_todo (now s) x h)) (by-ref 𝓛 κ q (b, o) γ) h κ₁ q₁ s P-PartnersTodo x fits-x fm (λ ν' δ. known-head-of (((ν' ∷ [], (κ₁, tt)), (full_share, (q₁, tt)), tt, (ref-at (b, o) δ h, (s, (x, tt))), (vptr b o ∷ [], (sv s ∷ [], (LL.val T-PartnersTodo.the_type L-PartnersTodo.the_laws x ∷ [], tt)))), tt)) (λ _ _ _. and_then ! (load ! (from ! (stop !)) (look ! 16 refl)) (and_then ! (load ! (from ! (stop !)) (look ! 28 refl)) (and_then ! (load ! (from ! (stop !)) (look ! 26 refl)) (no_more !)))) (λ h₁ r₁ is₁ e₁. land ! (from ! (stop !)) (init ! 22 refl ((LL.lawful T-SeriesTodo.the_type L-SeriesTodo.the_laws 𝓛).typed r₁ _ is₁).0) $
+          calls-with 𝓛 P-SeriesTodo (λ (h' : Cursor) (r : SeriesTodo). (h' ≡ (head_of (now s) x.kind h).to) × (r ≡ head_todo (now s) x h)) (by-ref 𝓛 κ q (b, o) γ) h κ₁ q₁ s P-PartnersTodo x fits-x fm (λ ν' δ. known-head-of (((ν' ∷ [], (κ₁, tt)), (full_share, (q₁, tt)), tt, (ref-at (b, o) δ h, (s, (x, tt))), (vptr b o ∷ [], (sv s ∷ [], (LL.val T-PartnersTodo.the_type L-PartnersTodo.the_laws x ∷ [], tt)))), tt)) (λ _ _ _. and_then ! (load ! (from ! (stop !)) (look ! 16 refl)) (and_then ! (load ! (from ! (stop !)) (look ! 28 refl)) (and_then ! (load ! (from ! (stop !)) (look ! 26 refl)) (no_more !)))) (λ h₁ r₁ is₁ e₁. land ! (from ! (stop !)) (init ! 22 refl ((LL.lawful T-SeriesTodo.the_type L-SeriesTodo.the_laws 𝓛).typed r₁ _ is₁).0) $
           assigns ! (addr ! (from ! (hop ! (look ! 30 refl) (stop !)))) (from ! (stop !)) (init ! 14 refl (tt, tt)) $
           assigns ! (addr ! (from ! (fld ! refl (hop ! (look_in ! 24 (sub ! 0 refl (whole !))) (stop !))))) (from ! (stop !)) (init ! 12 refl (tt, tt)) $
           assigns ! (agg ! (and_then ! (load ! (from ! (stop !)) (look ! 12 refl)) (and_then ! (load ! (from ! (fld ! refl (stop !))) (look_in ! 24 (sub ! 1 refl (whole !)))) (no_more !)))) (from ! (stop !)) (init ! 10 refl (tt, (tt, (record { fits = room.0 }, tt)))) $
           move ! (0 ∷ 1 ∷ 2 ∷ 5 ∷ 3 ∷ []) $
-          calls_rows 𝓛 P-SeriesTodo (λ (h' : Cursor) (r : SeriesTodo) (zs : List ℕ). SeriesWhole (now s) r₁ h₁ ys h' r zs) (by-ref 𝓛 κ q (b, o) γ) h₁ κ₁ κᵣ q₁ qᵣ s P-SeriesTodo r₁ is₁ bᵣ oᵣ γᵣ ys room fm (λ ν' δ μ' ε. known-list-of (((ν' ∷ [], (κ₁, (μ' ∷ [], tt))), (full_share, (q₁, (full_share, tt))), tt, (ref-at (b, o) δ h₁, (s, (r₁, (record { ref_ptr = (bᵣ, oᵣ); ghost_name = ε; now = ys }, tt)))), (vptr b o ∷ [], (sv s ∷ [], (LL.val T-SeriesTodo.the_type L-SeriesTodo.the_laws r₁ ∷ [], (slice_val (bᵣ, oᵣ) (length ys) ∷ [], tt))))), tt)) (λ _ _ _ _ _. and_then ! (load ! (from ! (stop !)) (look ! 14 refl)) (and_then ! (load ! (from ! (stop !)) (look ! 28 refl)) (and_then ! (load ! (from ! (stop !)) (look ! 22 refl)) (and_then ! (load ! (from ! (stop !)) (look ! 10 refl)) (no_more !))))) (λ h₂ r₂ zs len is₂ e₂. land ! (from ! (stop !)) (init ! 20 refl ((LL.lawful T-SeriesTodo.the_type L-SeriesTodo.the_laws 𝓛).typed r₂ _ is₂).0) $
+          calls-rows 𝓛 P-SeriesTodo (λ (h' : Cursor) (r : SeriesTodo) (zs : List ℕ). SeriesWhole (now s) r₁ h₁ ys h' r zs) (by-ref 𝓛 κ q (b, o) γ) h₁ κ₁ κᵣ q₁ qᵣ s P-SeriesTodo r₁ is₁ bᵣ oᵣ γᵣ ys room fm (λ ν' δ μ' ε. known-list-of (((ν' ∷ [], (κ₁, (μ' ∷ [], tt))), (full_share, (q₁, (full_share, tt))), tt, (ref-at (b, o) δ h₁, (s, (r₁, (record { ref_ptr = (bᵣ, oᵣ); ghost_name = ε; now = ys }, tt)))), (vptr b o ∷ [], (sv s ∷ [], (LL.val T-SeriesTodo.the_type L-SeriesTodo.the_laws r₁ ∷ [], (slice_val (bᵣ, oᵣ) (length ys) ∷ [], tt))))), tt)) (λ _ _ _ _ _. and_then ! (load ! (from ! (stop !)) (look ! 14 refl)) (and_then ! (load ! (from ! (stop !)) (look ! 28 refl)) (and_then ! (load ! (from ! (stop !)) (look ! 22 refl)) (and_then ! (load ! (from ! (stop !)) (look ! 10 refl)) (no_more !))))) (λ h₂ r₂ zs len is₂ e₂. land ! (from ! (stop !)) (init ! 20 refl ((LL.lawful T-SeriesTodo.the_type L-SeriesTodo.the_laws 𝓛).typed r₂ _ is₂).0) $
           assigns ! (agg ! (and_then ! (load ! (from ! (stop !)) (look ! 26 refl)) (and_then ! (load ! (from ! (stop !)) (look ! 20 refl)) (no_more !)))) (from ! (stop !)) (init ! 18 refl ((LL.lawful T-PartnerSeen.the_type L-PartnerSeen.the_laws 𝓛).typed (made₇ r₂) _ (made₇-is r₂ is₂)).0) $
           assigns ! (addr ! (from ! (hop ! (look ! 30 refl) (stop !)))) (from ! (stop !)) (init ! 8 refl (tt, tt)) $
-          calls_with 𝓛 P-PartnersTodo (λ (h' : Cursor) (r : PartnersTodo). PartnerEnd (now s) (made₇ r₂) h₂ h' r) (by-ref 𝓛 κ q (b, o) γ) h₂ κ₁ q₁ s P-PartnerSeen (made₇ r₂) (made₇-is r₂ is₂) fm (λ ν' δ. known-end-of (((ν' ∷ [], (κ₁, tt)), (full_share, (q₁, tt)), tt, (ref-at (b, o) δ h₂, (s, ((made₇ r₂), tt))), (vptr b o ∷ [], (sv s ∷ [], (LL.val T-PartnerSeen.the_type L-PartnerSeen.the_laws (made₇ r₂) ∷ [], tt)))), tt)) (λ _ _ _. and_then ! (load ! (from ! (stop !)) (look ! 8 refl)) (and_then ! (load ! (from ! (stop !)) (look ! 28 refl)) (and_then ! (load ! (from ! (stop !)) (look ! 18 refl)) (no_more !)))) (λ h₃ r₃ is₃ e₃. land ! (from ! (stop !)) (init ! 32 refl ((LL.lawful T-PartnersTodo.the_type L-PartnersTodo.the_laws 𝓛).typed r₃ _ is₃).0) $
+          calls-with 𝓛 P-PartnersTodo (λ (h' : Cursor) (r : PartnersTodo). PartnerEnd (now s) (made₇ r₂) h₂ h' r) (by-ref 𝓛 κ q (b, o) γ) h₂ κ₁ q₁ s P-PartnerSeen (made₇ r₂) (made₇-is r₂ is₂) fm (λ ν' δ. known-end-of (((ν' ∷ [], (κ₁, tt)), (full_share, (q₁, tt)), tt, (ref-at (b, o) δ h₂, (s, ((made₇ r₂), tt))), (vptr b o ∷ [], (sv s ∷ [], (LL.val T-PartnerSeen.the_type L-PartnerSeen.the_laws (made₇ r₂) ∷ [], tt)))), tt)) (λ _ _ _. and_then ! (load ! (from ! (stop !)) (look ! 8 refl)) (and_then ! (load ! (from ! (stop !)) (look ! 28 refl)) (and_then ! (load ! (from ! (stop !)) (look ! 18 refl)) (no_more !)))) (λ h₃ r₃ is₃ e₃. land ! (from ! (stop !)) (init ! 32 refl ((LL.lawful T-PartnersTodo.the_type L-PartnersTodo.the_laws 𝓛).typed r₃ _ is₃).0) $
           returns ! (look ! 32 refl) $
           forget ! 32 refl $ forget ! 30 refl $ forget ! 28 refl $ forget ! 26 refl $ forget ! 24 refl $ forget ! 22 refl $ forget ! 20 refl $ forget ! 18 refl $ forget ! 16 refl $ forget ! 14 refl $ forget ! 12 refl $ forget ! 10 refl $ forget ! 8 refl $
           move ! (32 ∷ 33 ∷ []) $ free1 ! $ move ! (30 ∷ 31 ∷ []) $ free1 ! $ move ! (28 ∷ 29 ∷ []) $ free1 ! $ move ! (26 ∷ 27 ∷ []) $ free1 ! $ move ! (24 ∷ 25 ∷ []) $ free1 ! $ move ! (22 ∷ 23 ∷ []) $ free1 ! $ move ! (20 ∷ 21 ∷ []) $ free1 ! $ move ! (18 ∷ 19 ∷ []) $ free1 ! $ move ! (16 ∷ 17 ∷ []) $ free1 ! $ move ! (14 ∷ 15 ∷ []) $ free1 ! $ move ! (12 ∷ 13 ∷ []) $ free1 ! $ move ! (10 ∷ 11 ∷ []) $ free1 ! $ move ! (8 ∷ 9 ∷ []) $ free1 ! $ free0 ! $

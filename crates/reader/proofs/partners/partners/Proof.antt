@@ -24,12 +24,12 @@ use denote.Struct.Laws as LL
 use denote.Builtin.{SliceRefOf}
 use Rattle.cursor.specs.declared.Cursor.{Cursor}
 use Rattle.cursor.proofs.Lent.{R, sv, Slice, ref-at, By, by-ref}
-use Rattle.cursor.proofs.Lends.{Plain, Rows, calls_rows}
+use Rattle.cursor.proofs.Lends.{Plain, Rows, calls-rows}
 use Rattle.reader.specs.declared.partners.PartnersTodo.{PartnersTodo}
 use Rattle.reader.specs.contracts.partners.PartnersTodo as T-PartnersTodo
 use Rattle.reader.proofs.partners.PartnersTodo.TheLaws as L-PartnersTodo
 use Rattle.reader.specs.PartnerTurnsInner.{PartnerStep, PartnersWhole}
-use Rattle.reader.specs.PartnerTurnsLaws.{Starts, PartnersLead, leads_first, leads_last, leads_on}
+use Rattle.reader.specs.PartnerTurnsLaws.{Starts, PartnersLead, leads-first, leads-last, leads-on}
 use Rattle.reader.specs.contracts.partners.partner as one
 use Rattle.reader.proofs.partners.partner.Symbol as one_def
 use Rattle.reader.proofs.partners.partner.Symbol.{name as #one}
@@ -53,24 +53,24 @@ module _ {s : List ℕ} {t₀ : PartnersTodo} {c₀ : Cursor} {ys : List ℕ} wh
   abbrev Fewer : Turn s t₀ c₀ ys → Turn s t₀ c₀ ys → Type 0
   Fewer t' t = t'.todo.left < t.todo.left
 
-  fewer_wf : WellFounded Fewer
-  fewer_wf = InvImage.wf (λ (t : Turn s t₀ c₀ ys). t.todo.left) lt-wf_rel.wf
+  fewer-wf : WellFounded Fewer
+  fewer-wf = InvImage.wf (λ (t : Turn s t₀ c₀ ys). t.todo.left) lt-wf_rel.wf
 
   abbrev begins : Is T-PartnersTodo.the_row t₀ (LL.val T-PartnersTodo.the_type L-PartnersTodo.the_laws t₀ ∷ []) → Turn s t₀ c₀ ys
-  begins g = record { h = c₀; todo = t₀; cells = ys; leads = leads_first s t₀ c₀ ys; len = refl; good = g }
+  begins g = record { h = c₀; todo = t₀; cells = ys; leads = leads-first s t₀ c₀ ys; len = refl; good = g }
 
   made : (t : Turn s t₀ c₀ ys) → t.todo.left ≡ 0 → PartnersWhole s t₀ c₀ ys t.h t.todo t.cells
-  made t e = leads_last s t₀ c₀ ys t.h t.todo t.cells t.leads e
+  made t e = leads-last s t₀ c₀ ys t.h t.todo t.cells t.leads e
 
   module _ (t : Turn s t₀ c₀ ys) (some : 0 < t.todo.left) (cs : List ℕ) (same : length cs ≡ length t.cells) (h : Cursor) (t' : PartnersTodo) (said : PartnerStep s t.todo t.h t.cells h t' cs) (good : Is T-PartnersTodo.the_row t' (LL.val T-PartnersTodo.the_type L-PartnersTodo.the_laws t' ∷ [])) where
     on : Starts s t₀ c₀ ys → PartnersLead s t₀ c₀ ys h t' cs
-    on i = let l = t.leads i in leads_on s t₀ c₀ ys t.h t.todo t.cells l some cs same h t' (said.1 l.room)
+    on i = let l = t.leads i in leads-on s t₀ c₀ ys t.h t.todo t.cells l some cs same h t' (said.1 l.room)
 
     abbrev next : Turn s t₀ c₀ ys
     next = record { h = h; todo = t'; cells = cs; leads = on; len = same ∙ t.len; good = good }
 
-    next_fewer : t'.left < t.todo.left
-    next_fewer = omega (arith, said.0, some)
+    next-fewer : t'.left < t.todo.left
+    next-fewer = omega (arith, said.0, some)
 
 abbrev stayed : Stays (me.ended).signature.params (me.ended).kept
 stayed = (stay_ref (0 ∷ []) tt (plain (λ _. R)), (stay_dropped (SliceRefOf (1 ∷ []) tt (plain (λ _. u8)) (λ _. tt)) yes, (stay_dropped (plain (λ _. T-PartnersTodo.the_row)) yes, (stay_slice (2 ∷ []) tt (plain (λ _. u64)), tt))))
@@ -166,18 +166,18 @@ module _ {M : Type 1} {𝓤 : Ura M} (𝓛 : Logic 𝓤) (at_mem : Memory → SP
           assigns ! (addr ! (from ! (fld ! refl (hop ! (look_in ! 11 (sub ! 0 refl (whole !))) (stop !))))) (from ! (stop !)) (init ! 9 refl (tt, tt)) $
           assigns ! (agg ! (and_then ! (load ! (from ! (stop !)) (look ! 9 refl)) (and_then ! (load ! (from ! (fld ! refl (stop !))) (look_in ! 11 (sub ! 1 refl (whole !)))) (no_more !)))) (from ! (stop !)) (init ! 10 refl (tt, (tt, (record { fits = room.0 }, tt)))) $
           rewrite ! 10 (λ (m : ℕ). ‵ (fat full_share LentTy l₁₀ 0 (slice_val (b₂, o₂) m))) (sym t.len) refl $
-          calls_rows 𝓛 P-PartnersTodo (λ (h' : Cursor) (r : PartnersTodo) (zs : List ℕ). PartnerStep (now s) t.todo t.h t.cells h' r zs) (by-ref 𝓛 κ q (b, o) γ) t.h κ₁ κ₂ q₁ q₂ s P-PartnersTodo t.todo t.good b₂ o₂ γ₂ t.cells (subst (λ (m : ℕ). Room u64 m) (sym t.len) room) (fm_of 𝓤 H 𝓛.laws 𝓣)
+          calls-rows 𝓛 P-PartnersTodo (λ (h' : Cursor) (r : PartnersTodo) (zs : List ℕ). PartnerStep (now s) t.todo t.h t.cells h' r zs) (by-ref 𝓛 κ q (b, o) γ) t.h κ₁ κ₂ q₁ q₂ s P-PartnersTodo t.todo t.good b₂ o₂ γ₂ t.cells (subst (λ (m : ℕ). Room u64 m) (sym t.len) room) (fm_of 𝓤 H 𝓛.laws 𝓣)
           (λ ν δ μ ε. known (((ν ∷ [], (κ₁, (μ ∷ [], tt))), (full_share, (q₁, (full_share, tt))), tt, (ref-at (b, o) δ t.h, (s, (t.todo, (record { ref_ptr = (b₂, o₂); ghost_name = ε; now = t.cells }, tt)))), (vptr b o ∷ [], (sv s ∷ [], (LL.val T-PartnersTodo.the_type L-PartnersTodo.the_laws t.todo ∷ [], (slice_val (b₂, o₂) (length t.cells) ∷ [], tt))))), tt)) (λ _ _ _ _ _. and_then ! (load ! (from ! (stop !)) (look ! 8 refl)) (and_then ! (load ! (from ! (stop !)) (look ! 13 refl)) (and_then ! (load ! (from ! (stop !)) (look ! 5 refl)) (and_then ! (load ! (from ! (stop !)) (look ! 10 refl)) (no_more !))))) (λ h' r zs len is said. land ! (from ! (stop !)) (init ! 6 refl ((LL.lawful T-PartnersTodo.the_type L-PartnersTodo.the_laws 𝓛).typed r _ is).0) $
           assigns_last ! (of_opd ! (load ! (from ! (stop !)) (look ! 6 refl))) (from ! (stop !)) (store ! 5 refl ((LL.lawful T-PartnersTodo.the_type L-PartnersTodo.the_laws 𝓛).typed r _ is).0) $
           forget ! 6 refl $ forget ! 7 refl $ forget ! 8 refl $ forget ! 9 refl $ forget ! 10 refl $
-          keep ! (0 ∷ 1 ∷ 2 ∷ 3 ∷ 4 ∷ 5 ∷ 6 ∷ 7 ∷ 8 ∷ 9 ∷ 10 ∷ 11 ∷ 12 ∷ 13 ∷ 14 ∷ 15 ∷ 16 ∷ 17 ∷ 18 ∷ 19 ∷ 20 ∷ 21 ∷ 22 ∷ 23 ∷ 24 ∷ 25 ∷ 26 ∷ []) $ again ! Fewer Ctx t (next t (some_left t e) zs len h' r said is) (next_fewer t (some_left t e) zs len h' r said is))
+          keep ! (0 ∷ 1 ∷ 2 ∷ 3 ∷ 4 ∷ 5 ∷ 6 ∷ 7 ∷ 8 ∷ 9 ∷ 10 ∷ 11 ∷ 12 ∷ 13 ∷ 14 ∷ 15 ∷ 16 ∷ 17 ∷ 18 ∷ 19 ∷ 20 ∷ 21 ∷ 22 ∷ 23 ∷ 24 ∷ 25 ∷ 26 ∷ []) $ again ! Fewer Ctx t (next t (some_left t e) zs len h' r said is) (next-fewer t (some_left t e) zs len h' r said is))
 
       walks_loop : (t : At) → Sq 𝓛 (Ctx t) (runs C Λ En body.turn-1 (any_q (after_turn 𝓤 H (Below 𝓛 Fewer Ctx t) Left)))
       walks_loop t = turn t (ltb 0 t.todo.left) refl
 
       -- the loop, and what follows it
       looped : (t : At) → Sq 𝓛 (Ctx t) (runs C Λ En body.t-2 (at_ret En Ends))
-      looped t = at_first ! $ blocks ! $ loops ! 𝓣 Fewer fewer_wf Ctx walks_loop t
+      looped t = at_first ! $ blocks ! $ loops ! 𝓣 Fewer fewer-wf Ctx walks_loop t
 
     walk : Is (ShrSlice (named 1) κ₁ u8) s (sv s ∷ []) → Is T-PartnersTodo.the_row t₀ (LL.val T-PartnersTodo.the_type L-PartnersTodo.the_laws t₀ ∷ []) → ent 𝓤 (on_entry 𝓛 me.signature (κ, (κ₁, (κ₂, tt))) (q, (q₁, (q₂, tt))) a vals) (WpFn 𝓤 H C Λ code.function (vptr b o ∷ sv s ∷ LL.val T-PartnersTodo.the_type L-PartnersTodo.the_laws t₀ ∷ slice_val (b₂, o₂) (length ys) ∷ []) Ends)
     walk is-s good-t =

@@ -1,7 +1,7 @@
 -- `past_head` is thin (the rule of `cursor` Thin): it passes the cursor by value to `head_by`, stores the one behind the head and returns the series that are left.
 use Rattle.cursor.proofs.Walk.{triple_of, entered, cited, tables, tables_of, ◌≡◌, refl}
 use denote.Struct.Laws as LL
-use Rattle.cursor.proofs.Thin.{Carried, Answer, struct, gives_meets}
+use Rattle.cursor.proofs.Thin.{Carried, Answer, struct, gives-meets}
 use Rattle.reader.specs.PartnerTurnsInner.{head_of, head_todo}
 use Rattle.reader.specs.contracts.partners.PartnersTodo as T-PartnersTodo
 use Rattle.reader.proofs.partners.PartnersTodo.TheLaws as L-PartnersTodo
@@ -42,6 +42,6 @@ unfolding code.routine tables_of
 past-head-spec 𝓤 𝓛 𝓜 𝓡 =
     entered 𝓤 𝓛.H (triple_of 𝓛 me.signature (me.spec 𝓛 𝓜.mem 𝓡.run))
     (tables 𝓤 𝓛.H 𝓜 𝓡 code.env).C (tables 𝓤 𝓛.H 𝓜 𝓡 code.env).Λ #me code.function (code.unfolded 𝓤 𝓛.H 𝓜 𝓡)
-    (gives_meets takes returns answer (λ s x h r. (r.to ≡ (head_of s x.kind h).to) × (r.todo ≡ head_todo s x h)) (λ s x h h' r. (h' ≡ (head_of s x.kind h).to) × (r ≡ head_todo s x h)) (λ s x h r e. e) #callee
+    (gives-meets takes returns answer (λ s x h r. (r.to ≡ (head_of s x.kind h).to) × (r.todo ≡ head_todo s x h)) (λ s x h h' r. (h' ≡ (head_of s x.kind h).to) × (r ≡ head_todo s x h)) (λ s x h r e. e) #callee
     𝓛 (tables_of 𝓤 𝓛.H 𝓜 (tables 𝓤 𝓛.H 𝓜 𝓡 code.env))
     (cited 𝓤 𝓛.H (triple_of 𝓛 callee.signature (callee.spec 𝓛 𝓜.mem 𝓡.run)) 𝓜 𝓡 code.env #callee callee-def.routine code.calls-reader::partners::head-by (callee-thm.met 𝓤 𝓛 𝓜 𝓡)))

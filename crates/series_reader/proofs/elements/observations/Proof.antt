@@ -6,7 +6,7 @@ use denote.Ref.{Bor, MutBor, mut_vals}
 use Rattle.cursor.proofs.Walk.{ℕ, ◌<◌, GName, Lft, Share, ftrue, fat, flft, SProp, ent, emp, via, fst∗, snd∗, ex_e, id⊢, Fun, fact, tables, tables_of, u8, u64, yes, Is, shows, mem, owns, RefT, MutRef, ptr-vals, mut_Tells, now, plain, ShrSlice, slice_val, slice-vals, shr_slice_Tells, only, opens, closes, owned, peeks, heard, nothing, spelt, calls_at, ensured, lasts, on_entry, Meets, triple_of, Contract, Triple, entered, cited, says, Stays, stay_ref, walk_of, Goes-ref, ends_at, walked, walk_Meets, stay_dropped, Goes-dropped, sem, full_share, Ura, length, [], ◌∷◌, List, ◌≡◌, refl, ap, named, w8, w64, Val, vptr, vunit, Memory, Routine, Calls, Loops, WpFn, Tables, fm_of, WpFn-mono, ‵, raw, ◌⊛◌, some, later, ⋆, ◌$◌, ◌∵◌, !, qed, by, move, keep, drop, use1, split, join, pick, rewrite, fsplit, fsplit3, fjoin, fjoin3, feq_i, suffices, frame, await, done, group, whole, sub, look_in, agg, look, look_raw, store_raw, init, forget, stop, hop, fld, from, load, of_opd, and_then, no_more, assigns, land, returns, enter, alloc1, alloc0, params1, pass1, pass0, free1, free0, store, lit, addr, unit_lit, lft_new, lft_end}
 use base.Fml.{Fml, froom, fdies}
 use Rattle.cursor.proofs.Again.{LentAgain, lends_again, comes_back}
-use Rattle.series_reader.proofs.Turn.{Turn, Fewer, fewer_wf, begins, made, Said, next, next_fewer}
+use Rattle.series_reader.proofs.Turn.{Turn, Fewer, fewer-wf, begins, made, Said, next, next-fewer}
 use mathlib.Core.Bool.{Bool, true, false}
 use mathlib.Core.Path.{sym, subst}
 use native.Mathlib.Omega.{arith}
@@ -31,7 +31,7 @@ use Rattle.passages.specs.declared.ObservationFound.{ObservationFound}
 use Rattle.series_reader.specs.declared.elements.Wanted.{Wanted}
 use Rattle.series_reader.specs.declared.elements.Todo.{Todo}
 use Rattle.series_reader.specs.declared.elements.Turned.{Turned}
-use Rattle.passages.specs.PassagesInner.{observationFound, observationTo}
+use Rattle.passages.specs.PassagesInner.{observation_found, observation_to}
 use Rattle.series_reader.specs.TurnsInner.{at_first}
 use Rattle.passages.specs.contracts.ObservationFound as N
 use Rattle.passages.proofs.ObservationFound.TheLaws as N'
@@ -209,20 +209,20 @@ module _ {M : Type 1} {𝓤 : Ura M} (𝓛 : Logic 𝓤) (at_mem : Memory → SP
           move ! (1 ∷ []) $ split ! $ move ! (1 ∷ []) $ split ! $ lft_end ! tt $ move ! (0 ∷ 11 ∷ 4 ∷ []) $ use3 𝓛 (later (‵ (Own-out ws.1.1.1.1.0 (length t.cells)) ⊛ ‵ (flft κ₂ q₂))) (comes_back u64 κ₂ (ν ∷ []) q₂ γ₂ b₂ o₂ 𝓛 (named 2) (named 0) t.cells δ ws.1.1.1.1.0 (subst (Room u64) (sym t.len) room) l) $ await ! tt $ split ! $ rewrite ! 0 (λ (m : ℕ). ‵ (Own-out ws.1.1.1.1.0 m)) (sym l) refl $
           assigns_last ! (of_opd ! (load ! (from ! (fld ! refl (stop !))) (look_in ! 13 (sub ! 1 refl (whole !))))) (from ! (stop !)) (store ! 11 refl ((LL.lawful S.the_type S'.the_laws 𝓛).typed r.todo _ (todo-is r v g')).0) $
           forget ! 12 refl $ forget ! 13 refl $ forget ! 14 refl $ forget ! 15 refl $ forget ! 16 refl $ forget ! 17 refl $ forget ! 18 refl $
-          keep ! (4 ∷ 3 ∷ 10 ∷ 0 ∷ 1 ∷ 11 ∷ 12 ∷ 13 ∷ 14 ∷ 15 ∷ 16 ∷ 17 ∷ 18 ∷ 19 ∷ 20 ∷ 21 ∷ 22 ∷ 23 ∷ 24 ∷ 25 ∷ 26 ∷ 27 ∷ 28 ∷ 29 ∷ 30 ∷ 31 ∷ 32 ∷ 33 ∷ 34 ∷ 35 ∷ 36 ∷ []) $ again ! Fewer Ctx t (next t (some_left t e) ws.1.1.1.1.0 l r.to r.todo is (todo-is r v g')) (next_fewer t (some_left t e) ws.1.1.1.1.0 l r.to r.todo is (todo-is r v g')))))))))))))
+          keep ! (4 ∷ 3 ∷ 10 ∷ 0 ∷ 1 ∷ 11 ∷ 12 ∷ 13 ∷ 14 ∷ 15 ∷ 16 ∷ 17 ∷ 18 ∷ 19 ∷ 20 ∷ 21 ∷ 22 ∷ 23 ∷ 24 ∷ 25 ∷ 26 ∷ 27 ∷ 28 ∷ 29 ∷ 30 ∷ 31 ∷ 32 ∷ 33 ∷ 34 ∷ 35 ∷ 36 ∷ []) $ again ! Fewer Ctx t (next t (some_left t e) ws.1.1.1.1.0 l r.to r.todo is (todo-is r v g')) (next-fewer t (some_left t e) ws.1.1.1.1.0 l r.to r.todo is (todo-is r v g')))))))))))))
         where
           found : ObservationFound
-          found = observationFound (now s) t.h
+          found = observation_found (now s) t.h
 
           end : Cursor
-          end = observationTo (now s) t.h
+          end = observation_to (now s) t.h
 
       walks_loop : (t : At) → Sq 𝓛 (Ctx t) (runs C Λ En body.turn-1 (any_q (after_turn 𝓤 H (Below 𝓛 Fewer Ctx t) Left)))
       walks_loop t = turn t (ltb 0 t.todo.left) refl
 
       -- the loop, and what follows it
       looped : (t : At) → Sq 𝓛 (Ctx t) (runs C Λ En body.t-2 (at_ret En Post))
-      looped t = at_first ! $ blocks ! $ loops ! 𝓣 Fewer fewer_wf Ctx walks_loop t
+      looped t = at_first ! $ blocks ! $ loops ! 𝓣 Fewer fewer-wf Ctx walks_loop t
 
     walk : Is (ShrSlice (named 1) κ₁ u8) s (sv s ∷ []) → Is B.the_row w (B'.lowered w ∷ []) → ent 𝓤 (on_entry 𝓛 me.signature (κ, (κ₁, (κ₂, tt))) (q, (q₁, (q₂, tt))) a vals) (WpFn 𝓤 H C Λ code.function (vptr b o ∷ sv s ∷ B'.lowered w ∷ sv₂ (length ys) ∷ []) Post)
     walk is-s good-w =

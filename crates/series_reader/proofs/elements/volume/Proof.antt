@@ -11,8 +11,8 @@ use Rattle.text.specs.Ascii.{bytes}
 use Rattle.cursor.specs.declared.Cursor.{Cursor}
 use Rattle.cursor.specs.MovesInner.{past_tag, standing}
 use Rattle.cursor.proofs.Lent.{R, sv, ref-at, By, by-ref}
-use Rattle.cursor.proofs.Lends.{Plain, Fits, Rows, no_answer, calls_bare, calls_with, calls_rows}
-use Rattle.cursor.proofs.Lit.{lit_typed, lits, lit-at, lends_lit, lit_back}
+use Rattle.cursor.proofs.Lends.{Plain, Fits, Rows, no_answer, calls-bare, calls-with, calls-rows}
+use Rattle.cursor.proofs.Lit.{lit-typed, lits, lit-at, lends-lit, lit-back}
 use Rattle.cursor.proofs.Call_past_tag as call-tag
 use Rattle.cursor.proofs.past_tag.Symbol as tag-def
 use Rattle.cursor.proofs.past_tag.Symbol.{name as #tag}
@@ -51,7 +51,7 @@ use Rattle.series_reader.specs.contracts.elements.Wanted as T-Wanted
 use Rattle.series_reader.proofs.elements.Wanted.TheLaws as L-Wanted
 use Rattle.series_reader.specs.contracts.elements.SeriesFound as T-SeriesFound
 use Rattle.series_reader.proofs.elements.SeriesFound.TheLaws as L-SeriesFound
-use Rattle.passages.specs.PassagesInner.{volumeFound, volumeTo, monthFound, monthTo}
+use Rattle.passages.specs.PassagesInner.{volume_found, volume_to, month_found, month_to}
 use Rattle.series_reader.specs.TurnsInner.{Whole}
 use Rattle.series_reader.specs.VolumesInner.{MonthPassed}
 use Rattle.series_reader.specs.VolumesLaws.{volume-done}
@@ -119,7 +119,7 @@ module _ {M : Type 1} {𝓤 : Ura M} (𝓛 : Logic 𝓤) (at_mem : Memory → SP
     made₀-is : (r₁ : VolumeFound) → (r₂ : MonthFound) → (is₁ : Fits P-VolumeFound r₁) → (is₂ : Fits P-MonthFound r₂) → Is T-SeriesFound.the_row (made₀ r₁ r₂) (L-SeriesFound.lowered (made₀ r₁ r₂) ∷ [])
     made₀-is r₁ r₂ is₁ is₂ = LL.owes T-SeriesFound.the_type L-SeriesFound.the_laws (made₀ r₁ r₂) ((LL.owed T-VolumeFound.the_type L-VolumeFound.the_laws r₁ _ is₁).0, ((LL.owed T-MonthFound.the_type L-MonthFound.the_laws r₂ _ is₂).0, ((LL.owed T-MonthFound.the_type L-MonthFound.the_laws r₂ _ is₂).1.0, ((LL.owed T-VolumeFound.the_type L-VolumeFound.the_laws r₁ _ is₁).1.0, tt))))
 
-    exits : (h₁ : Cursor) → (r₁ : VolumeFound) → (is₁ : Fits P-VolumeFound r₁) → (e₁ : (h₁ ≡ volumeTo (now s) h) × (r₁ ≡ volumeFound (now s) h)) → (h₂ : Cursor) → (r₂ : MonthFound) → (is₂ : Fits P-MonthFound r₂) → (e₂ : (h₂ ≡ monthTo (now s) h₁) × (r₂ ≡ monthFound (now s) h₁)) → (h₃ : Cursor) → (r₃ : Unit {0}) → (is₃ : Fits no_answer r₃) → (e₃ : MonthPassed (now s) r₂ h₂ h₃) → (h₄ : Cursor) → (r₄ : Unit {0}) → (zs : List ℕ) → (len : length zs ≡ length ys) → (is₄ : Fits no_answer r₄) → (e₄ : Whole (now s) (made₈ r₁ r₂) h₃ ys (standing (now s) h₄) zs) → length (now s) < 2 ^ 64 → ent 𝓤 (⋆ 𝓛 (By 𝓛 κ q (b, o) γ (h₅ h₄) ∷ ‵ (flft κ₁ q₁) ∷ ‵ (flft κᵣ qᵣ) ∷ ‵ (Rows κᵣ bᵣ oᵣ γᵣ zs (length ys)) ∷ [])) (Post (L-SeriesFound.lowered (made₀ r₁ r₂)))
+    exits : (h₁ : Cursor) → (r₁ : VolumeFound) → (is₁ : Fits P-VolumeFound r₁) → (e₁ : (h₁ ≡ volume_to (now s) h) × (r₁ ≡ volume_found (now s) h)) → (h₂ : Cursor) → (r₂ : MonthFound) → (is₂ : Fits P-MonthFound r₂) → (e₂ : (h₂ ≡ month_to (now s) h₁) × (r₂ ≡ month_found (now s) h₁)) → (h₃ : Cursor) → (r₃ : Unit {0}) → (is₃ : Fits no_answer r₃) → (e₃ : MonthPassed (now s) r₂ h₂ h₃) → (h₄ : Cursor) → (r₄ : Unit {0}) → (zs : List ℕ) → (len : length zs ≡ length ys) → (is₄ : Fits no_answer r₄) → (e₄ : Whole (now s) (made₈ r₁ r₂) h₃ ys (standing (now s) h₄) zs) → length (now s) < 2 ^ 64 → ent 𝓤 (⋆ 𝓛 (By 𝓛 κ q (b, o) γ (h₅ h₄) ∷ ‵ (flft κ₁ q₁) ∷ ‵ (flft κᵣ qᵣ) ∷ ‵ (Rows κᵣ bᵣ oᵣ γᵣ zs (length ys)) ∷ [])) (Post (L-SeriesFound.lowered (made₀ r₁ r₂)))
     exits h₁ r₁ is₁ e₁ h₂ r₂ is₂ e₂ h₃ r₃ is₃ e₃ h₄ r₄ zs len is₄ e₄ long =
         qed 𝓛 (By 𝓛 κ q (b, o) γ (h₅ h₄) ∷ ‵ (flft κ₁ q₁) ∷ ‵ (flft κᵣ qᵣ) ∷ ‵ (Rows κᵣ bᵣ oᵣ γᵣ zs (length ys)) ∷ []) ∵
         suffices ! _ (ends_at 𝓛 me.ended stayed (me.clauses 𝓛 at_mem run) (((κ, (κ₁, (κᵣ, tt))), (q, (q₁, (qᵣ, tt))), tt, a, vals), tt) (L-SeriesFound.lowered (made₀ r₁ r₂)) (made₀ r₁ r₂) ((h₅ h₄), (tt, (tt, (zs, tt)))) (tt, (tt, (tt, (len, tt))))) $ says ! (volume-done (now s) x h ys h₁ r₁ e₁ h₂ r₂ e₂ h₃ e₃ h₄ zs e₄ long) $
@@ -132,30 +132,30 @@ module _ {M : Type 1} {𝓤 : Ura M} (𝓛 : Logic 𝓤) (at_mem : Memory → SP
           qed 𝓛 ((‵ (flft κ q) ⊛ ‵ (flft κ₁ q₁) ⊛ ‵ (flft κᵣ qᵣ) ⊛ ‵ ftrue) ∷ ‵ (owns (MutRef (named 0) κ R ∷ ShrSlice (named 1) κ₁ u8 ∷ T-VolumeTodo.the_row ∷ MutSlice (named 2) κᵣ u64 ∷ []) a vals) ∷ []) ∵ enter ! C Λ code.function (vptr b o ∷ sv s ∷ L-VolumeTodo.lowered x ∷ slice_val (bᵣ, oᵣ) (length ys) ∷ []) _ $
           alloc1 ! (λ l₀. alloc1 ! (λ l₁. alloc1 ! (λ l₂. alloc1 ! (λ l₃. alloc1 ! (λ l₄. alloc1 ! (λ l₅. alloc1 ! (λ l₆. alloc1 ! (λ l₇. alloc1 ! (λ l₈. alloc1 ! (λ l₉. alloc1 ! (λ l₁₀. alloc1 ! (λ l₁₁. alloc1 ! (λ l₁₂. alloc1 ! (λ l₁₃. alloc1 ! (λ l₁₄. alloc1 ! (λ l₁₅. alloc1 ! (λ l₁₆. alloc1 ! (λ l₁₇. alloc1 ! (λ l₁₈. alloc1 ! (λ l₁₉. alloc0 ! $ params1 ! $
           pass1 ! (init ! 36 refl (tt, tt)) $ pass1 ! (init ! 34 refl (tt, (tt, (record { fits = is-s.0.1.0 }, tt)))) $ pass1 ! (init ! 32 refl ((LL.lawful T-VolumeTodo.the_type L-VolumeTodo.the_laws 𝓛).typed x _ fits-x).0) $ pass1 ! (init ! 30 refl (tt, (tt, (record { fits = room.0 }, tt)))) $ pass0 ! $
-          assigns ! (agg ! (lits 𝓛 (bytes "</TimeSeriesPeriod>") tt)) (from ! (stop !)) (init ! 20 refl (lit_typed 𝓛 (bytes "</TimeSeriesPeriod>") tt)) $
+          assigns ! (agg ! (lits 𝓛 (bytes "</TimeSeriesPeriod>") tt)) (from ! (stop !)) (init ! 20 refl (lit-typed 𝓛 (bytes "</TimeSeriesPeriod>") tt)) $
           move ! (41 ∷ []) $ fsplit ! $ move ! (1 ∷ []) $ fsplit ! $ move ! (1 ∷ []) $ fsplit ! $ move ! (1 ∷ []) $ fsplit ! $ move ! (45 ∷ []) $ split ! $ move ! (1 ∷ []) $ split ! $ move ! (1 ∷ []) $ split ! $ move ! (8 ∷ 3 ∷ []) $ join ! $
-          lft_new ! tt (λ ν. move ! (29 ∷ []) $ lends_lit 𝓛 tt ν l₉ (bytes "</TimeSeriesPeriod>") tt (lit< tt, lit< tt) (λ δ₉.
+          lft_new ! tt (λ ν. move ! (29 ∷ []) $ lends-lit 𝓛 tt ν l₉ (bytes "</TimeSeriesPeriod>") tt (lit< tt, lit< tt) (λ δ₉.
           assigns ! (addr ! (from ! (hop ! (look ! 46 refl) (stop !)))) (from ! (stop !)) (init ! 29 refl (tt, tt)) $
           move ! (3 ∷ 6 ∷ 10 ∷ []) $
-          calls_bare 𝓛 P-VolumeFound (λ (h' : Cursor) (r : VolumeFound). (h' ≡ volumeTo (now s) h) × (r ≡ volumeFound (now s) h)) (by-ref 𝓛 κ q (b, o) γ) h κ₁ q₁ s fm (λ ν' δ. known-volume-passage (((ν' ∷ [], (κ₁, tt)), (full_share, (q₁, tt)), tt, (ref-at (b, o) δ h, (s, tt)), (vptr b o ∷ [], (sv s ∷ [], tt))), tt)) (λ _ _ _. and_then ! (load ! (from ! (stop !)) (look ! 29 refl)) (and_then ! (load ! (from ! (stop !)) (look ! 44 refl)) (no_more !))) (λ h₁ r₁ is₁ e₁. land ! (from ! (stop !)) (init ! 38 refl ((LL.lawful T-VolumeFound.the_type L-VolumeFound.the_laws 𝓛).typed r₁ _ is₁).0) $
+          calls-bare 𝓛 P-VolumeFound (λ (h' : Cursor) (r : VolumeFound). (h' ≡ volume_to (now s) h) × (r ≡ volume_found (now s) h)) (by-ref 𝓛 κ q (b, o) γ) h κ₁ q₁ s fm (λ ν' δ. known-volume-passage (((ν' ∷ [], (κ₁, tt)), (full_share, (q₁, tt)), tt, (ref-at (b, o) δ h, (s, tt)), (vptr b o ∷ [], (sv s ∷ [], tt))), tt)) (λ _ _ _. and_then ! (load ! (from ! (stop !)) (look ! 29 refl)) (and_then ! (load ! (from ! (stop !)) (look ! 44 refl)) (no_more !))) (λ h₁ r₁ is₁ e₁. land ! (from ! (stop !)) (init ! 38 refl ((LL.lawful T-VolumeFound.the_type L-VolumeFound.the_laws 𝓛).typed r₁ _ is₁).0) $
           assigns ! (addr ! (from ! (hop ! (look ! 46 refl) (stop !)))) (from ! (stop !)) (init ! 27 refl (tt, tt)) $
-          calls_bare 𝓛 P-MonthFound (λ (h' : Cursor) (r : MonthFound). (h' ≡ monthTo (now s) h₁) × (r ≡ monthFound (now s) h₁)) (by-ref 𝓛 κ q (b, o) γ) h₁ κ₁ q₁ s fm (λ ν' δ. known-month-passage (((ν' ∷ [], (κ₁, tt)), (full_share, (q₁, tt)), tt, (ref-at (b, o) δ h₁, (s, tt)), (vptr b o ∷ [], (sv s ∷ [], tt))), tt)) (λ _ _ _. and_then ! (load ! (from ! (stop !)) (look ! 27 refl)) (and_then ! (load ! (from ! (stop !)) (look ! 44 refl)) (no_more !))) (λ h₂ r₂ is₂ e₂. land ! (from ! (stop !)) (init ! 36 refl ((LL.lawful T-MonthFound.the_type L-MonthFound.the_laws 𝓛).typed r₂ _ is₂).0) $
+          calls-bare 𝓛 P-MonthFound (λ (h' : Cursor) (r : MonthFound). (h' ≡ month_to (now s) h₁) × (r ≡ month_found (now s) h₁)) (by-ref 𝓛 κ q (b, o) γ) h₁ κ₁ q₁ s fm (λ ν' δ. known-month-passage (((ν' ∷ [], (κ₁, tt)), (full_share, (q₁, tt)), tt, (ref-at (b, o) δ h₁, (s, tt)), (vptr b o ∷ [], (sv s ∷ [], tt))), tt)) (λ _ _ _. and_then ! (load ! (from ! (stop !)) (look ! 27 refl)) (and_then ! (load ! (from ! (stop !)) (look ! 44 refl)) (no_more !))) (λ h₂ r₂ is₂ e₂. land ! (from ! (stop !)) (init ! 36 refl ((LL.lawful T-MonthFound.the_type L-MonthFound.the_laws 𝓛).typed r₂ _ is₂).0) $
           assigns ! (addr ! (from ! (hop ! (look ! 46 refl) (stop !)))) (from ! (stop !)) (init ! 23 refl (tt, tt)) $
-          calls_with 𝓛 no_answer (λ (h' : Cursor) (r : Unit {0}). MonthPassed (now s) r₂ h₂ h') (by-ref 𝓛 κ q (b, o) γ) h₂ κ₁ q₁ s P-MonthFound r₂ is₂ fm (λ ν' δ. known-behind-month (((ν' ∷ [], (κ₁, tt)), (full_share, (q₁, tt)), tt, (ref-at (b, o) δ h₂, (s, (r₂, tt))), (vptr b o ∷ [], (sv s ∷ [], (L-MonthFound.lowered r₂ ∷ [], tt)))), tt)) (λ _ _ _. and_then ! (load ! (from ! (stop !)) (look ! 23 refl)) (and_then ! (load ! (from ! (stop !)) (look ! 44 refl)) (and_then ! (load ! (from ! (stop !)) (look ! 36 refl)) (no_more !)))) (λ h₃ r₃ is₃ e₃. land ! (from ! (stop !)) (init ! 25 refl (tt, tt)) $
+          calls-with 𝓛 no_answer (λ (h' : Cursor) (r : Unit {0}). MonthPassed (now s) r₂ h₂ h') (by-ref 𝓛 κ q (b, o) γ) h₂ κ₁ q₁ s P-MonthFound r₂ is₂ fm (λ ν' δ. known-behind-month (((ν' ∷ [], (κ₁, tt)), (full_share, (q₁, tt)), tt, (ref-at (b, o) δ h₂, (s, (r₂, tt))), (vptr b o ∷ [], (sv s ∷ [], (L-MonthFound.lowered r₂ ∷ [], tt)))), tt)) (λ _ _ _. and_then ! (load ! (from ! (stop !)) (look ! 23 refl)) (and_then ! (load ! (from ! (stop !)) (look ! 44 refl)) (and_then ! (load ! (from ! (stop !)) (look ! 36 refl)) (no_more !)))) (λ h₃ r₃ is₃ e₃. land ! (from ! (stop !)) (init ! 25 refl (tt, tt)) $
           assigns ! (agg ! (and_then ! (load ! (from ! (fld ! refl (stop !))) (look_in ! 42 (sub ! 0 refl (whole !)))) (and_then ! (load ! (from ! (fld ! refl (stop !))) (look_in ! 42 (sub ! 1 refl (whole !)))) (and_then ! (load ! (from ! (fld ! refl (stop !))) (look_in ! 38 (sub ! 0 refl (whole !)))) (no_more !))))) (from ! (stop !)) (init ! 34 refl ((LL.lawful T-Key.the_type L-Key.the_laws 𝓛).typed (made₇ r₁) _ (made₇-is r₁ is₁)).0) $
           assigns ! (agg ! (and_then ! (load ! (from ! (fld ! refl (stop !))) (look_in ! 38 (sub ! 1 refl (whole !)))) (and_then ! (load ! (from ! (fld ! refl (stop !))) (look_in ! 36 (sub ! 0 refl (whole !)))) (and_then ! (load ! (from ! (fld ! refl (stop !))) (look_in ! 36 (sub ! 1 refl (whole !)))) (and_then ! (load ! (from ! (stop !)) (look ! 34 refl)) (and_then ! (load ! (from ! (fld ! refl (stop !))) (look_in ! 42 (sub ! 2 refl (whole !)))) (no_more !))))))) (from ! (stop !)) (init ! 32 refl ((LL.lawful T-Wanted.the_type L-Wanted.the_laws 𝓛).typed (made₈ r₁ r₂) _ (made₈-is r₁ r₂ is₁ is₂)).0) $
           assigns ! (addr ! (from ! (hop ! (look ! 46 refl) (stop !)))) (from ! (stop !)) (init ! 21 refl (tt, tt)) $
           assigns ! (addr ! (from ! (fld ! refl (hop ! (look_in ! 40 (sub ! 0 refl (whole !))) (stop !))))) (from ! (stop !)) (init ! 19 refl (tt, tt)) $
           assigns ! (agg ! (and_then ! (load ! (from ! (stop !)) (look ! 19 refl)) (and_then ! (load ! (from ! (fld ! refl (stop !))) (look_in ! 40 (sub ! 1 refl (whole !)))) (no_more !)))) (from ! (stop !)) (init ! 17 refl (tt, (tt, (record { fits = room.0 }, tt)))) $
           move ! (0 ∷ 1 ∷ 2 ∷ 8 ∷ 6 ∷ []) $
-          calls_rows 𝓛 no_answer (λ (h' : Cursor) (r : Unit {0}) (zs : List ℕ). Whole (now s) (made₈ r₁ r₂) h₃ ys (standing (now s) h') zs) (by-ref 𝓛 κ q (b, o) γ) h₃ κ₁ κᵣ q₁ qᵣ s P-Wanted (made₈ r₁ r₂) (made₈-is r₁ r₂ is₁ is₂) bᵣ oᵣ γᵣ ys room fm (λ ν' δ μ' ε. known-all (((ν' ∷ [], (κ₁, (μ' ∷ [], tt))), (full_share, (q₁, (full_share, tt))), tt, (ref-at (b, o) δ h₃, (s, ((made₈ r₁ r₂), (record { ref_ptr = (bᵣ, oᵣ); ghost_name = ε; now = ys }, tt)))), (vptr b o ∷ [], (sv s ∷ [], (L-Wanted.lowered (made₈ r₁ r₂) ∷ [], (slice_val (bᵣ, oᵣ) (length ys) ∷ [], tt))))), tt)) (λ _ _ _ _ _. and_then ! (load ! (from ! (stop !)) (look ! 21 refl)) (and_then ! (load ! (from ! (stop !)) (look ! 44 refl)) (and_then ! (load ! (from ! (stop !)) (look ! 32 refl)) (and_then ! (load ! (from ! (stop !)) (look ! 17 refl)) (no_more !))))) (λ h₄ r₄ zs len is₄ e₄. land ! (from ! (stop !)) (store ! 25 refl (tt, tt)) $
+          calls-rows 𝓛 no_answer (λ (h' : Cursor) (r : Unit {0}) (zs : List ℕ). Whole (now s) (made₈ r₁ r₂) h₃ ys (standing (now s) h') zs) (by-ref 𝓛 κ q (b, o) γ) h₃ κ₁ κᵣ q₁ qᵣ s P-Wanted (made₈ r₁ r₂) (made₈-is r₁ r₂ is₁ is₂) bᵣ oᵣ γᵣ ys room fm (λ ν' δ μ' ε. known-all (((ν' ∷ [], (κ₁, (μ' ∷ [], tt))), (full_share, (q₁, (full_share, tt))), tt, (ref-at (b, o) δ h₃, (s, ((made₈ r₁ r₂), (record { ref_ptr = (bᵣ, oᵣ); ghost_name = ε; now = ys }, tt)))), (vptr b o ∷ [], (sv s ∷ [], (L-Wanted.lowered (made₈ r₁ r₂) ∷ [], (slice_val (bᵣ, oᵣ) (length ys) ∷ [], tt))))), tt)) (λ _ _ _ _ _. and_then ! (load ! (from ! (stop !)) (look ! 21 refl)) (and_then ! (load ! (from ! (stop !)) (look ! 44 refl)) (and_then ! (load ! (from ! (stop !)) (look ! 32 refl)) (and_then ! (load ! (from ! (stop !)) (look ! 17 refl)) (no_more !))))) (λ h₄ r₄ zs len is₄ e₄. land ! (from ! (stop !)) (store ! 25 refl (tt, tt)) $
           assigns ! (addr ! (from ! (hop ! (look ! 46 refl) (stop !)))) (from ! (stop !)) (init ! 15 refl (tt, tt)) $
           assigns ! (addr ! (from ! (stop !))) (from ! (stop !)) (init ! 13 refl (tt, tt)) $
           assigns ! (agg ! (and_then ! (load ! (from ! (stop !)) (look ! 13 refl)) (and_then ! (lit ! tt) (no_more !)))) (from ! (stop !)) (init ! 11 refl (tt, (tt, (record { fits = lit< tt }, tt)))) $
           move ! (0 ∷ 1 ∷ 7 ∷ 2 ∷ 5 ∷ []) $
           call-tag.calls 𝓛 fm at_mem run known-tag (by-ref 𝓛 κ q (b, o) γ) h₄ κ₁ (ν ∷ []) q₁ full_share s (lit-at l₉ (bytes "</TimeSeriesPeriod>") δ₉) tt (λ _ _ _ _ _. and_then ! (load ! (from ! (stop !)) (look ! 15 refl)) (and_then ! (load ! (from ! (stop !)) (look ! 44 refl)) (and_then ! (load ! (from ! (stop !)) (look ! 11 refl)) (no_more !)))) (land ! (from ! (stop !)) (store ! 25 refl (tt, tt)) $
           assigns ! (agg ! (and_then ! (load ! (from ! (fld ! refl (stop !))) (look_in ! 38 (sub ! 0 refl (whole !)))) (and_then ! (load ! (from ! (fld ! refl (stop !))) (look_in ! 36 (sub ! 0 refl (whole !)))) (and_then ! (load ! (from ! (fld ! refl (stop !))) (look_in ! 36 (sub ! 1 refl (whole !)))) (and_then ! (load ! (from ! (fld ! refl (stop !))) (look_in ! 38 (sub ! 1 refl (whole !)))) (no_more !)))))) (from ! (stop !)) (init ! 48 refl ((LL.lawful T-SeriesFound.the_type L-SeriesFound.the_laws 𝓛).typed (made₀ r₁ r₂) _ (made₀-is r₁ r₂ is₁ is₂)).0) $
-          move ! (2 ∷ []) $ lft_end ! tt $ move ! (0 ∷ 7 ∷ []) $ lit_back 𝓛 tt ν l₉ (bytes "</TimeSeriesPeriod>") (
+          move ! (2 ∷ []) $ lft_end ! tt $ move ! (0 ∷ 7 ∷ []) $ lit-back 𝓛 tt ν l₉ (bytes "</TimeSeriesPeriod>") (
           returns ! (look ! 48 refl) $
           forget ! 48 refl $ forget ! 46 refl $ forget ! 44 refl $ forget ! 42 refl $ forget ! 40 refl $ forget ! 38 refl $ forget ! 36 refl $ forget ! 34 refl $ forget ! 32 refl $ forget ! 0 refl $ forget ! 29 refl $ forget ! 27 refl $ forget ! 25 refl $ forget ! 23 refl $ forget ! 21 refl $ forget ! 19 refl $ forget ! 17 refl $ forget ! 15 refl $ forget ! 13 refl $ forget ! 11 refl $
           move ! (48 ∷ 49 ∷ []) $ free1 ! $ move ! (46 ∷ 47 ∷ []) $ free1 ! $ move ! (44 ∷ 45 ∷ []) $ free1 ! $ move ! (42 ∷ 43 ∷ []) $ free1 ! $ move ! (40 ∷ 41 ∷ []) $ free1 ! $ move ! (38 ∷ 39 ∷ []) $ free1 ! $ move ! (36 ∷ 37 ∷ []) $ free1 ! $ move ! (34 ∷ 35 ∷ []) $ free1 ! $ move ! (32 ∷ 33 ∷ []) $ free1 ! $ move ! (0 ∷ 31 ∷ []) $ free1 ! $ move ! (28 ∷ 29 ∷ []) $ free1 ! $ move ! (26 ∷ 27 ∷ []) $ free1 ! $ move ! (24 ∷ 25 ∷ []) $ free1 ! $ move ! (22 ∷ 23 ∷ []) $ free1 ! $ move ! (20 ∷ 21 ∷ []) $ free1 ! $ move ! (18 ∷ 19 ∷ []) $ free1 ! $ move ! (16 ∷ 17 ∷ []) $ free1 ! $ move ! (14 ∷ 15 ∷ []) $ free1 ! $ move ! (12 ∷ 13 ∷ []) $ free1 ! $ move ! (10 ∷ 11 ∷ []) $ free1 ! $ free0 ! $

@@ -1,7 +1,7 @@
 -- `past_start` is thin (the rule of `cursor` Thin): it passes the cursor by value to `start_by`, stores the one behind the start and returns the supply direction.
 use Rattle.cursor.proofs.Walk.{triple_of, entered, cited, tables, tables_of, ◌≡◌, refl, ap}
 use denote.Struct.Laws as LL
-use Rattle.cursor.proofs.Thin.{Carried, Answer, struct, number, gives_meets}
+use Rattle.cursor.proofs.Thin.{Carried, Answer, struct, number, gives-meets}
 use Rattle.series_reader.specs.SeriesTurnsInner.{series_start}
 use Rattle.series_reader.specs.contracts.series.SeriesTodo as T-SeriesTodo
 use Rattle.series_reader.proofs.series.SeriesTodo.TheLaws as L-SeriesTodo
@@ -37,6 +37,6 @@ unfolding code.routine tables_of
 past-start-spec 𝓤 𝓛 𝓜 𝓡 =
     entered 𝓤 𝓛.H (triple_of 𝓛 me.signature (me.spec 𝓛 𝓜.mem 𝓡.run))
     (tables 𝓤 𝓛.H 𝓜 𝓡 code.env).C (tables 𝓤 𝓛.H 𝓜 𝓡 code.env).Λ #me code.function (code.unfolded 𝓤 𝓛.H 𝓜 𝓡)
-    (gives_meets takes number answer (λ s x h r. r ≡ series_start s x.kind x.supply h) (λ s x h h' r. (h' ≡ (series_start s x.kind x.supply h).to) × (r ≡ (series_start s x.kind x.supply h).value)) (λ s x h r e. (ap (λ z. z.to) e, ap (λ z. z.value) e)) #callee
+    (gives-meets takes number answer (λ s x h r. r ≡ series_start s x.kind x.supply h) (λ s x h h' r. (h' ≡ (series_start s x.kind x.supply h).to) × (r ≡ (series_start s x.kind x.supply h).value)) (λ s x h r e. (ap (λ z. z.to) e, ap (λ z. z.value) e)) #callee
     𝓛 (tables_of 𝓤 𝓛.H 𝓜 (tables 𝓤 𝓛.H 𝓜 𝓡 code.env))
     (cited 𝓤 𝓛.H (triple_of 𝓛 callee.signature (callee.spec 𝓛 𝓜.mem 𝓡.run)) 𝓜 𝓡 code.env #callee callee-def.routine code.calls-series-reader::series::start-by (callee-thm.met 𝓤 𝓛 𝓜 𝓡)))

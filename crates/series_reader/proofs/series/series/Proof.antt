@@ -9,12 +9,12 @@ use denote.Struct.Laws as LL
 use denote.Builtin.{SliceRefOf}
 use Rattle.cursor.specs.declared.Cursor.{Cursor}
 use Rattle.cursor.proofs.Lent.{R, sv, ref-at, By, by-ref}
-use Rattle.cursor.proofs.Lends.{Plain, Fits, Rows, a-number, calls_with, calls_rows}
+use Rattle.cursor.proofs.Lends.{Plain, Fits, Rows, a-number, calls-with, calls-rows}
 use Rattle.series_reader.specs.contracts.series.past_start as start_of_lem
 use Rattle.series_reader.proofs.series.past_start.Symbol as start-of-def
 use Rattle.series_reader.proofs.series.past_start.Symbol.{name as #start-of}
 use Rattle.series_reader.proofs.series.past_start.Met as start-of-thm
-use Rattle.series_reader.specs.contracts.elements.volume as volume_of
+use Rattle.series_reader.specs.contracts.elements.volume as volume-of
 use Rattle.series_reader.proofs.elements.volume.Symbol as volume-of-def
 use Rattle.series_reader.proofs.elements.volume.Symbol.{name as #volume-of}
 use Rattle.series_reader.proofs.elements.volume.Met as volume-of-thm
@@ -50,7 +50,7 @@ abbrev Of-start-of : {M : Type 1} {𝓤 : Ura M} (𝓛 : Logic 𝓤) (mem : Memo
 Of-start-of 𝓛 mem run = triple_of 𝓛 start_of_lem.signature (start_of_lem.spec 𝓛 mem run)
 
 abbrev Of-volume-of : {M : Type 1} {𝓤 : Ura M} (𝓛 : Logic 𝓤) (mem : Memory → SProp 𝓤) (run : Routine → Fun 𝓤) → Contract 𝓤
-Of-volume-of 𝓛 mem run = triple_of 𝓛 volume_of.signature (volume_of.spec 𝓛 mem run)
+Of-volume-of 𝓛 mem run = triple_of 𝓛 volume-of.signature (volume-of.spec 𝓛 mem run)
 
 abbrev Of-end-of : {M : Type 1} {𝓤 : Ura M} (𝓛 : Logic 𝓤) (mem : Memory → SProp 𝓤) (run : Routine → Fun 𝓤) → Contract 𝓤
 Of-end-of 𝓛 mem run = triple_of 𝓛 end_of_lem.signature (end_of_lem.spec 𝓛 mem run)
@@ -107,16 +107,16 @@ module _ {M : Type 1} {𝓤 : Ura M} (𝓛 : Logic 𝓤) (at_mem : Memory → SP
           move ! (29 ∷ []) $ fsplit ! $ move ! (1 ∷ []) $ fsplit ! $ move ! (1 ∷ []) $ fsplit ! $ move ! (1 ∷ []) $ fsplit ! $ move ! (33 ∷ []) $ split ! $ move ! (1 ∷ []) $ split ! $ move ! (1 ∷ []) $ split ! $ move ! (8 ∷ 3 ∷ []) $ join ! $
           assigns ! (addr ! (from ! (hop ! (look ! 32 refl) (stop !)))) (from ! (stop !)) (init ! 16 refl (tt, tt)) $
           move ! (0 ∷ 3 ∷ 7 ∷ []) $
-          calls_with 𝓛 a-number (λ (h' : Cursor) (r : ℕ). (h' ≡ (series_start (now s) x.kind x.supply h).to) × (r ≡ (series_start (now s) x.kind x.supply h).value)) (by-ref 𝓛 κ q (b, o) γ) h κ₁ q₁ s P-SeriesTodo x fits-x fm (λ ν' δ. known-start-of (((ν' ∷ [], (κ₁, tt)), (full_share, (q₁, tt)), tt, (ref-at (b, o) δ h, (s, (x, tt))), (vptr b o ∷ [], (sv s ∷ [], (LL.val T-SeriesTodo.the_type L-SeriesTodo.the_laws x ∷ [], tt)))), tt)) (λ _ _ _. and_then ! (load ! (from ! (stop !)) (look ! 16 refl)) (and_then ! (load ! (from ! (stop !)) (look ! 30 refl)) (and_then ! (load ! (from ! (stop !)) (look ! 28 refl)) (no_more !)))) (λ h₁ r₁ is₁ e₁. land ! (from ! (stop !)) (init ! 24 refl (tt, record { fits = is₁.1 })) $
+          calls-with 𝓛 a-number (λ (h' : Cursor) (r : ℕ). (h' ≡ (series_start (now s) x.kind x.supply h).to) × (r ≡ (series_start (now s) x.kind x.supply h).value)) (by-ref 𝓛 κ q (b, o) γ) h κ₁ q₁ s P-SeriesTodo x fits-x fm (λ ν' δ. known-start-of (((ν' ∷ [], (κ₁, tt)), (full_share, (q₁, tt)), tt, (ref-at (b, o) δ h, (s, (x, tt))), (vptr b o ∷ [], (sv s ∷ [], (LL.val T-SeriesTodo.the_type L-SeriesTodo.the_laws x ∷ [], tt)))), tt)) (λ _ _ _. and_then ! (load ! (from ! (stop !)) (look ! 16 refl)) (and_then ! (load ! (from ! (stop !)) (look ! 30 refl)) (and_then ! (load ! (from ! (stop !)) (look ! 28 refl)) (no_more !)))) (λ h₁ r₁ is₁ e₁. land ! (from ! (stop !)) (init ! 24 refl (tt, record { fits = is₁.1 })) $
           assigns ! (agg ! (and_then ! (load ! (from ! (fld ! refl (stop !))) (look_in ! 28 (sub ! 1 refl (whole !)))) (and_then ! (load ! (from ! (stop !)) (look ! 24 refl)) (and_then ! (load ! (from ! (fld ! refl (stop !))) (look_in ! 28 (sub ! 7 refl (whole !)))) (no_more !))))) (from ! (stop !)) (init ! 22 refl ((LL.lawful T-VolumeTodo.the_type L-VolumeTodo.the_laws 𝓛).typed (made₆ r₁) _ (made₆-is r₁ is₁)).0) $
           assigns ! (addr ! (from ! (hop ! (look ! 32 refl) (stop !)))) (from ! (stop !)) (init ! 14 refl (tt, tt)) $
           assigns ! (addr ! (from ! (fld ! refl (hop ! (look_in ! 26 (sub ! 0 refl (whole !))) (stop !))))) (from ! (stop !)) (init ! 12 refl (tt, tt)) $
           assigns ! (agg ! (and_then ! (load ! (from ! (stop !)) (look ! 12 refl)) (and_then ! (load ! (from ! (fld ! refl (stop !))) (look_in ! 26 (sub ! 1 refl (whole !)))) (no_more !)))) (from ! (stop !)) (init ! 10 refl (tt, (tt, (record { fits = room.0 }, tt)))) $
           move ! (0 ∷ 1 ∷ 2 ∷ 5 ∷ 3 ∷ []) $
-          calls_rows 𝓛 P-SeriesFound (λ (h' : Cursor) (r : SeriesFound) (zs : List ℕ). VolumeDone (now s) (made₆ r₁) h₁ ys h' r zs) (by-ref 𝓛 κ q (b, o) γ) h₁ κ₁ κᵣ q₁ qᵣ s P-VolumeTodo (made₆ r₁) (made₆-is r₁ is₁) bᵣ oᵣ γᵣ ys room fm (λ ν' δ μ' ε. known-volume-of (((ν' ∷ [], (κ₁, (μ' ∷ [], tt))), (full_share, (q₁, (full_share, tt))), tt, (ref-at (b, o) δ h₁, (s, ((made₆ r₁), (record { ref_ptr = (bᵣ, oᵣ); ghost_name = ε; now = ys }, tt)))), (vptr b o ∷ [], (sv s ∷ [], (L-VolumeTodo.lowered (made₆ r₁) ∷ [], (slice_val (bᵣ, oᵣ) (length ys) ∷ [], tt))))), tt)) (λ _ _ _ _ _. and_then ! (load ! (from ! (stop !)) (look ! 14 refl)) (and_then ! (load ! (from ! (stop !)) (look ! 30 refl)) (and_then ! (load ! (from ! (stop !)) (look ! 22 refl)) (and_then ! (load ! (from ! (stop !)) (look ! 10 refl)) (no_more !))))) (λ h₂ r₂ zs len is₂ e₂. land ! (from ! (stop !)) (init ! 20 refl ((LL.lawful T-SeriesFound.the_type L-SeriesFound.the_laws 𝓛).typed r₂ _ is₂).0) $
+          calls-rows 𝓛 P-SeriesFound (λ (h' : Cursor) (r : SeriesFound) (zs : List ℕ). VolumeDone (now s) (made₆ r₁) h₁ ys h' r zs) (by-ref 𝓛 κ q (b, o) γ) h₁ κ₁ κᵣ q₁ qᵣ s P-VolumeTodo (made₆ r₁) (made₆-is r₁ is₁) bᵣ oᵣ γᵣ ys room fm (λ ν' δ μ' ε. known-volume-of (((ν' ∷ [], (κ₁, (μ' ∷ [], tt))), (full_share, (q₁, (full_share, tt))), tt, (ref-at (b, o) δ h₁, (s, ((made₆ r₁), (record { ref_ptr = (bᵣ, oᵣ); ghost_name = ε; now = ys }, tt)))), (vptr b o ∷ [], (sv s ∷ [], (L-VolumeTodo.lowered (made₆ r₁) ∷ [], (slice_val (bᵣ, oᵣ) (length ys) ∷ [], tt))))), tt)) (λ _ _ _ _ _. and_then ! (load ! (from ! (stop !)) (look ! 14 refl)) (and_then ! (load ! (from ! (stop !)) (look ! 30 refl)) (and_then ! (load ! (from ! (stop !)) (look ! 22 refl)) (and_then ! (load ! (from ! (stop !)) (look ! 10 refl)) (no_more !))))) (λ h₂ r₂ zs len is₂ e₂. land ! (from ! (stop !)) (init ! 20 refl ((LL.lawful T-SeriesFound.the_type L-SeriesFound.the_laws 𝓛).typed r₂ _ is₂).0) $
           assigns ! (agg ! (and_then ! (load ! (from ! (stop !)) (look ! 28 refl)) (and_then ! (load ! (from ! (stop !)) (look ! 24 refl)) (and_then ! (load ! (from ! (stop !)) (look ! 20 refl)) (no_more !))))) (from ! (stop !)) (init ! 18 refl ((LL.lawful T-SeriesSeen.the_type L-SeriesSeen.the_laws 𝓛).typed (made₈ r₁ r₂) _ (made₈-is r₁ r₂ is₁ is₂)).0) $
           assigns ! (addr ! (from ! (hop ! (look ! 32 refl) (stop !)))) (from ! (stop !)) (init ! 8 refl (tt, tt)) $
-          calls_with 𝓛 P-SeriesTodo (λ (h' : Cursor) (r : SeriesTodo). SeriesEnd (now s) (made₈ r₁ r₂) h₂ h' r) (by-ref 𝓛 κ q (b, o) γ) h₂ κ₁ q₁ s P-SeriesSeen (made₈ r₁ r₂) (made₈-is r₁ r₂ is₁ is₂) fm (λ ν' δ. known-end-of (((ν' ∷ [], (κ₁, tt)), (full_share, (q₁, tt)), tt, (ref-at (b, o) δ h₂, (s, ((made₈ r₁ r₂), tt))), (vptr b o ∷ [], (sv s ∷ [], (LL.val T-SeriesSeen.the_type L-SeriesSeen.the_laws (made₈ r₁ r₂) ∷ [], tt)))), tt)) (λ _ _ _. and_then ! (load ! (from ! (stop !)) (look ! 8 refl)) (and_then ! (load ! (from ! (stop !)) (look ! 30 refl)) (and_then ! (load ! (from ! (stop !)) (look ! 18 refl)) (no_more !)))) (λ h₃ r₃ is₃ e₃. land ! (from ! (stop !)) (init ! 34 refl ((LL.lawful T-SeriesTodo.the_type L-SeriesTodo.the_laws 𝓛).typed r₃ _ is₃).0) $
+          calls-with 𝓛 P-SeriesTodo (λ (h' : Cursor) (r : SeriesTodo). SeriesEnd (now s) (made₈ r₁ r₂) h₂ h' r) (by-ref 𝓛 κ q (b, o) γ) h₂ κ₁ q₁ s P-SeriesSeen (made₈ r₁ r₂) (made₈-is r₁ r₂ is₁ is₂) fm (λ ν' δ. known-end-of (((ν' ∷ [], (κ₁, tt)), (full_share, (q₁, tt)), tt, (ref-at (b, o) δ h₂, (s, ((made₈ r₁ r₂), tt))), (vptr b o ∷ [], (sv s ∷ [], (LL.val T-SeriesSeen.the_type L-SeriesSeen.the_laws (made₈ r₁ r₂) ∷ [], tt)))), tt)) (λ _ _ _. and_then ! (load ! (from ! (stop !)) (look ! 8 refl)) (and_then ! (load ! (from ! (stop !)) (look ! 30 refl)) (and_then ! (load ! (from ! (stop !)) (look ! 18 refl)) (no_more !)))) (λ h₃ r₃ is₃ e₃. land ! (from ! (stop !)) (init ! 34 refl ((LL.lawful T-SeriesTodo.the_type L-SeriesTodo.the_laws 𝓛).typed r₃ _ is₃).0) $
           returns ! (look ! 34 refl) $
           forget ! 34 refl $ forget ! 32 refl $ forget ! 30 refl $ forget ! 28 refl $ forget ! 26 refl $ forget ! 24 refl $ forget ! 22 refl $ forget ! 20 refl $ forget ! 18 refl $ forget ! 16 refl $ forget ! 14 refl $ forget ! 12 refl $ forget ! 10 refl $ forget ! 8 refl $
           move ! (34 ∷ 35 ∷ []) $ free1 ! $ move ! (32 ∷ 33 ∷ []) $ free1 ! $ move ! (30 ∷ 31 ∷ []) $ free1 ! $ move ! (28 ∷ 29 ∷ []) $ free1 ! $ move ! (26 ∷ 27 ∷ []) $ free1 ! $ move ! (24 ∷ 25 ∷ []) $ free1 ! $ move ! (22 ∷ 23 ∷ []) $ free1 ! $ move ! (20 ∷ 21 ∷ []) $ free1 ! $ move ! (18 ∷ 19 ∷ []) $ free1 ! $ move ! (16 ∷ 17 ∷ []) $ free1 ! $ move ! (14 ∷ 15 ∷ []) $ free1 ! $ move ! (12 ∷ 13 ∷ []) $ free1 ! $ move ! (10 ∷ 11 ∷ []) $ free1 ! $ move ! (8 ∷ 9 ∷ []) $ free1 ! $ free0 ! $

@@ -1,0 +1,22 @@
+-- `october_sunday` meets its contract: the number of the last Sunday.
+use lib.Dec.{lit≤}
+use mathlib.Core.Path.{ap, ◌∙◌}
+use Rattle.calendar.specs.Dates.{day_number, october_sunday}
+use Rattle.calendar.specs.DatesLaws.{sunday-most}
+use native.Mathlib.Omega.{arith}
+use borrow.Author.Rules.{rules}
+use Rattle.calendar.proofs.dates.october_sunday.Statement.{statement}
+use Rattle.calendar.proofs.dates.october_sunday.Tie as tie
+
+last-sunday-requires : tie.Need-last-sunday-requires
+last-sunday-requires c κs = search rules
+
+day-number-requires : tie.Need-day-number-requires
+day-number-requires c κs = (record { from = search rules; to = search rules; january = search rules; december = search rules }, omega (arith, sunday-most c.before.args.year 10 (lit≤ tt) (lit≤ tt)))
+
+returns : tie.Need-returns
+unfolding october_sunday
+returns c = c.day-number.ensures ∙ ap (day_number c.before.before.args.year 10) c.before.last-sunday.ensures
+
+pub october-sunday-spec : {M : Type 1} → statement M
+october-sunday-spec = tie.close (tie.spec last-sunday-requires day-number-requires returns)

@@ -1,0 +1,22 @@
+-- The definition's own cases.
+use borrow.Author.Rules.{rules}
+use Rattle.reports.specs.FileRows.{supply_number}
+use Rattle.partners.proofs.rows.supply_number.Statement.{statement}
+use Rattle.partners.proofs.rows.supply_number.Tie as tie
+
+enum_told : tie.Need-enum-told
+enum_told c = search rules
+
+enum-told-2 : tie.Need-enum-told-2
+enum-told-2 c = search rules
+
+returns : tie.Need-returns
+unfolding supply_number
+returns c = rw c.enum_told.given.1
+
+returns-2 : tie.Need-returns-2
+unfolding supply_number
+returns-2 c = rw c.enum-told2.given.1
+
+pub supply-number-spec : {M : Type 1} → statement M
+supply-number-spec = tie.close (tie.spec enum_told enum-told-2 returns returns-2)

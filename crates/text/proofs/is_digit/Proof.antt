@@ -1,0 +1,13 @@
+-- Both ends of the range, one after the other.
+use borrow.Author.Tests.{le-leb, lt-leb}
+use Rattle.text.proofs.is_digit.Statement.{statement}
+use Rattle.text.proofs.is_digit.Tie as tie
+
+returns : tie.Need-returns
+returns c = rw (lt-leb _ _ c.if1.true)
+
+returns-2 : tie.Need-returns-2
+returns-2 c = rw (le-leb _ _ c.if1.false)
+
+pub is-digit-spec : {M : Type 1} → statement M
+is-digit-spec = tie.close (tie.spec returns returns-2)

@@ -1,0 +1,44 @@
+-- A number is its lower half, and its upper half times the power of 256 between them.
+use Rattle.wire.specs.NumbersLaws.{halves}
+use Rattle.std.proofs.Common.{arith, rules}
+use Rattle.wire.proofs.u16_at.Statement.{statement}
+use Rattle.wire.proofs.u16_at.Tie as tie
+
+u8-at-requires : tie.Need-u8-at-requires
+u8-at-requires c κs = search rules
+
+cast-result : tie.Need-overflow-cast-result
+cast-result c = search rules
+
+add-u8-at : tie.Need-overflow-add-u8-at
+add-u8-at c = search rules
+
+u8-at-requires-2 : tie.Need-u8-at-requires-2
+u8-at-requires-2 c κs = search rules
+
+cast-result-2 : tie.Need-overflow-cast-result-2
+cast-result-2 c = search rules
+
+mul-result : tie.Need-overflow-mul-result
+mul-result c = search rules
+
+add-result : tie.Need-overflow-add-result
+add-result c = search rules
+
+returns : tie.Need-returns
+returns c =
+    let a = c.before.before.before.args in
+    omega (arith, halves a.s.now a.at 1 1 (omega arith))
+
+pub u16-at-spec : {M : Type 1} → statement M
+u16-at-spec =
+    tie.close
+    (tie.spec
+    u8-at-requires
+    cast-result
+    add-u8-at
+    u8-at-requires-2
+    cast-result-2
+    mul-result
+    add-result
+    returns)
