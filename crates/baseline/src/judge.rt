@@ -12,7 +12,7 @@ use crate::shown::Shown;
 use book::Method;
 
 // What an engagement lacks.
-#[derive(Drop)]
+#[derive(Clone, Copy)]
 pub enum Lack {
     Nothing,
     Reading,

@@ -4,7 +4,7 @@ ghost use Rattle.baseline.specs.TallyInner.{in_run, Tallied};
 ghost use Rattle.quarters.specs.QuartersInner.{longest_day};
 
 // The sum is that of the raised readings.
-#[derive(Drop)]
+#[derive(Clone, Copy)]
 pub struct Tally {
     pub whole: bool,
     pub sum: u64,

@@ -6,7 +6,7 @@ pub mod sections;
 pub mod tables;
 
 // Why an activation does or doesn't pass through the supplier.
-#[derive(Drop)]
+#[derive(Clone, Copy)]
 pub enum Situation {
     Transfer,
     PassThrough,
@@ -15,7 +15,7 @@ pub enum Situation {
 }
 
 // The file kinds that take a delivery point: 01 and 02, 03, none; or no situation at all.
-#[derive(Drop)]
+#[derive(Clone, Copy)]
 pub enum Takers {
     Aggregated,
     Individual,
@@ -23,28 +23,28 @@ pub enum Takers {
     Refused,
 }
 
-#[derive(Drop)]
+#[derive(Clone, Copy)]
 pub enum Supply {
     OffTake,
     Injection,
 }
 
 // How a delivery point's baseline is made.
-#[derive(Drop)]
+#[derive(Clone, Copy)]
 pub enum Method {
     LastQuarter,
     HighXOfY,
     Adjusted,
 }
 
-#[derive(Drop)]
+#[derive(Clone, Copy)]
 pub enum Direction {
     Up,
     Down,
 }
 
 // A delivery point, a row of the register.
-#[derive(Drop)]
+#[derive(Clone, Copy)]
 pub struct Point {
     pub delivery: u64,
     pub access: u64,
@@ -67,7 +67,7 @@ pub struct Point {
 }
 
 // An activation of a delivery point: `count` quarter-hours from `first` on.
-#[derive(Drop)]
+#[derive(Clone, Copy)]
 pub struct Engagement {
     pub point: u16,
     pub day: u8,

@@ -150,7 +150,7 @@ pub fn clock_of(year: u64, month: u64, lead: u64) -> Clock
     Clock::Same
 }
 
-#[derive(Drop)]
+#[derive(Clone, Copy)]
 pub struct Month {
     pub year: u64,
     pub month: u64,

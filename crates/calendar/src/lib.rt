@@ -2,7 +2,7 @@
 pub mod dates;
 
 // On which day of a calendar the clocks go forward, or back, if they do: that day is shorter, or longer.
-#[derive(Drop)]
+#[derive(Clone, Copy)]
 pub enum Clock {
     Same,
     Shorter(u64),

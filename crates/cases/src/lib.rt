@@ -7,14 +7,14 @@ pub mod words;
 ghost use Rattle.std.specs.Prelude.{◌≡◌, length};
 
 // What stands at the start of a buffer after bytes were read into it.
-#[derive(Drop)]
+#[derive(Clone, Copy)]
 pub enum Loaded {
     Bytes(usize),
     Malformed,
 }
 
 // Where the next piece starts, or that there is none.
-#[derive(Drop)]
+#[derive(Clone, Copy)]
 pub enum Step {
     Next(usize),
     Stop,

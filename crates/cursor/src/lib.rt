@@ -6,14 +6,14 @@ ghost use Rattle.cursor.specs.MovesInner.{standing, cursor_at, keep, read_of, pa
 use formats::{Mark, Val};
 
 // A place in a text, if `good`.
-#[derive(Drop)]
+#[derive(Clone, Copy)]
 pub struct Cursor {
     pub at: usize,
     pub good: bool,
 }
 
 // A number that was read, and the cursor behind it.
-#[derive(Drop)]
+#[derive(Clone, Copy)]
 pub struct Read {
     pub to: Cursor,
     pub value: u64,

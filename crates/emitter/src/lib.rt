@@ -5,7 +5,7 @@ pub mod laying;
 pub mod parts;
 
 // Which file it is: its kind, its receiver, and the month of its series.
-#[derive(Drop)]
+#[derive(Clone, Copy)]
 pub struct Title {
     pub kind: Kind,
     pub receiver: u64,

@@ -9,14 +9,14 @@ use reports::FileAnswer;
 use text::Number;
 
 // What a line says at a place, and where its next word starts.
-#[derive(Drop)]
+#[derive(Clone, Copy)]
 pub enum Field {
     Value(u64, usize),
     Nothing,
 }
 
 // What is asked for, and how many numbers and bytes are lent.
-#[derive(Drop)]
+#[derive(Clone, Copy)]
 pub struct Case {
     pub kind: u8,
     pub receiver: u64,

@@ -18,7 +18,7 @@ use partners::rows::fill_partner;
 use series::Role;
 
 // What is laid: the place behind it, and how many partners it has.
-#[derive(Drop)]
+#[derive(Clone, Copy)]
 pub struct Counted {
     pub mark: Mark,
     pub count: u64,

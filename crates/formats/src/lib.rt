@@ -8,14 +8,14 @@ ghost use Rattle.formats.specs.Numbers.{number_parse};
 ghost use Rattle.formats.specs.Name.{name_byte, span, name_parse};
 ghost use Rattle.formats.specs.PlaceInner.{Within, Parsed, left};
 
-#[derive(Drop)]
+#[derive(Clone, Copy)]
 pub enum Mark {
     At(usize),
     No,
 }
 
 // A value that was read, and the place behind it.
-#[derive(Drop)]
+#[derive(Clone, Copy)]
 pub struct Val {
     pub value: u64,
     pub next: Mark,

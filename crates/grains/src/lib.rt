@@ -4,7 +4,7 @@ ghost use Rattle.std.specs.Prelude.{◌≡◌, ◌*◌, ◌≤◌};
 ghost use Rattle.grains.specs.Grains.{grains, whole_watts, share};
 ghost use Rattle.grains.specs.GrainsInner.{Shares};
 
-#[derive(Drop)]
+#[derive(Clone, Copy)]
 pub struct Grains {
     pub count: u64,
 }

@@ -45,7 +45,7 @@ fn extent_is(book: &[u8], k: usize, offset: usize, size: usize) -> bool
 }
 
 // Where the sections start; the first starts at 56.
-#[derive(Drop)]
+#[derive(Clone, Copy)]
 pub struct Places {
     pub table: usize,
     pub register: usize,

@@ -4,7 +4,7 @@ pub mod judge;
 mod tables;
 
 // What judging a book finds, in the order in which it is tried.
-#[derive(Drop)]
+#[derive(Clone, Copy)]
 pub enum Judged {
     Passed,
     Header,

@@ -3,7 +3,7 @@ ghost use Rattle.std.specs.Prelude.{◌≡◌};
 ghost use Rattle.kinds.specs.Numbers.{kind_numbered, kind_number};
 ghost use Rattle.kinds.specs.NumbersInner.{kind_in};
 
-#[derive(Drop)]
+#[derive(Clone, Copy)]
 pub enum Kind {
     Toe01,
     Toe02,
@@ -11,7 +11,7 @@ pub enum Kind {
 }
 
 // The kind that a number names, if there is one.
-#[derive(Drop)]
+#[derive(Clone, Copy)]
 pub enum Numbered {
     Of(Kind),
     Unknown,

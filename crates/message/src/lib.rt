@@ -11,7 +11,7 @@ use formats::Mark;
 use kinds::Kind;
 
 // What a file says beside its rows, their number, and where in the file its ID and its moment stand.
-#[derive(Drop)]
+#[derive(Clone, Copy)]
 pub struct FileFacts {
     pub kind: Kind,
     pub receiver: u64,
@@ -24,14 +24,14 @@ pub struct FileFacts {
 }
 
 // What reading a file answers: what it says, or a number and an item of document 01.
-#[derive(Drop)]
+#[derive(Clone, Copy)]
 pub enum ReadAnswer {
     File(FileFacts),
     Refused(u64, usize),
 }
 
 // What writing from rows answers: the bytes that it filled, or a number and an item.
-#[derive(Drop)]
+#[derive(Clone, Copy)]
 pub enum WriteAnswer {
     Bytes(usize),
     Refused(u64, usize),

@@ -7,7 +7,7 @@ use crate::words::{bytes, clamp, numbers, row_numbers};
 use message::{FileFacts, ReadAnswer, WriteAnswer};
 
 // What a file is written of beside its rows, its ID and its moment.
-#[derive(Drop)]
+#[derive(Clone, Copy)]
 struct FileHead {
     kind: u8,
     receiver: u64,

@@ -11,7 +11,7 @@ use calendar::dates::{day_number, month_length, next_month, offset_hours};
 use text::Number;
 
 // A date, a time of day and an offset in hours.
-#[derive(Drop)]
+#[derive(Clone, Copy)]
 pub struct Moment {
     pub year: u64,
     pub month: u64,
@@ -24,7 +24,7 @@ pub struct Moment {
 }
 
 // What bytes are judged to be.
-#[derive(Drop)]
+#[derive(Clone, Copy)]
 pub enum MomentRead {
     Real(Moment),
     Malformed,

@@ -6,7 +6,7 @@ ghost use Rattle.passages.specs.PassagesInner.{observation_found, observation_to
 use cursor::{Cursor, Read};
 
 // An observation's position and its kilowatts, whole and three decimals.
-#[derive(Drop)]
+#[derive(Clone, Copy)]
 pub struct ObservationFound {
     pub position: u64,
     pub whole: u64,
@@ -31,7 +31,7 @@ pub fn observation(c: &mut Cursor, s: &[u8]) -> ObservationFound
 }
 
 // The month in which a period starts.
-#[derive(Drop)]
+#[derive(Clone, Copy)]
 pub struct MonthFound {
     pub year: u64,
     pub month: u64,
@@ -49,7 +49,7 @@ pub fn month(c: &mut Cursor, s: &[u8]) -> MonthFound
 }
 
 // A time series' delivery direction and its counter of observations.
-#[derive(Drop)]
+#[derive(Clone, Copy)]
 pub struct VolumeFound {
     pub delivery: u64,
     pub count: u64,
@@ -72,7 +72,7 @@ pub fn volume(c: &mut Cursor, s: &[u8]) -> VolumeFound
 }
 
 // Where a file's ID starts and ends, and where its moment starts.
-#[derive(Drop)]
+#[derive(Clone, Copy)]
 pub struct MessageFound {
     pub id: Cursor,
     pub end: Cursor,
@@ -126,7 +126,7 @@ pub fn shared_start_by(c: Cursor, s: &[u8], supply: u64) -> Read
 }
 
 // The number of a supplier or an FSP and its counter of series.
-#[derive(Drop)]
+#[derive(Clone, Copy)]
 pub struct CompanyFound {
     pub number: u64,
     pub count: u64,
@@ -151,7 +151,7 @@ pub fn company_by(c: Cursor, s: &[u8], before: &[u8], behind: &[u8]) -> CompanyF
 }
 
 // An access point's EAN, its supply direction and its counter of series.
-#[derive(Drop)]
+#[derive(Clone, Copy)]
 pub struct AccessFound {
     pub number: u64,
     pub supply: u64,
@@ -181,7 +181,7 @@ pub fn access_by(c: Cursor, s: &[u8]) -> AccessFound
 }
 
 // A file's receiver and its counter of partners, by the tags around the counter.
-#[derive(Drop)]
+#[derive(Clone, Copy)]
 pub struct ReceiverFound {
     pub receiver: u64,
     pub count: u64,

@@ -6,7 +6,7 @@ ghost use Rattle.quarters.specs.QuartersInner.{Ranged, cell_of};
 use calendar::Clock;
 
 // The month, the lead days before it, and on which of these days the clocks change.
-#[derive(Drop)]
+#[derive(Clone, Copy)]
 pub struct Calendar {
     pub year: u64,
     pub month: u64,

@@ -11,13 +11,13 @@ use kinds::Kind;
 use passages::{MessageFound, ReceiverFound};
 
 // A file's kind.
-#[derive(Drop)]
+#[derive(Clone, Copy)]
 pub struct Root {
     pub kind: Kind,
 }
 
 // A file's kind, and the cursor behind its root.
-#[derive(Drop)]
+#[derive(Clone, Copy)]
 pub struct RootRead {
     pub to: Cursor,
     pub root: Root,
@@ -82,14 +82,14 @@ fn receiver_of(c: Cursor, s: &[u8], kind: Kind) -> ReceiverFound
 }
 
 // A file's receiver, and the partners that are then left.
-#[derive(Drop)]
+#[derive(Clone, Copy)]
 pub struct Receiver {
     pub receiver: u64,
     pub todo: PartnersTodo,
 }
 
 // The same, and the cursor before the partners.
-#[derive(Drop)]
+#[derive(Clone, Copy)]
 pub struct ReceiverRead {
     pub to: Cursor,
     pub found: Receiver,
@@ -149,7 +149,7 @@ pub fn past_end(c: &mut Cursor, s: &[u8], root: Root)
 }
 
 // What was read of a file: where its ID starts and ends and its moment starts, and the cursor behind it.
-#[derive(Drop)]
+#[derive(Clone, Copy)]
 pub struct FileRead {
     pub root: Root,
     pub receiver: u64,

@@ -7,7 +7,7 @@ use kinds::Kind;
 use series_reader::series::SeriesTodo;
 
 // The partners that are left of a file: so many, with numbers from `low` on, behind the month that was seen and so many rows.
-#[derive(Drop)]
+#[derive(Clone, Copy)]
 pub struct PartnersTodo {
     pub kind: Kind,
     pub left: u64,
@@ -18,7 +18,7 @@ pub struct PartnersTodo {
 }
 
 // A partner's number, in TOE03 its supply direction, how many series it has, and the cursor before them.
-#[derive(Drop)]
+#[derive(Clone, Copy)]
 pub struct Head {
     pub number: u64,
     pub supply: u64,
@@ -76,7 +76,7 @@ fn head_of(c: Cursor, s: &[u8], kind: Kind) -> Head
 }
 
 // The cursor before the series of a partner, and the series that are then left.
-#[derive(Drop)]
+#[derive(Clone, Copy)]
 pub struct HeadRead {
     pub to: Cursor,
     pub todo: SeriesTodo,
@@ -133,14 +133,14 @@ fn number_behind(n: u64) -> u64
 }
 
 // A partner that was read up to its end, and what was left with it.
-#[derive(Drop)]
+#[derive(Clone, Copy)]
 pub struct PartnerSeen {
     pub todo: PartnersTodo,
     pub series: SeriesTodo,
 }
 
 // The cursor behind a partner, and what is then left.
-#[derive(Drop)]
+#[derive(Clone, Copy)]
 pub struct PartnerRead {
     pub to: Cursor,
     pub todo: PartnersTodo,

@@ -5,14 +5,14 @@ ghost use Rattle.reports.specs.Pool.{PoolShown};
 ghost use Rattle.reports.specs.March.{MarchShown};
 
 // What a sheet call answers: the sums that it filled, or a number and an item of document 01.
-#[derive(Drop)]
+#[derive(Clone, Copy)]
 pub enum SheetAnswer {
     Sheet(usize),
     Refused(u64, usize),
 }
 
 // What a file call answers: the settlement rows and the bytes that it filled, or a number and an item.
-#[derive(Drop)]
+#[derive(Clone, Copy)]
 pub enum FileAnswer {
     File(usize, usize),
     Refused(u64, usize),

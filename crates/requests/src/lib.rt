@@ -11,7 +11,7 @@ use formats::{Mark, Val};
 use kinds::Numbered;
 
 // What a line asks for: the file's kind and receiver, where ID and moment stand, and where the book starts.
-#[derive(Drop)]
+#[derive(Clone, Copy)]
 pub struct Asked {
     pub kind: u8,
     pub receiver: u64,
@@ -21,7 +21,7 @@ pub struct Asked {
     pub book: usize,
 }
 
-#[derive(Drop)]
+#[derive(Clone, Copy)]
 pub enum Request {
     Line(Asked),
     NoLine,
@@ -44,7 +44,7 @@ fn kind(s: &[u8], m: Mark) -> Val
 }
 
 // Kind and receiver of a line, and the place behind it.
-#[derive(Drop)]
+#[derive(Clone, Copy)]
 struct LineRead {
     kind: u64,
     receiver: u64,

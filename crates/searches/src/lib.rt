@@ -4,7 +4,7 @@ pub mod metering;
 pub mod register;
 
 // Where a search ended.
-#[derive(Drop)]
+#[derive(Clone, Copy)]
 pub enum Found {
     At(usize),
     Nothing,

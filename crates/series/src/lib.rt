@@ -5,7 +5,7 @@ pub mod delivered;
 pub mod sums;
 
 // Whose file: a receiver in its role, "FSP for kind 01, supplier for 02 and 03".
-#[derive(Drop)]
+#[derive(Clone, Copy)]
 pub struct Role {
     pub kind: Kind,
     pub receiver: u64,

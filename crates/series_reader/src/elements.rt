@@ -37,7 +37,7 @@ fn in_order(position: u64, watts: u64, behind: u64, last: u64) -> bool
 }
 
 // The partner, supply and delivery direction of a series.
-#[derive(Drop)]
+#[derive(Clone, Copy)]
 pub struct Key {
     pub partner: u64,
     pub supply: u64,
@@ -63,7 +63,7 @@ fn store(out: &mut [u64], count: u64, key: Key, position: u64, watts: u64) -> u6
 }
 
 // So many observations of a month, whose rows go behind `rows` rows.
-#[derive(Drop)]
+#[derive(Clone, Copy)]
 pub struct Wanted {
     pub count: u64,
     pub year: u64,
@@ -73,7 +73,7 @@ pub struct Wanted {
 }
 
 // What is left of them: so many, behind a position up to a last one, and behind so many rows.
-#[derive(Drop)]
+#[derive(Clone, Copy)]
 pub struct Todo {
     pub left: u64,
     pub behind: u64,
@@ -83,7 +83,7 @@ pub struct Todo {
 }
 
 // The cursor behind an observation, and what is then left.
-#[derive(Drop)]
+#[derive(Clone, Copy)]
 pub struct Turned {
     pub to: Cursor,
     pub todo: Todo,
@@ -179,7 +179,7 @@ pub fn past_month(c: &mut Cursor, s: &[u8], p: MonthFound)
 }
 
 // The time series that is wanted: its partner and supply direction, and the rows before its own.
-#[derive(Drop)]
+#[derive(Clone, Copy)]
 pub struct VolumeTodo {
     pub partner: u64,
     pub supply: u64,
@@ -187,7 +187,7 @@ pub struct VolumeTodo {
 }
 
 // A time series that was read.
-#[derive(Drop)]
+#[derive(Clone, Copy)]
 pub struct SeriesFound {
     pub delivery: u64,
     pub year: u64,

@@ -10,7 +10,7 @@ use kinds::Kind;
 
 // The series that are left of a partner: so many, from place `low` on, behind the month that was seen and so many rows. In TOE03 `supply` is
 // the access point's.
-#[derive(Drop)]
+#[derive(Clone, Copy)]
 pub struct SeriesTodo {
     pub kind: Kind,
     pub partner: u64,
@@ -104,7 +104,7 @@ fn sum(a: u64, b: u64) -> u64
 }
 
 // A series that was read up to its end, and what was left with it.
-#[derive(Drop)]
+#[derive(Clone, Copy)]
 pub struct SeriesSeen {
     pub todo: SeriesTodo,
     pub supply: u64,
@@ -112,7 +112,7 @@ pub struct SeriesSeen {
 }
 
 // The cursor behind a series, and what is then left.
-#[derive(Drop)]
+#[derive(Clone, Copy)]
 pub struct SeriesRead {
     pub to: Cursor,
     pub todo: SeriesTodo,

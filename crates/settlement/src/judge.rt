@@ -14,7 +14,7 @@ use judging::Judged;
 use quarters::Calendar;
 
 // Passed, or refused with a number and its item.
-#[derive(Drop)]
+#[derive(Clone, Copy)]
 pub enum Verdict {
     Passed,
     Refused(u64, usize),

@@ -16,7 +16,7 @@ use crate::rows::ROW_WIDTH;
 use quarters::Calendar;
 
 // The number of rows, or a refusal with its item.
-#[derive(Drop)]
+#[derive(Clone, Copy)]
 pub enum Settled {
     Rows(usize),
     Refused(u64, usize),

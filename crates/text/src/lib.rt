@@ -5,7 +5,7 @@ ghost use Rattle.text.specs.Decimal.{digit, fixed, plain, fixed_at};
 ghost use Rattle.text.specs.WrittenInner.{Wrote};
 
 // What stands where a number is to stand.
-#[derive(Drop)]
+#[derive(Clone, Copy)]
 pub enum Number {
     Value(u64),
     NotDigits,

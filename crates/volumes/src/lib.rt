@@ -4,7 +4,7 @@ ghost use Rattle.volumes.specs.Examples.{Checked};
 use book::{Direction, Supply};
 
 // "A series is one partner, supply and delivery direction"
-#[derive(Drop)]
+#[derive(Clone, Copy)]
 pub struct Series {
     pub partner: u64,
     pub supply: Supply,

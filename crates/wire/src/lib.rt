@@ -32,7 +32,7 @@ pub fn u64_at(s: &[u8], at: usize) -> u64
 }
 
 // A reading as the definitions speak of it: watts, off-take positive, or none. Code has it raised.
-#[derive(Drop)]
+#[derive(Clone, Copy)]
 pub enum Reading {
     Watts(i64),
     Missing,

@@ -1,0 +1,27 @@
+-- The engagement's quarter-hours lie on both sides of the turn, or on one.
+use mathlib.Core.Path.{◌≡◌, refl, ap, ◌∙◌}
+use Prim.Native.Nat.{◌+◌}
+use lib.Dec.{ltb}
+use borrow.Author.Tests.{ltb-true}
+use native.Mathlib.Omega.{arith}
+use Rattle.integers.specs.TestsLaws.{both}
+use Rattle.baseline.specs.RunsInner.{turn, together}
+use Rattle.quarters.specs.Quarters.{quarters}
+use Rattle.baseline.proofs.days.together.Goals as goal
+
+-- the turn is that of A's quarter-hours
+is : (c : goal.After-turn_of-turn) → c.turn_of-turn.result ≡ turn (quarters c.args.c c.args.e.day)
+is c = c.turn_of-turn.ensures ∙ ap turn c.quarters.ensures
+
+pub overflow_sub-result : goal.overflow_sub-result
+overflow_sub-result c = let t = c.before.before.before in
+    let e = t.args.e in
+    omega (arith, ltb-true e.first t.turn_of-turn.result (both (ltb e.first t.turn_of-turn.result) (ltb t.turn_of-turn.result (e.first + e.count)) c.if-first-turn.true).0)
+
+pub returns-then-first-turn : goal.returns-then-first-turn
+unfolding together
+returns-then-first-turn c = let t = c.before.before.before in rw (← is t, c.if-first-turn.true) refl
+
+pub returns : goal.returns
+unfolding together
+returns c = let t = c.before.before.before in rw (← is t, c.if-first-turn.false) refl

@@ -1,0 +1,11 @@
+-- Methods 1 and 2 look at days, method 0 at one reading.
+use mathlib.Core.Path.{sym, ◌∙◌}
+use Rattle.baseline.proofs.fill.fill_levels.Goals as goal
+
+pub fill_days-requires : goal.fill_days-requires
+fill_days-requires c = let s = c.before.before.before.before.before.before.before in
+    (s.requires.0, sym c.looks_back.ensures ∙ c.if-looks_back.true, s.requires.1)
+
+pub fill_last-requires : goal.fill_last-requires
+fill_last-requires c = let s = c.before.before.before.before.before.before.before in
+    (s.requires.0, sym c.looks_back.ensures ∙ c.if-looks_back.false, s.requires.1)

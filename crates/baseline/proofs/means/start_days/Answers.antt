@@ -1,0 +1,48 @@
+-- One day's start more a turn.
+use mathlib.Core.Path.{◌≡◌, refl, ap, subst, ◌∙◌}
+use mathlib.Core.List.{map}
+use Prim.Native.Nat.{ℕ, ◌+◌, ◌-◌, ◌%◌, ◌<◌}
+use native.Mathlib.Nat.{mod-lt}
+use lib.ListN.{take, get_or, set, length-set}
+use Rattle.quarters.specs.Quarters.{day_start}
+use Rattle.baseline.specs.RunsInner.{days_in}
+use Rattle.baseline.specs.RunsLaws.{starts_none, starts_more}
+use native.Mathlib.Omega.{arith}
+use Rattle.baseline.proofs.means.start_days.Goals as goal
+
+pub loop-j-init : goal.loop-j-init
+loop-j-init c = (omega arith, refl, starts_none c.args.c c.args.keys.now c.args.starts.now)
+
+pub day_start-requires : goal.day_start-requires
+day_start-requires c =
+    let k = get_or c.args.keys.now c.loop-j.j 0 in
+    let small : k % 64 < 64 = mod-lt k (omega arith) in
+    omega arith
+
+pub bounds-starts-j : goal.bounds-starts-j
+bounds-starts-j c = omega (arith, c.loop-j.invariant.1, c.requires.1)
+
+pub loop-j-preserved : goal.loop-j-preserved
+loop-j-preserved c =
+    let l = c.before.before.before in
+    let s = c.before.before.before.before.before.before in
+    let keys = s.args.keys.now in
+    let long = l.loop-j.invariant.1 in (
+      omega arith,
+      length-set l.loop-j.starts l.loop-j.j c.day_start.result ∙ long,
+      ap (λ (n : ℕ). take (l.loop-j.j + 1) (set l.loop-j.starts l.loop-j.j n)) c.day_start.ensures
+          ∙ starts_more s.args.c keys l.loop-j.starts l.loop-j.j (omega (arith, s.requires.0)) (omega (arith, s.requires.1, long)) l.loop-j.invariant.2,
+    )
+
+pub shape_of-starts : goal.shape_of-starts
+shape_of-starts c = c.loop-j.invariant.1
+
+pub returns : goal.returns
+returns c =
+    let l = c.before in
+    let s = c.before.before.before.before in
+    let all : l.loop-j.j ≡ s.args.x = omega arith in
+    record {
+      some = omega (arith, l.loop-j.invariant.1, s.requires.1);
+      days = subst (λ (n : ℕ). take n l.loop-j.starts ≡ map (day_start s.args.c) (days_in s.args.keys.now n)) all l.loop-j.invariant.2;
+    }

@@ -1,0 +1,15 @@
+-- The tag is read where the cursor stands.
+use mathlib.Core.Path.{◌∙◌}
+use Rattle.cursor.specs.MovesLaws.{standing-within, tag_is}
+use Rattle.cursor.proofs.tag_by.Goals as goal
+
+pub tag-behind-requires : goal.tag-behind-requires
+tag-behind-requires c =
+    let a = c.args in
+    rw c.place-m.ensures (standing-within a.s.now a.c)
+
+pub returns : goal.returns
+returns c =
+    let a = c.args in
+    let t = c.tag-behind in
+    c.at_mark.ensures ∙ tag_is a.s.now a.c a.t.now t.result (rw c.place-m.ensures at t.ensures)

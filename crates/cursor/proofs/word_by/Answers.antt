@@ -1,0 +1,15 @@
+-- The word is read where the cursor stands.
+use mathlib.Core.Path.{◌∙◌}
+use Rattle.cursor.specs.MovesLaws.{standing-within, word-is}
+use Rattle.cursor.proofs.word_by.Goals as goal
+
+pub word-x-requires : goal.word-x-requires
+word-x-requires c =
+    let a = c.args in
+    rw c.place-m.ensures (standing-within a.s.now a.c)
+
+pub returns : goal.returns
+returns c =
+    let a = c.args in
+    let x = c.word-x in
+    c.read_of.ensures ∙ word-is a.s.now a.c a.v.now a.w.now x.result.next x.result.value (rw c.place-m.ensures at x.ensures)

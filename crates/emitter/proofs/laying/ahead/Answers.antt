@@ -1,0 +1,28 @@
+-- The place is reached where the sum is at most the length.
+use mathlib.Core.Path.{sym}
+use native.Mathlib.Omega.{arith}
+use Rattle.emitter.specs.LaidLaws.{ahead, ahead-fits, ahead-over}
+use native.Mathlib.Omega.{arith}
+use Rattle.emitter.proofs.laying.ahead.Goals as goal
+
+pub returns-in_default : goal.returns-in_default
+unfolding ahead
+returns-in_default c = rw c.enum_told-1.given.1
+
+pub returns-then-len-n : goal.returns-then-len-n
+returns-then-len-n c =
+    let a = c.args in
+    let m = c.m-1.given in
+    rw m.1 (sym (ahead-over a.len m.0.0 a.n (λ h. omega arith)))
+
+pub returns-then-len-n-2 : goal.returns-then-len-n-2
+returns-then-len-n-2 c =
+    let a = c.args in
+    let m = c.m-1.given in
+    rw m.1 (sym (ahead-over a.len m.0.0 a.n (λ h. omega arith)))
+
+pub returns : goal.returns
+returns c =
+    let a = c.args in
+    let m = c.m-1.given in
+    rw m.1 (sym (ahead-fits a.len m.0.0 a.n (omega arith)))

@@ -1,0 +1,37 @@
+-- The tests in their order, each as the definition has it.
+use mathlib.Core.Path.{◌≡◌, sym, ◌∙◌}
+use borrow.Author.Tests.{not-true, not-false}
+use Rattle.book.specs.Book.{book_of}
+use Rattle.volumes.specs.SettlementLaws.{passing}
+use Rattle.reports.specs.Roles.{receivers}
+use Rattle.reports.specs.Calls.{stands}
+use Rattle.partners.specs.PartnersLaws.{role-in}
+use Rattle.filing.specs.FileCallLaws.{asked-other, asked-malformed, asked-short, asked-well}
+use borrow.Author.Rules.{rules}
+use Rattle.filing.proofs.file.judge_asked.Goals as goal
+
+pub section-requires : goal.section-requires
+section-requires c = ((passing _ c.requires).passed, search rules)
+
+-- the receiver's role, by the book
+role : (c : goal.After-in_role) → let a = c.args in c.in_role.result ≡ stands a.role.receiver (receivers (book_of a.book.now) a.role.kind)
+role c =
+    let s = c.before.before.before.before.before in
+    c.in_role.ensures ∙ role-in s.args.book.now c.section.result.now s.args.role.kind s.args.role.receiver (passing _ s.requires).passed c.section.ensures
+
+pub returns-then-not-in_role : goal.returns-then-not-in_role
+returns-then-not-in_role c = asked-other _ _ _ _ _ _ (sym (role c.before) ∙ not-true _ c.if-not-in_role.true)
+
+pub returns-then-not-in_form : goal.returns-then-not-in_form
+returns-then-not-in_form c = asked-malformed _ _ _ _ _ _ (sym (role c.before.before.before) ∙ not-false _ c.if-not-in_role.false) (sym c.in_form.ensures ∙ not-true _ c.if-not-in_form.true)
+
+pub row_count-requires : goal.row_count-requires
+row_count-requires c = (passing _ c.requires).passed
+
+pub returns-then-lent-row_count : goal.returns-then-lent-row_count
+returns-then-lent-row_count c =
+    asked-short _ _ _ _ _ _ (sym (role c.before.before.before.before.before) ∙ not-false _ c.if-not-in_role.false) (sym c.in_form.ensures ∙ not-false _ c.if-not-in_form.false) (rw (← c.row_count.ensures.0) c.if-lent-row_count.true)
+
+pub returns : goal.returns
+returns c =
+    asked-well _ _ _ _ _ _ (sym (role c.before.before.before.before.before) ∙ not-false _ c.if-not-in_role.false) (sym c.in_form.ensures ∙ not-false _ c.if-not-in_form.false) (rw (← c.row_count.ensures.0) c.if-lent-row_count.false)

@@ -1,0 +1,66 @@
+-- The rows that are filled stand at the front, can be laid, and are laid as the partner.
+use mathlib.Core.Path.{◌≡◌, ap, ◌∙◌}
+use mathlib.Core.List.{flat_map}
+use Prim.Native.Nat.{◌/◌}
+use native.Mathlib.Nat.{zero-add}
+use lib.ListN.{length}
+use Rattle.quarters.specs.declared.Calendar.{Calendar}
+use Rattle.book.specs.Book.{book_of}
+use Rattle.volumes.specs.SettlementLaws.{passing}
+use Rattle.message.specs.Bytes.{partner_bytes}
+use Rattle.message.specs.Rows.{rows_from}
+use Rattle.emitter.specs.LaidLaws.{laid-is}
+use Rattle.writer.specs.ContentsInner.{partners_in}
+use Rattle.series.specs.SumsLaws.{parts-of}
+use Rattle.partners.specs.ObservationsLaws.{period-of, Dated, dated}
+use Rattle.reports.specs.RegisteredLaws.{registered}
+use Rattle.partners.specs.PartnerRowsInner.{partner_rows_of}
+use Rattle.partners.specs.PartnerRowsLaws.{filled-stand, filled-length, partner-writable, partner-bytes, partner-count}
+use native.Mathlib.Omega.{arith}
+use Rattle.filing.proofs.laying.emit_partner.Goals as goal
+
+calendar : (c : goal.Start) → Dated c.args.book.now
+calendar c = dated c.args.book.now c.args.volumes.now c.requires.0
+
+stood : (c : goal.After-fill_partner-end) → let a = c.args in
+    rows_from c.fill_partner-end.new.1.1.1.1.0 0 (c.fill_partner-end.result / 6) ≡ partner_rows_of (book_of a.book.now) a.role.kind a.role.receiver a.partner
+stood c =
+    let s = c.before.before.before.before.before.before.before in
+    let a = s.args in
+    let f = c.fill_partner-end.ensures.0 in
+    let rows = partner_rows_of (book_of a.book.now) a.role.kind a.role.receiver a.partner in
+    let n : c.fill_partner-end.result / 6 ≡ length rows = omega (arith, f.behind) in
+    ap (rows_from c.fill_partner-end.new.1.1.1.1.0 0) n ∙ filled-stand rows _ _ _ f (omega (arith, f.behind, c.fill_partner-end.ensures.1, s.requires.1))
+
+pub calendar_of-c-requires : goal.calendar_of-c-requires
+calendar_of-c-requires c = (calendar c.before.before.before.before).header
+
+pub emit_partners-mark-requires : goal.emit_partners-mark-requires
+emit_partners-mark-requires c =
+    let f = c.before.before.before.before in
+    let d = f.before.before in
+    let s = d.before.before.before.before.before in
+    let a = s.args in
+    let e = f.fill_partner-end.ensures in (
+      partner-writable (book_of a.book.now) a.role.kind a.role.receiver a.partner _ _ _ _ (omega (arith, filled-length e.0, e.0.behind, e.1, s.requires.1)) (stood f) (period-of d.calendar_of-c.result (rw d.calendar_of-c.ensures (calendar s).ranged)),
+      s.requires.3,
+    )
+
+pub returns : goal.returns
+returns c =
+    let f = c.before.before.before.before.before.before.before.before in
+    let d = f.before.before in
+    let s = d.before.before.before.before.before in
+    let a = s.args in
+    let l = f.fill_partner-end.new.1.1.1.1.0 in
+    let n = f.fill_partner-end.result / 6 in
+    let q = d.calendar_of-c.ensures ∙ (calendar s).own in
+    let sound = (parts-of a.book.now a.volumes.now s.requires.0).sound in
+    let own = registered a.book.now (passing _ s.requires.0.accepted).passed in (
+      laid-is _
+          (ap (λ (k : Calendar). flat_map (partner_bytes a.role.kind) (partners_in (k.year, k.month) l 0 n)) q
+          ∙ partner-bytes (book_of a.book.now) a.role.kind a.role.receiver a.partner sound own s.requires.2 l n (stood f))
+          c.emit_partners-mark.ensures,
+      c.one-count.ensures.0 ∙ partner-count (book_of a.book.now) a.role.kind a.role.receiver a.partner sound own s.requires.2 f.fill_partner-end.result (f.fill_partner-end.ensures.0.behind ∙ zero-add _),
+      c.one-count.ensures.1,
+    )

@@ -1,0 +1,79 @@
+-- Refused, the sums are as they were; accepted, of a party of the register and with room, they are the sheet.
+use mathlib.Core.Path.{◌≡◌, sym, ap, ap₂, ◌∙◌}
+use mathlib.Core.Bool.{true}
+use mathlib.Core.List.{List}
+use mathlib.Core.Option.{none}
+use Prim.Native.Nat.{ℕ}
+use borrow.Author.Rules.{rules}
+use borrow.Author.Tests.{not-true, not-false}
+use Rattle.book.specs.Book.{book_of}
+use Rattle.book.specs.Judged.{refusal_of}
+use Rattle.volumes.specs.Settlement.{book_refusal}
+use Rattle.volumes.specs.SettlementLaws.{passing}
+use Rattle.volumes.specs.Sheets.{parties}
+use Rattle.settlement.specs.VerdictsInner.{refusal_in}
+use Rattle.settlement.specs.SectionsLaws.{bytes-long}
+use Rattle.sheets.specs.PartiesInner.{parties_in}
+use Rattle.reports.specs.Calls.{stands}
+use Rattle.filing.specs.SheetLaws.{stands-in, sheet-refused, sheet-stranger, sheet-short, sheet-filled}
+use Rattle.filing.proofs.sheet.sheet.Goals as goal
+
+pub returns-in-Refused : goal.returns-in-Refused
+returns-in-Refused c =
+    let k = c.before.before.before in
+    let a = k.args in
+    sheet-refused a.book.now a.party a.sums-1.now _ (ap refusal_in (sym c.verdict-1.given.1) ∙ k.judge_settlement-verdict.ensures)
+
+-- the book is accepted
+passed : (c : goal.In_default) → book_refusal c.args.book.now ≡ none
+passed c = sym c.judge_settlement-verdict.ensures ∙ ap refusal_in c.enum_told-1.given.1
+
+sound : (c : goal.In_default) → refusal_of c.args.book.now ≡ none
+sound c = (passing c.args.book.now (passed c)).passed
+
+pub version_of-version-requires : goal.version_of-version-requires
+version_of-version-requires c = bytes-long c.args.book.now (sound c)
+
+pub section-register-requires : goal.section-register-requires
+section-register-requires c = (sound c.before, search rules)
+
+-- whether the party stands in a column
+column : (c : goal.After-is_party) → let a = c.args in
+    c.is_party.result ≡ stands a.party (parties (book_of a.book.now))
+column c =
+    let a = c.args in
+    c.is_party.ensures
+    ∙ ap₂ (λ (v : ℕ) (register : List ℕ). stands a.party (parties_in v register)) c.version_of-version.ensures c.section-register.ensures
+    ∙ stands-in a.book.now a.party (sound c.before.before.before)
+
+pub returns-then-not-is_party : goal.returns-then-not-is_party
+returns-then-not-is_party c =
+    let a = c.args in
+    sheet-stranger a.book.now a.party a.sums-1.now (passed c.before.before.before.before) (sym (column c.before) ∙ not-true _ c.if-not-is_party.true)
+
+-- it does
+present : (c : goal.Else-not-is_party) → let a = c.args in
+    stands a.party (parties (book_of a.book.now)) ≡ true
+present c = sym (column c.before) ∙ not-false _ c.if-not-is_party.false
+
+pub sheet_length-count-requires : goal.sheet_length-count-requires
+sheet_length-count-requires c = sound c.before.before.before.before
+
+pub returns-then-sums-count : goal.returns-then-sums-count
+returns-then-sums-count c =
+    let e = c.before.before in
+    let a = e.args in
+    sheet-short a.book.now a.party a.sums-1.now (passed e.before.before.before.before) (present e) (rw (← c.sheet_length-count.ensures) c.if-sums-count.true)
+
+pub fill_sheet-requires : goal.fill_sheet-requires
+fill_sheet-requires c =
+    let n = c.before.before in
+    (passed n.before.before.before.before.before, rw (← n.sheet_length-count.ensures) c.if-sums-count.false)
+
+pub returns : goal.returns
+returns c =
+    let o = c.before.before.before in
+    let n = o.before in
+    let e = n.before in
+    let a = e.args in
+    sheet-filled a.book.now a.party a.sums-1.now (passed e.before.before.before.before) _ _ (present e) (rw (← n.sheet_length-count.ensures) o.if-sums-count.false) n.sheet_length-count.ensures c.fill_sheet.ensures

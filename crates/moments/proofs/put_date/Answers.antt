@@ -1,0 +1,37 @@
+-- `put_date` meets its contract: five writes, one behind the other.
+use Rattle.text.specs.Ascii.{bytes}
+use Rattle.text.specs.Decimal.{fixed}
+use Rattle.moments.specs.Moments.{date_bytes}
+use Rattle.text.specs.WrittenLaws.{and_then}
+use native.Mathlib.Omega.{arith}
+use Rattle.moments.proofs.put_date.Goals as goal
+
+pub put_fixed-a-requires : goal.put_fixed-a-requires
+unfolding fixed
+put_fixed-a-requires c = omega arith
+
+pub put-b-requires : goal.put-b-requires
+unfolding fixed
+put-b-requires c = omega arith
+
+pub put_fixed-c-requires : goal.put_fixed-c-requires
+unfolding fixed
+put_fixed-c-requires c = omega arith
+
+pub put-d-requires : goal.put-d-requires
+unfolding fixed
+put-d-requires c = omega arith
+
+pub put_fixed-requires : goal.put_fixed-requires
+unfolding fixed
+put_fixed-requires c = omega arith
+
+pub returns : goal.returns
+unfolding date_bytes bytes
+returns c =
+    let p5 = c.before.before in
+    let p4 = p5.before.before.before.before in
+    let p3 = p4.before.before.before.before.before in
+    let p2 = p3.before.before.before.before in
+    let p1 = p2.before.before.before.before.before in
+    and_then (and_then (and_then (and_then p1.put_fixed-a.ensures p2.put-b.ensures) p3.put_fixed-c.ensures) p4.put-d.ensures) p5.put_fixed.ensures

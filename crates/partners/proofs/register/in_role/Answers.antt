@@ -1,0 +1,35 @@
+-- No row passed so far has the receiver.
+use mathlib.Core.Path.{◌≡◌, sym, ap, ◌∙◌}
+use Prim.Native.Nat.{ℕ, ◌-◌}
+use borrow.Author.Count.{below_more}
+use Rattle.book.specs.Register.{point_at}
+use Rattle.volumes.specs.Series.{receiver_of}
+use Rattle.partners.specs.PartnersLaws.{role-found, role-none}
+use borrow.Author.Rules.{rules}
+use native.Mathlib.Omega.{arith}
+use Rattle.partners.proofs.register.in_role.Goals as goal
+
+pub loop-i-init : goal.loop-i-init
+loop-i-init c = (search rules, λ j h. absurd (omega arith))
+
+-- the receiver of row i
+receiver-is : (c : goal.After-receiver_of) → c.receiver_of.result ≡ receiver_of c.args.role.kind (point_at c.args.register.now c.loop-i.i)
+receiver-is c = c.receiver_of.ensures ∙ ap (receiver_of c.args.role.kind) c.point_at-point.ensures
+
+pub returns-then-receiver_of-role : goal.returns-then-receiver_of-role
+returns-then-receiver_of-role c =
+    let l = c.before.before.before.before.before in
+    let a = l.args in
+    sym (role-found a.register.now a.role.kind a.role.receiver l.loop-i.i (search rules) (sym (receiver-is c.before.before) ∙ c.if-receiver_of-role.true))
+
+pub loop-i-preserved : goal.loop-i-preserved
+loop-i-preserved c =
+    let l = c.before.before.before.before.before in
+    let a = l.args in
+    (search rules, below_more (λ (j : ℕ). receiver_of a.role.kind (point_at a.register.now j) ≡ a.role.receiver → ⊥) l.loop-i.i l.loop-i.invariant.1 (λ e. c.if-receiver_of-role.false (receiver-is c.before.before ∙ e)))
+
+pub returns : goal.returns
+returns c =
+    let l = c.before in
+    let a = l.args in
+    sym (role-none a.register.now a.role.kind a.role.receiver (λ j h e. l.loop-i.invariant.1 j (search rules) e))

@@ -1,0 +1,10 @@
+-- The definition, test by test; the point's takers are those of its situation.
+use mathlib.Core.Path.{◌∙◌}
+use Rattle.reports.specs.FileRows.{is_taken}
+use Rattle.partners.proofs.register.is_taken.Goals as goal
+
+pub returns : goal.returns
+unfolding is_taken
+returns c =
+    let start = c.before.before.before in
+    rw (c.takes.ensures ∙ start.requires.law start.args.role.kind, c.receiver_of.ensures)

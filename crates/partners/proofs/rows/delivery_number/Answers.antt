@@ -1,0 +1,11 @@
+-- The definition's own cases.
+use Rattle.reports.specs.FileRows.{delivery_number}
+use Rattle.partners.proofs.rows.delivery_number.Goals as goal
+
+pub returns-in-Up : goal.returns-in-Up
+unfolding delivery_number
+returns-in-Up c = rw c.enum_told-1.given.1
+
+pub returns-in-Down : goal.returns-in-Down
+unfolding delivery_number
+returns-in-Down c = rw c.enum_told-in-Down-1.given.1

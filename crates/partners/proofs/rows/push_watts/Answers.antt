@@ -1,0 +1,32 @@
+-- After i turns the rows of the first i positions are stored.
+use mathlib.Core.Path.{◌≡◌}
+use Prim.Native.Nat.{◌-◌}
+use borrow.Author.Rules.{rules}
+use native.Mathlib.Omega.{arith}
+use Rattle.partners.specs.PartnerRowsLaws.{filled_is, filled_none, filled-then, filled-length, positions-none, positions-more, positions-few}
+use Rattle.partners.proofs.rows.push_watts.Goals as goal
+
+pub loop-i-init : goal.loop-i-init
+loop-i-init c = let a = c.args in
+    (search rules, filled_is _ (positions-none a.s a.watts.now) (filled_none _ _))
+
+pub push_position-at-requires : goal.push_position-at-requires
+push_position-at-requires c =
+    let l = c.before.before.before in
+    let s = l.before.before.before in
+    let a = s.args in
+    omega (arith, s.requires.1, l.loop-i.invariant.1.behind, filled-length l.loop-i.invariant.1, positions-few a.s a.watts.now l.loop-i.i)
+
+pub loop-i-preserved : goal.loop-i-preserved
+loop-i-preserved c =
+    let l = c.before.before.before.before.before.before in
+    let a = l.args in
+    (omega arith, filled_is _ (positions-more a.s a.watts.now l.loop-i.i) (filled-then l.loop-i.invariant.1 c.push_position-at.ensures))
+
+pub shape_of-rows : goal.shape_of-rows
+shape_of-rows c = filled-length c.loop-i.invariant.1
+
+pub returns : goal.returns
+returns c = let l = c.before in
+    let e : l.loop-i.i ≡ l.args.n = omega arith in
+    rw (← e) l.loop-i.invariant.1

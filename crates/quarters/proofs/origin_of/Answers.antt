@@ -1,0 +1,14 @@
+-- Each point before it has the calendar's quarter-hours.
+use mathlib.Core.Path.{ap}
+use Prim.Native.Nat.{ℕ, ◌*◌}
+use Rattle.quarters.specs.QuartersLaws.{origin-few}
+use native.Mathlib.Omega.{arith}
+use Rattle.quarters.proofs.origin_of.Goals as goal
+
+pub overflow_mul-result : goal.overflow_mul-result
+overflow_mul-result c =
+    let s = c.before in
+    omega (arith, origin-few s.args.c s.args.point s.requires.0 s.requires.1, ap (λ (q : ℕ). q * s.args.point) c.quarters_of.ensures)
+
+pub returns : goal.returns
+returns c = ap (λ (q : ℕ). q * c.args.point) c.quarters_of.ensures

@@ -1,0 +1,14 @@
+-- The moment is read where the cursor stands, and the receiver behind it.
+use Rattle.cursor.specs.MovesLaws.{standing-within}
+use Rattle.reader.specs.FileTurnsLaws.{received}
+use Rattle.reader.proofs.file.receiver_by.Goals as goal
+
+pub moment_at-b-requires : goal.moment_at-b-requires
+moment_at-b-requires c = rw c.place-m.ensures (standing-within c.args.s.now c.args.c)
+
+pub returns : goal.returns
+returns c =
+    let a = c.args in
+    let b = c.moment_at-b in
+    let v = c.receiver_of-v in
+    received a.s.now a.root a.c c.place-m.result b.result c.at_mark-behind.result v.result c.place-m.ensures b.ensures c.at_mark-behind.ensures v.ensures

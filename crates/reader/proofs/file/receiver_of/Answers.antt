@@ -1,0 +1,16 @@
+-- The kind decides which call is made, and its equation is the kind's.
+use Rattle.text.specs.Ascii.{bytes}
+use Rattle.message.specs.Bytes.{opening, closing, ending, counter}
+use Rattle.reader.proofs.file.receiver_of.Goals as goal
+
+pub returns-in-Toe01 : goal.returns-in-Toe01
+unfolding opening closing ending counter bytes
+returns-in-Toe01 c = rw c.enum_told-1.given.1 c.receiver_by.ensures
+
+pub returns-in-Toe02 : goal.returns-in-Toe02
+unfolding opening closing ending counter bytes
+returns-in-Toe02 c = rw c.enum_told-in-Toe02-1.given.1 c.receiver_by-in-Toe02.ensures
+
+pub returns-in-Toe03 : goal.returns-in-Toe03
+unfolding opening closing ending counter bytes
+returns-in-Toe03 c = rw c.enum_told-in-Toe03-1.given.1 c.receiver_by-in-Toe03.ensures

@@ -1,0 +1,16 @@
+-- A kind is a number of two digits that is a kind's.
+use mathlib.Core.Path.{sym, ap, ◌∙◌}
+use Rattle.kinds.specs.Numbers.{is_there}
+use Rattle.requests.specs.LineLaws.{kind-is, kind-none}
+use Rattle.kinds.specs.NumbersInner.{kind_in}
+use Rattle.requests.proofs.kind.Goals as goal
+
+pub returns-in-Of : goal.returns-in-Of
+returns-in-Of c =
+    let k = c.before.before in
+    kind-is _ _ _ _ k.fixed-v.ensures (ap is_there (sym k.kind_numbered-numbered.ensures ∙ ap kind_in c.enum_told-1.given.1))
+
+pub returns-in-Unknown : goal.returns-in-Unknown
+returns-in-Unknown c =
+    let k = c.before.before in
+    kind-none _ _ _ _ k.fixed-v.ensures (ap is_there (sym k.kind_numbered-numbered.ensures ∙ ap kind_in c.enum_told-in-Unknown-1.given.1))

@@ -1,0 +1,30 @@
+-- No earlier row passed so far differs.
+use mathlib.Core.Path.{◌≡◌, refl, sym, ap, ◌∙◌}
+use mathlib.Core.Bool.{false}
+use Prim.Native.Nat.{◌-◌}
+use Rattle.integers.specs.First.{any_below}
+use Rattle.book.specs.Register.{differs}
+use borrow.Author.Rules.{rules}
+use native.Mathlib.Omega.{arith}
+use Rattle.integers.specs.FirstLaws.{any-of, any-more}
+use Rattle.searches.proofs.register.differs_earlier.Goals as goal
+
+pub loop-j-init : goal.loop-j-init
+unfolding any_below
+loop-j-init c = (search rules, refl)
+
+pub returns-then-differ : goal.returns-then-differ
+returns-then-differ c = let l = c.before.before.before in
+    let s = l.args in
+    sym (any-of (differs s.register.now s.i) l.loop-j.j s.i (search rules) (sym c.differ.ensures ∙ c.if-differ.true))
+
+pub loop-j-preserved : goal.loop-j-preserved
+loop-j-preserved c = let l = c.before.before.before in
+    let s = l.args in
+    (search rules, any-more (differs s.register.now s.i) l.loop-j.j (sym c.differ.ensures ∙ c.if-differ.false) l.loop-j.invariant.1)
+
+pub returns : goal.returns
+returns c = let l = c.before in
+    let s = l.args in
+    let e : l.loop-j.j ≡ s.i = omega arith in
+    sym (ap (any_below (differs s.register.now s.i)) (sym e) ∙ l.loop-j.invariant.1)

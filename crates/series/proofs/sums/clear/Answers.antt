@@ -1,0 +1,26 @@
+-- After i turns the first i positions are 0, and the rest as before.
+use mathlib.Core.Path.{◌≡◌, refl, sym, ap, ◌∙◌}
+use mathlib.Core.List.{List}
+use Prim.Native.Nat.{ℕ, ◌-◌}
+use native.Mathlib.Omega.{arith}
+use lib.ListN.{set, length-set}
+use borrow.Author.Rules.{rules}
+use Rattle.series.specs.SumsInner.{by_position}
+use Rattle.series.specs.SumsLaws.{by-none, by-more}
+use Rattle.series.proofs.sums.clear.Goals as goal
+
+pub loop-i-init : goal.loop-i-init
+loop-i-init c = (search rules, refl, sym (by-none (λ p. 0) _))
+
+pub loop-i-preserved : goal.loop-i-preserved
+loop-i-preserved c = let l = c.before in
+    let s = l.before in
+    (search rules, length-set l.loop-i.cells l.loop-i.i 0 ∙ l.loop-i.invariant.1, ap (λ (g : List ℕ). set g l.loop-i.i 0) l.loop-i.invariant.2 ∙ by-more (λ p. 0) l.loop-i.i s.args.cells.now 0 (omega (arith, s.requires)) refl)
+
+pub shape_of-cells : goal.shape_of-cells
+shape_of-cells c = c.loop-i.invariant.1
+
+pub returns : goal.returns
+returns c = let l = c.before in
+    let e : l.loop-i.i ≡ l.args.n = omega arith in
+    l.loop-i.invariant.2 ∙ ap (λ (k : ℕ). by_position (λ p. 0) k l.args.cells.now) e

@@ -1,0 +1,53 @@
+-- The grains that were filled become watts, over the same positions.
+use mathlib.Core.Path.{◌≡◌, sym, ap, ◌∙◌}
+use Prim.Native.Nat.{ℕ}
+use native.Mathlib.Omega.{arith}
+use lib.ListN.{length}
+use Rattle.integers.specs.Running.{floor_at}
+use Rattle.grains.specs.Grains.{per_watt}
+use Rattle.book.specs.Header.{calendar_of, register_section, engagement_section}
+use Rattle.book.specs.Book.{book_of}
+use Rattle.quarters.specs.Quarters.{month_quarters}
+use Rattle.volumes.specs.SettlementLaws.{passing}
+use Rattle.volumes.specs.Series.{grains_at}
+use Rattle.settlement.specs.SectionsLaws.{bytes-headed}
+use Rattle.series.specs.SumsInner.{by_position, cell_at, Parts}
+use Rattle.series.specs.SumsLaws.{by_length, parts-of, carry-fits, watts-are}
+use Rattle.series.proofs.sums.series_watts.Goals as goal
+
+-- the book's parts, and the positions of its month
+parts : (c : goal.Start) → let bytes = c.args.book.now in
+    Parts (calendar_of bytes) (register_section bytes) (engagement_section bytes) c.args.volumes.now (book_of bytes)
+parts c = parts-of c.args.book.now c.args.volumes.now c.requires.0
+
+month : (c : goal.After-month_quarters) → c.month_quarters.result ≡ month_quarters (book_of c.args.book.now).calendar
+month c =
+    let s = c.before.before.before.before.before.before.before.before.before.before in
+    c.month_quarters.ensures ∙ ap month_quarters (c.calendar_of-c.ensures ∙ sym (parts s).when)
+
+pub calendar_of-c-requires : goal.calendar_of-c-requires
+calendar_of-c-requires c = let s = c.before.before.before.before.before.before.before in
+    bytes-headed s.args.book.now (passing s.args.book.now s.requires.0.accepted).passed
+
+pub month_quarters-requires : goal.month_quarters-requires
+month_quarters-requires c = let s = c.before.before.before.before.before.before.before.before.before in
+    let p = parts s in
+    rw c.calendar_of-c.ensures (rw p.when at p.sound.ranged)
+
+pub fill_watts-requires : goal.fill_watts-requires
+fill_watts-requires c = let s = c.before.before.before.before.before.before.before.before.before.before in
+    let a = s.args in
+    let f = c.fill_grains in
+    let m = month_quarters (book_of a.book.now).calendar in
+    let n = month c in
+    (omega (arith, n, s.requires.1, ap length f.ensures, by_length (grains_at (book_of a.book.now) a.role.kind a.role.receiver a.s) m a.watts-1.now s.requires.1), λ k h. carry-fits (parts s) a.role.kind a.role.receiver a.s m a.watts-1.now _ f.ensures k (omega (arith, n)))
+
+pub returns : goal.returns
+returns c = let w = c.before.before.before in
+    let s = w.before.before.before.before.before.before.before.before.before.before in
+    let a = s.args in
+    let f = w.fill_grains in
+    let cells = f.new.1.1.1.1.0 in
+    c.fill_watts.ensures
+    ∙ ap (λ (n : ℕ). by_position (floor_at per_watt (cell_at cells)) n cells) (month w)
+    ∙ watts-are (parts s) a.role.kind a.role.receiver a.s (month_quarters (book_of a.book.now).calendar) a.watts-1.now cells f.ensures

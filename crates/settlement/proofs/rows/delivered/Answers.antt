@@ -1,0 +1,18 @@
+-- The reading in grains has the baseline's bias, so that what one is above the other has none.
+use native.Mathlib.Omega.{arith}
+use Rattle.volumes.specs.Settlement.{signed}
+use Rattle.settlement.specs.RaisedLaws.{above-up, above_down}
+use Rattle.settlement.specs.RowsLaws.{limited-is}
+use Rattle.settlement.proofs.rows.delivered.Goals as goal
+
+pub returns-in-Up : goal.returns-in-Up
+unfolding signed
+returns-in-Up c =
+    let a = c.args in
+    rw (c.enum_told-1.given.1, limited-is, above-up a.level a.raised) (omega arith, omega arith)
+
+pub returns-in-Down : goal.returns-in-Down
+unfolding signed
+returns-in-Down c =
+    let a = c.args in
+    rw (c.enum_told-in-Down-1.given.1, limited-is, above_down a.level a.raised) (omega arith, omega arith)

@@ -1,0 +1,13 @@
+-- The fifth section's rows are the book's.
+use mathlib.Core.Path.{ap, ◌∙◌}
+use Rattle.settlement.specs.SectionsInner.{row_count_in}
+use Rattle.settlement.specs.SectionsLaws.{rows_few, count-book}
+use Rattle.settlement.proofs.settle.row_count.Goals as goal
+
+pub count_rows-requires : goal.count_rows-requires
+count_rows-requires c = let s = c.before.before in rw c.section.ensures (rows_few s.args.book.now s.requires)
+
+pub returns : goal.returns
+returns c =
+    let s = c.before.before.before in
+    (c.count_rows.ensures.0 ∙ ap row_count_in c.section.ensures ∙ count-book s.args.book.now s.requires, c.count_rows.ensures.1)

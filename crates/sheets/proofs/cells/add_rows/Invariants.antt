@@ -1,0 +1,12 @@
+-- What the party gets of the rows passed is added; the cell of the next is as it was, so that adding to it fits.
+use mathlib.Core.Path.{◌≡◌}
+use Prim.Native.Nat.{◌-◌, ◌≤◌}
+use Rattle.sheets.specs.AddsInner.{adds}
+use Rattle.sheets.specs.SharesInner.{gets_of}
+use Rattle.sheets.proofs.cells.add_rows.Given as goal
+
+abbrev pub invariant-loop-k : goal.invariant-loop-k
+invariant-loop-k l = (l.k ≤ l.count) × (l.sums ≡ adds l.initial.sums l.at (gets_of l.version l.party l.point l.rows l.k))
+
+abbrev pub decreases-loop-k : goal.decreases-loop-k
+decreases-loop-k l = l.count - l.k

@@ -1,0 +1,34 @@
+-- Zeros stand in the cells passed, the rest is as it was.
+use borrow.Author.Rules.{rules}
+use native.Mathlib.Omega.{arith}
+use mathlib.Core.Path.{◌≡◌, refl, ap, ◌∙◌}
+use mathlib.Core.List.{List}
+use Prim.Native.Nat.{◌-◌}
+use lib.IntN.{ℤ, pos}
+use lib.ListN.{length, set, length-append, length-replicate, length-drop}
+use Rattle.integers.specs.ListsLaws.{same_next}
+use Rattle.sheets.proofs.cells.clear.Goals as goal
+
+pub loop-i-init : goal.loop-i-init
+loop-i-init c = (search rules, refl)
+
+-- the cells stay as many
+long : (c : goal.At-loop-i) → length c.loop-i.sums ≡ length c.args.sums.now
+long c =
+    ap length c.loop-i.invariant.1
+    ∙ simp (length-append, length-replicate, length-drop) (omega (arith, c.requires))
+
+pub slice_set_of-sums : goal.slice_set_of-sums
+slice_set_of-sums c = omega (arith, long c.before)
+
+pub loop-i-preserved : goal.loop-i-preserved
+loop-i-preserved c =
+    let l = c.loop-i in
+    let s = c.before.before in
+    (search rules, ap (λ (m : List ℤ). set m l.i (pos 0)) l.invariant.1 ∙ same_next s.args.sums.now l.i (pos 0) (omega (arith, s.requires)))
+
+pub shape_of-sums : goal.shape_of-sums
+shape_of-sums c = long c.before
+
+pub returns : goal.returns
+returns c = let all : c.loop-i.i ≡ c.args.n = omega arith in rw (← all) c.loop-i.invariant.1

@@ -1,0 +1,86 @@
+-- What the columns give, added: each is no larger than its correction, so that three add up without wrapping.
+use native.Mathlib.Omega.{arith}
+use borrow.Author.Rules.{rules}
+use borrow.Author.Tests.{not-true, not-false}
+use mathlib.Core.Path.{◌≡◌, sym, ap, ap₂, ◌∙◌}
+use lib.IntN.{ℤ, ◌+ℤ◌}
+use Prim.Native.Nat.{◌+◌}
+use mir.Syntax.{w64}
+use mir.Val.{to_z, of_z, SFits}
+use Rattle.volumes.specs.SoundInner.{Bounded}
+use Rattle.volumes.specs.WidthsLaws.{bounded-add, bounded-fits}
+use Rattle.sheets.specs.SharesInner.{correction_most}
+use Rattle.sheets.specs.SharesLaws.{pick, pick-bounded, gets-two, gets-three}
+use Rattle.sheets.proofs.cells.share.Goals as goal
+
+-- what the columns of every version give, and that it adds up
+source_is : (c : goal.After-amount) → let a = c.args in c.amount.result ≡ pick a.point.sourceparty a.party a.source
+source_is c =
+    let a = c.args in
+    let x : to_z w64 (of_z w64 a.source) ≡ a.source = search rules in
+    c.amount.ensures ∙ ap (pick a.point.sourceparty a.party) x
+
+fsp-is : (c : goal.After-amount-2) → let a = c.args in c.amount-2.result ≡ pick a.point.fspparty a.party a.fsp
+fsp-is c =
+    let a = c.args in
+    let x : to_z w64 (of_z w64 a.fsp) ≡ a.fsp = search rules in
+    c.amount-2.ensures ∙ ap (pick a.point.fspparty a.party) x
+
+two-small : (c : goal.After-amount-2) → Bounded (correction_most + correction_most) (c.amount.result +ℤ c.amount-2.result)
+two-small c =
+    let s = c.before.before in
+    let a = s.args in
+    rw (source_is c.before, fsp-is c)
+    (bounded-add (pick-bounded a.point.sourceparty a.party s.requires.0) (pick-bounded a.point.fspparty a.party s.requires.1))
+
+pub overflow_add-two : goal.overflow_add-two
+overflow_add-two c =
+    let f : SFits w64 (c.amount.result +ℤ c.amount-2.result) = bounded-fits (two-small c) (omega arith) in
+    let x : to_z w64 (of_z w64 c.amount.result) ≡ c.amount.result = search rules in
+    let y : to_z w64 (of_z w64 c.amount-2.result) ≡ c.amount-2.result = search rules in
+    rw (x, y) f
+
+-- the sum as the next lines find it
+two_is : (c : goal.After-amount-2) → let a = c.args in
+    to_z w64 (of_z w64 (to_z w64 (of_z w64 c.amount.result) +ℤ to_z w64 (of_z w64 c.amount-2.result))) ≡ pick a.point.sourceparty a.party a.source +ℤ pick a.point.fspparty a.party a.fsp
+two_is c =
+    let f : SFits w64 (c.amount.result +ℤ c.amount-2.result) = bounded-fits (two-small c) (omega arith) in
+    let x : to_z w64 (of_z w64 c.amount.result) ≡ c.amount.result = search rules in
+    let y : to_z w64 (of_z w64 c.amount-2.result) ≡ c.amount-2.result = search rules in
+    let z : to_z w64 (of_z w64 (c.amount.result +ℤ c.amount-2.result)) ≡ c.amount.result +ℤ c.amount-2.result = search rules in
+    rw (x, y, z) (ap₂ ◌+ℤ◌ (source_is c.before) (fsp-is c))
+
+pub returns-then-not-splits : goal.returns-then-not-splits
+returns-then-not-splits c =
+    let a = c.args in
+    two_is c.before.before ∙ sym (gets-two a.version a.party a.point a.source a.fsp a.injection (sym c.splits.ensures ∙ not-true _ c.if-not-splits.true))
+
+-- what the injection column gives, and that all three add up
+injection-is : (c : goal.After-amount-3) → let a = c.args in c.amount-3.result ≡ pick a.point.injectionparty a.party a.injection
+injection-is c =
+    let a = c.args in
+    let x : to_z w64 (of_z w64 a.injection) ≡ a.injection = search rules in
+    c.amount-3.ensures ∙ ap (pick a.point.injectionparty a.party) x
+
+three-fit : (c : goal.After-amount-3) → let a = c.args in
+    SFits w64 (pick a.point.sourceparty a.party a.source +ℤ pick a.point.fspparty a.party a.fsp +ℤ c.amount-3.result)
+three-fit c =
+    let s = c.before.before.before.before.before in
+    let a = s.args in
+    rw (injection-is c)
+    (bounded-fits (bounded-add (bounded-add (pick-bounded a.point.sourceparty a.party s.requires.0) (pick-bounded a.point.fspparty a.party s.requires.1)) (pick-bounded a.point.injectionparty a.party s.requires.2)) (omega arith))
+
+pub overflow_add-result : goal.overflow_add-result
+overflow_add-result c =
+    let z : to_z w64 (of_z w64 c.amount-3.result) ≡ c.amount-3.result = search rules in
+    rw (two_is c.before.before.before, z) (three-fit c)
+
+pub returns : goal.returns
+returns c =
+    let a = c.args in
+    let f : SFits w64 (pick a.point.sourceparty a.party a.source +ℤ pick a.point.fspparty a.party a.fsp +ℤ c.amount-3.result) = three-fit c in
+    let x : to_z w64 (of_z w64 (pick a.point.sourceparty a.party a.source +ℤ pick a.point.fspparty a.party a.fsp +ℤ c.amount-3.result)) ≡ pick a.point.sourceparty a.party a.source +ℤ pick a.point.fspparty a.party a.fsp +ℤ c.amount-3.result = search rules in
+    let z : to_z w64 (of_z w64 c.amount-3.result) ≡ c.amount-3.result = search rules in
+    rw (two_is c.before.before.before, z, x)
+    (ap (λ (y : ℤ). pick a.point.sourceparty a.party a.source +ℤ pick a.point.fspparty a.party a.fsp +ℤ y) (injection-is c)
+    ∙ sym (gets-three a.version a.party a.point a.source a.fsp a.injection (sym c.splits.ensures ∙ not-false _ c.if-not-splits.false)))

@@ -1,0 +1,42 @@
+-- The party stands in none of the rows passed.
+use borrow.Author.Rules.{rules}
+use mathlib.Core.Path.{◌≡◌, sym, ap, ◌∙◌}
+use mathlib.Core.Bool.{false}
+use Prim.Native.Nat.{◌-◌}
+use native.Mathlib.Omega.{arith}
+use Rattle.book.specs.declared.Point.{Point}
+use Rattle.book.specs.Register.{point_at}
+use Rattle.volumes.specs.Sheets.{parties_of}
+use Rattle.settlement.specs.SectionsInner.{point_count_in}
+use Rattle.integers.specs.Counts.{stands}
+use Rattle.sheets.specs.PartiesLaws.{no-party, party-next, party-here}
+use Rattle.sheets.proofs.parties.is_party.Goals as goal
+
+pub loop-i-init : goal.loop-i-init
+loop-i-init c = (search rules, no-party c.args.version c.args.register.now c.args.party)
+
+-- what is said of row i
+row : (c : goal.After-in_columns) → let l = c.before.before.before in
+    let a = l.args in
+    c.in_columns.result ≡ stands a.party (parties_of a.version (point_at a.register.now l.loop-i.i))
+row c =
+    c.in_columns.ensures
+    ∙ ap (λ (p : Point). stands c.args.party (parties_of c.args.version p)) c.point_at-point.ensures
+
+pub returns-then-in_columns : goal.returns-then-in_columns
+returns-then-in_columns c =
+    let l = c.before.before.before.before in
+    let a = l.args in
+    sym (party-here a.version a.register.now a.party l.loop-i.i (omega arith) (sym (row c.before) ∙ c.if-in_columns.true))
+
+pub loop-i-preserved : goal.loop-i-preserved
+loop-i-preserved c =
+    let l = c.before.before.before.before in
+    let a = l.args in
+    (search rules, party-next a.version a.register.now a.party l.loop-i.i l.loop-i.invariant.1 (sym (row c.before) ∙ c.if-in_columns.false))
+
+pub returns : goal.returns
+returns c =
+    let l = c.before in
+    let all : l.loop-i.i ≡ point_count_in l.args.register.now = omega arith in
+    rw (← all) (sym l.loop-i.invariant.1)

@@ -1,0 +1,6 @@
+-- P1 to P10 hold by computation.
+use Rattle.volumes.specs.ExamplesLaws.{checked}
+use Rattle.volumes.proofs.examples_hold.Goals as goal
+
+pub returns : goal.returns
+returns c = checked

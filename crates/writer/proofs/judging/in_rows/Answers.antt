@@ -1,0 +1,75 @@
+-- The loop stands at a row that is good: what is left to judge is what is left of the whole.
+use mathlib.Core.Path.{sym, ap, ◌∙◌}
+use mathlib.Core.Bool.{Bool, true, ◌&&◌}
+use Prim.Native.Nat.{ℕ, ◌+◌, ◌-◌, ◌/◌}
+use lib.ListN.{length}
+use native.Mathlib.Nat.{sub-zero}
+use native.Mathlib.Omega.{arith}
+use borrow.Author.Tests.{not-true, not-false}
+use Rattle.writer.specs.StepsLaws.{six-directions, behind-none, behind-not-six, behind-not-before, behind-next}
+use native.Mathlib.Nat.{sub-zero}
+use native.Mathlib.Omega.{arith}
+use Rattle.writer.specs.RowsInner.{six_at, behind}
+use Rattle.writer.proofs.judging.in_rows.Goals as goal
+
+pub six_at-requires : goal.six_at-requires
+six_at-requires c = omega arith
+
+pub returns-then-not-six_at : goal.returns-then-not-six_at
+returns-then-not-six_at c =
+    let a = c.args in
+    sym (ap (λ (b : Bool). b && behind a.kind a.last a.rows.now 0 (length a.rows.now / 6 - 1)) (sym c.six_at.ensures ∙ not-true _ c.if-not-six_at.true))
+
+pub loop-at-init : goal.loop-at-init
+loop-at-init c =
+    let a = c.args in
+    let six = sym c.six_at.ensures ∙ not-false _ c.if-not-six_at.false in (
+      omega arith,
+      omega arith,
+      six,
+      ap (λ (b : Bool). b && behind a.kind a.last a.rows.now 0 (length a.rows.now / 6 - 1)) six
+          ∙ ap (λ (n : ℕ). behind a.kind a.last a.rows.now 0 (n / 6 - 1)) (sym (sub-zero (length a.rows.now))),
+    )
+
+pub six_at-requires-in-loop-at : goal.six_at-requires-in-loop-at
+six_at-requires-in-loop-at c = omega arith
+
+pub returns-then-not-six_at-2 : goal.returns-then-not-six_at-2
+returns-then-not-six_at-2 c =
+    let a = c.args in
+    let l = c.loop-at in
+    sym (l.invariant.3 ∙ behind-not-six a.kind a.last a.rows.now l.at ((length a.rows.now - l.at) / 6 - 1) (omega arith) (sym c.six_at-in-loop-at.ensures ∙ not-true _ c.if-not-six_at-2.true))
+
+pub row_before-requires : goal.row_before-requires
+row_before-requires c =
+    let a = c.args in
+    let l = c.loop-at in (
+      omega arith,
+      six-directions a.kind a.last a.rows.now l.at l.invariant.2,
+      six-directions a.kind a.last a.rows.now (l.at + 6) (sym c.six_at-in-loop-at.ensures ∙ not-false _ c.if-not-six_at-2.false),
+    )
+
+pub returns-then-not-row_before : goal.returns-then-not-row_before
+returns-then-not-row_before c =
+    let a = c.args in
+    let l = c.loop-at in
+    sym (l.invariant.3 ∙ behind-not-before a.kind a.last a.rows.now l.at ((length a.rows.now - l.at) / 6 - 1) (omega arith)
+    (sym c.six_at-in-loop-at.ensures ∙ not-false _ c.if-not-six_at-2.false) (sym c.row_before.ensures ∙ not-true _ c.if-not-row_before.true))
+
+pub loop-at-preserved : goal.loop-at-preserved
+loop-at-preserved c =
+    let a = c.args in
+    let l = c.loop-at in
+    let six = sym c.six_at-in-loop-at.ensures ∙ not-false _ c.if-not-six_at-2.false in (
+      omega arith,
+      omega arith,
+      six,
+      l.invariant.3 ∙ behind-next a.kind a.last a.rows.now l.at ((length a.rows.now - l.at) / 6 - 1) ((length a.rows.now - (l.at + 6)) / 6 - 1) (omega arith)
+          six (sym c.row_before.ensures ∙ not-false _ c.if-not-row_before.false),
+    )
+
+pub returns : goal.returns
+returns c =
+    let a = c.args in
+    let l = c.loop-at in
+    sym (l.invariant.3 ∙ behind-none a.kind a.last a.rows.now l.at ((length a.rows.now - l.at) / 6 - 1) (omega arith))

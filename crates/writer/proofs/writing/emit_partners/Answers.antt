@@ -1,0 +1,38 @@
+-- Run by run: what is laid so far and the partners of the rows left are the whole.
+use mathlib.Core.Path.{refl}
+use mathlib.Core.List.{flat_map}
+use Prim.Native.Nat.{◌+◌, ◌-◌, ◌*◌}
+use native.Mathlib.Omega.{arith}
+use Rattle.message.specs.Bytes.{partner_bytes}
+use Rattle.writer.specs.ContentsInner.{partners_in}
+use Rattle.writer.specs.ContentsLaws.{partners-none, partners-step, writable-part}
+use Rattle.emitter.specs.LaidLaws.{laying-none, laying-then, laying-all}
+use Rattle.writer.proofs.writing.emit_partners.Goals as goal
+
+pub loop-left-init : goal.loop-left-init
+loop-left-init c = let s = c.before.before in (s.requires.0, laying-none _ _ _ _ s.requires.1)
+
+pub partner_run-run-requires : goal.partner_run-run-requires
+partner_run-run-requires c = record { some = omega arith; within = c.loop-left.invariant.0.within }
+
+pub emit_partner-a-requires : goal.emit_partner-a-requires
+emit_partner-a-requires c =
+    let r = c.partner_run-run in
+    let l = c.loop-left in
+    (r.ensures.some, writable-part l.invariant.0 l.next 0 r.result (omega arith) (omega (arith, r.ensures.within)))
+
+pub loop-left-preserved : goal.loop-left-preserved
+loop-left-preserved c =
+    let l = c.loop-left in
+    let r = c.partner_run-run in
+    let a = c.args in (
+      writable-part l.invariant.0 (l.next + 6 * r.result) r.result (l.left - r.result) refl (omega (arith, r.ensures.within)),
+      laying-then (flat_map (partner_bytes a.title.kind) (partners_in (a.title.year, a.title.month) a.rows.now (l.next + 6 * r.result) (l.left - r.result))) l.invariant.1 c.emit_partner-a.ensures
+          (partners-step a.title.kind (a.title.year, a.title.month) a.rows.now l.next l.left r.result r.ensures),
+    )
+
+pub returns : goal.returns
+returns c =
+    let l = c.loop-left in
+    let a = c.args in
+    laying-all l.invariant.1 (partners-none a.title.kind (a.title.year, a.title.month) a.rows.now l.next l.left (omega arith))

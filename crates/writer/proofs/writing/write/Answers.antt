@@ -1,0 +1,16 @@
+-- A number that is no kind's is refused; else the file is written of its kind.
+use mathlib.Core.Path.{sym, ap, ◌∙◌}
+use Rattle.kinds.specs.NumbersLaws.{number-kind}
+use Rattle.writer.specs.WriteCallsLaws.{wrote-no-kind}
+use Rattle.kinds.specs.NumbersInner.{kind_in}
+use Rattle.writer.proofs.writing.write.Goals as goal
+
+pub returns-in_default : goal.returns-in_default
+returns-in_default c = wrote-no-kind _ _ _ _ _ _ _ _ (sym c.kind_numbered-numbered.ensures ∙ ap kind_in c.enum_told-1.given.1)
+
+pub returns : goal.returns
+returns c =
+    let k = c.before.before.before.before.before in
+    let n = k.kind_numbered-numbered in
+    let a = k.args in
+    rw (number-kind a.kind k.numbered-1.given.0.0 (sym n.ensures ∙ ap kind_in k.numbered-1.given.1)) at c.write_kind.ensures
