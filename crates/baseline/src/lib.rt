@@ -1,4 +1,6 @@
 // Baselines: reference days, their ranking, and what each method makes of them.
+#![tactic(auto)]
+
 mod days;
 pub mod fill;
 pub mod judge;

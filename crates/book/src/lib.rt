@@ -1,4 +1,6 @@
 // The month's book: its layout, and its sections as parts of the book.
+#![tactic(auto)]
+
 pub mod engagements;
 pub mod header;
 pub mod register;

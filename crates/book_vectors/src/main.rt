@@ -1,4 +1,6 @@
 // Judges the book of each line of standard input, and prints `passed` or the refusal.
+#![tactic(auto)]
+
 use cases::Loaded;
 use judging::Judged;
 

@@ -1,4 +1,6 @@
 // Dates of the Gregorian calendar.
+#![tactic(auto)]
+
 pub mod dates;
 
 // On which day of a calendar the clocks go forward, or back, if they do: that day is shorter, or longer.

@@ -2,6 +2,8 @@
 // 2099 its length, the weekday of its first, its last Sunday, the offset of its first, the next month, the offset of that
 // month's first, and the day on which the clocks change, or 0. Then for each line of standard input how it is judged, as
 // a moment (with its instant) and as a transaction ID.
+#![tactic(auto)]
+
 ghost use Rattle.std.specs.Prelude.{◌≤◌};
 ghost use Rattle.calendar.specs.DatesInner.{IsMonth};
 

@@ -1,4 +1,6 @@
 // Stored cases: the words of a line, the sparse bytes that they say, and the answers that are printed.
+#![tactic(auto)]
+
 pub mod answers;
 pub mod lent;
 pub mod sparse;

@@ -1,4 +1,6 @@
 // A file's bytes, laid part by part: measured, or written too.
+#![tactic(auto)]
+
 use kinds::Kind;
 
 pub mod laying;

@@ -1,5 +1,7 @@
 // Asks for a receiver's file of the book of each line of standard input, with as many numbers and bytes lent as the line says.
 // Prints the settlement rows and the file, or the refusal, and `changed` if what is no part of the answer is not as it was.
+#![tactic(auto)]
+
 ghost use Rattle.std.specs.Prelude.{◌*◌, ◌≤◌, length};
 ghost use Rattle.volumes.specs.Settlement.{row_width};
 ghost use Rattle.file_vectors.specs.FitsInner.{FieldWithin, FileFits};

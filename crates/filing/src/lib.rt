@@ -1,4 +1,6 @@
 // A book's sheets and files: the sheet call and the file call.
+#![tactic(auto)]
+
 pub mod file;
 mod laying;
 pub mod sheet;

@@ -1,5 +1,7 @@
 // Reading the parts of a text of fixed form. A reader takes a mark and gives one: the place behind what it read, or none.
 // So what is made of such readers is a straight line, and a place that is missing stays missing to its end.
+#![tactic(auto)]
+
 ghost use Rattle.std.specs.Prelude.{◌≡◌, [], ◌∷◌, ◌+◌, ◌≤◌, length, drop};
 ghost use Rattle.formats.specs.Combine.{strip};
 ghost use Rattle.formats.specs.Words.{words_parse};

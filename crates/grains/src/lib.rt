@@ -1,5 +1,7 @@
 // Grains, the unit of all results: "One watt is 30,240 grains; all results are whole grains."
 // Watts become grains, and grains watts, here and nowhere else.
+#![tactic(auto)]
+
 ghost use Rattle.std.specs.Prelude.{◌≡◌, ◌*◌, ◌≤◌};
 ghost use Rattle.grains.specs.Grains.{grains, whole_watts, share};
 ghost use Rattle.grains.specs.GrainsInner.{Shares};

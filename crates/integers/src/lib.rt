@@ -1,1 +1,2 @@
 // Laws of numbers and sums, in specs/. No code.
+#![tactic(auto)]

@@ -1,4 +1,6 @@
 // The kinds of file, TOE01, TOE02 and TOE03, and their numbers.
+#![tactic(auto)]
+
 ghost use Rattle.std.specs.Prelude.{◌≡◌};
 ghost use Rattle.kinds.specs.Numbers.{kind_numbered, kind_number};
 ghost use Rattle.kinds.specs.NumbersInner.{kind_in};

@@ -1,4 +1,6 @@
 // The file of document 01: the answers of its two calls, and what its reader and its writer share. Its form and its laws stand in specs/.
+#![tactic(auto)]
+
 ghost use Rattle.std.specs.Prelude.{◌≡◌, take};
 ghost use Rattle.formats.specs.Exactly.{exactly_parse};
 ghost use Rattle.formats.specs.PlaceInner.{Within, Parsed, left};

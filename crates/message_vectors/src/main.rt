@@ -1,6 +1,8 @@
 // Runs the stored cases of the reader and of the writer of a file, a line each, and prints their answers. A line that starts
 // with `<` is the base file of the reader's cases after it. What a call may not change is marked before it, and `changed` is
 // printed if it did; a file that was written must be read back, and one that was read must be written back.
+#![tactic(auto)]
+
 mod changes;
 mod marks;
 mod reading;

@@ -1,4 +1,6 @@
 // Moments in the form 2021-08-02T09:00:00.000+02:00: judged, written, as an instant; the period of a month.
+#![tactic(auto)]
+
 pub mod ids;
 
 ghost use Rattle.std.specs.Prelude.{◌≡◌, true, ◌+◌, ◌≤◌, length};

@@ -1,4 +1,6 @@
 // What the program prints for its input.
+#![tactic(auto)]
+
 ghost use Rattle.std.specs.Prelude.{◌≡◌, ◌≤◌, length};
 ghost use Rattle.text.specs.WrittenInner.{Wrote};
 ghost use Rattle.requests.specs.declared.Request.TheVariants.{Line};

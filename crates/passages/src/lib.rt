@@ -1,5 +1,7 @@
 // Passages: parts of a file that are passed in one go. The cursor that was lent is lent on, to one call after another, and what they find is told. What a
 // file's kind decides is read by value (`.._by`), so that covered code can choose.
+#![tactic(auto)]
+
 ghost use Rattle.std.specs.Prelude.{◌≡◌};
 ghost use Rattle.passages.specs.PassagesInner.{observation_found, observation_to, month_found, month_to, volume_found, volume_to, message_found, message_to, behind_month_by, own_start, shared_start, company_found, access_found, receiver_found};
 

@@ -1,4 +1,6 @@
 // The program, but for its name: a line and a book from standard input, and on standard output the file that the line asks for, or why there is none.
+#![tactic(auto)]
+
 ghost use Rattle.std.specs.Prelude.{◌≡◌, ◌+◌, ◌≤◌, length};
 ghost use Rattle.io.specs.Counts.{IsPrefixLen};
 ghost use Rattle.outputs.specs.Output.{input_read};

@@ -1,4 +1,6 @@
 // Quarter-hours: how many a day, a month and a calendar have, and where one of them lies. Nothing else knows on which day there are how many.
+#![tactic(auto)]
+
 ghost use Rattle.std.specs.Prelude.{◌≡◌, ◌≤◌, ◌<◌};
 ghost use Rattle.quarters.specs.Quarters.{days_of, quarters, is_clock_change, day_start, quarters_of, in_calendar, month_quarters, quarters_in_month, origin_of};
 ghost use Rattle.quarters.specs.QuartersInner.{Ranged, cell_of};

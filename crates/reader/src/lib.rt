@@ -1,4 +1,6 @@
 // The reader of a file.
+#![tactic(auto)]
+
 mod file;
 mod partners;
 

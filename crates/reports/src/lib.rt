@@ -1,4 +1,6 @@
 // The sheets and files of a book: the calls' answers, and demand 3 of the calls' contracts. Definitions and laws stand in specs/; crate `filing` has the calls.
+#![tactic(auto)]
+
 ghost use Rattle.reports.specs.Demand3.{Demand3, Possible};
 ghost use Rattle.reports.specs.Small.{SmallShown};
 ghost use Rattle.reports.specs.Pool.{PoolShown};

@@ -1,4 +1,6 @@
 // The line that asks for a file: where its parts stand, and where the book starts.
+#![tactic(auto)]
+
 ghost use Rattle.std.specs.Prelude.{◌≡◌};
 ghost use Rattle.formats.specs.Combine.{only_parse};
 ghost use Rattle.formats.specs.Exactly.{fixed_digits};

@@ -1,4 +1,6 @@
 // A series' watts by position, from the delivered volumes of a book.
+#![tactic(auto)]
+
 use kinds::Kind;
 
 pub mod delivered;

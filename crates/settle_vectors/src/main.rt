@@ -1,5 +1,7 @@
 // Settles the book of each line of standard input, with as many numbers lent as the line says. Prints the rows or
 // the refusal, and `changed` if a number that is no part of the answer is not as it was.
+#![tactic(auto)]
+
 ghost use Rattle.std.specs.Prelude.{◌*◌, ◌≤◌, length};
 ghost use Rattle.volumes.specs.Settlement.{row_width};
 ghost use Rattle.settle_vectors.specs.FitsInner.{RowsFit};

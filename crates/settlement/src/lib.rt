@@ -1,4 +1,6 @@
 // Settling: judging a book to the end, and the rows of its engagements.
+#![tactic(auto)]
+
 pub mod days;
 pub mod fill;
 pub mod judge;

@@ -1,5 +1,7 @@
 // Asks for a party's sheet of the book of each line of standard input, with as many numbers lent as the line says. Prints
 // the sums that aren't 0 or the refusal, and `changed` if a number that is no part of the answer is not as it was.
+#![tactic(auto)]
+
 ghost use Rattle.std.specs.Prelude.{◌≤◌, length};
 ghost use Rattle.sheet_vectors.specs.FitsInner.{SumsFit};
 

@@ -1,4 +1,6 @@
 // Bytes of text, in and out: tags, decimals of a fixed number of digits and without leading zeros.
+#![tactic(auto)]
+
 ghost use Rattle.std.specs.Prelude.{◌≡◌, ◌+◌, ◌≤◌, length, drop};
 ghost use Rattle.text.specs.Tag.{begins};
 ghost use Rattle.text.specs.Decimal.{digit, fixed, plain, fixed_at};

@@ -1,4 +1,6 @@
 // Reads a line and a book from standard input, and prints the file that the line asks for, or why there is none.
+#![tactic(auto)]
+
 fn main() {
     program::run();
 }

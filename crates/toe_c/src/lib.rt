@@ -1,4 +1,6 @@
 // The calls as functions that C and Rust can link: each answers one number.
+#![tactic(auto)]
+
 ghost use Rattle.std.specs.Prelude.{◌≡◌, ◌≤◌, length};
 ghost use Rattle.refusals.specs.Buffers.{over};
 ghost use Rattle.toe_c.specs.Codes.{settle_reply, sheet_reply, file_reply, read_reply, write_reply, refusal_code, code_of, SettleCoded, SheetCoded, FileCoded, WriteCoded, fact_numbers, with_facts, ReadCoded};

@@ -1,4 +1,6 @@
 // The program `toe` on an input that is longer than it reads: the good line and book of 65,536 bytes, and bytes behind them.
+#![tactic(auto)]
+
 fn main() {
     program::run();
 }

@@ -1,5 +1,7 @@
 // Gives the input of each line of standard input to the program's function, and prints what the program prints, with a line
 // feed behind a file.
+#![tactic(auto)]
+
 use cases::Loaded;
 
 // A file has no line feed at its end, a refusal has one.

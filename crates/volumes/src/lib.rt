@@ -1,4 +1,6 @@
 // From the book to its volumes: definitions and their laws. The one function here does nothing; what it ensures has to be proved.
+#![tactic(auto)]
+
 ghost use Rattle.volumes.specs.Examples.{Checked};
 
 use book::{Direction, Supply};

@@ -1,4 +1,6 @@
 // Numbers out of bytes: unsigned ones of 1, 2, 4 and 8 bytes, the least byte first, and a reading of 4, raised.
+#![tactic(auto)]
+
 ghost use Rattle.std.specs.Prelude.{◌≡◌, ◌+◌, ◌*◌, ◌≤◌, length};
 ghost use Rattle.wire.specs.Numbers.{number_at};
 ghost use Rattle.wire.specs.ReadingsInner.{Raised};

@@ -1,4 +1,6 @@
 // The writer of a file.
+#![tactic(auto)]
+
 mod judging;
 pub mod round_trip;
 mod runs;
