@@ -17,26 +17,27 @@ use Rattle.formats.specs.Numbers.{number_parse, more_parse}
 use Rattle.formats.specs.PlaceInner.{Parsed}
 use Rattle.formats.specs.PlaceLaws.{parsed, not_there, number_short, number_step, more-short, more-step}
 use Rattle.formats.proofs.number_at.Invariants.{stop, max}
+use Rattle.formats.proofs.number_at.Goals.{At-loop-p}
 use Rattle.formats.proofs.number_at.Goals as goal
 
-abbrev S : goal.At-loop-p → List ℕ
+abbrev S : At-loop-p → List ℕ
 S l = l.args.s.now
 
-abbrev A : goal.At-loop-p → ℕ
+abbrev A : At-loop-p → ℕ
 A l = l.args.at
 
-abbrev x : goal.At-loop-p → ℕ
+abbrev x : At-loop-p → ℕ
 x l = get_or (S l) l.loop-p.p 0
 
 -- the loop's equation, one byte on
-step : (l : goal.At-loop-p) → l.loop-p.p < length (S l)
+step : (l : At-loop-p) → l.loop-p.p < length (S l)
     → number_parse (stop l) (max l) (drop (A l) (S l))
     ≡ cond (eqb (x l) (stop l)) (got l.loop-p.acc (drop (l.loop-p.p + 1) (S l)))
     (pick (digit (x l)) (pick (ltb 0 l.loop-p.acc) (pick (leb (l.loop-p.acc * 10 + (x l - 48)) (max l))
     (more_parse (stop l) (max l) (l.loop-p.acc * 10 + (x l - 48)) (drop (l.loop-p.p + 1) (S l))))))
 step l h = l.loop-p.invariant.2 ∙ more-step (stop l) (max l) (S l) l.loop-p.p l.loop-p.acc h
 
-none : (l : goal.At-loop-p) → number_parse (stop l) (max l) (drop (A l) (S l)) ≡ bad → Parsed (number_parse (stop l) (max l)) (S l) (At (A l)) No 0
+none : (l : At-loop-p) → number_parse (stop l) (max l) (drop (A l) (S l)) ≡ bad → Parsed (number_parse (stop l) (max l)) (S l) (At (A l)) No 0
 none l e = not_there (number_parse (stop l) (max l)) (S l) (A l) 0 e
 
 pub returns-then-s-at : goal.returns-then-s-at

@@ -5,6 +5,7 @@ use Rattle.calendar.specs.DatesLaws.{number-most}
 use Rattle.moments.specs.MomentsLaws.{real-is, real-month, real-day, instant-clock}
 use native.Mathlib.Omega.{arith}
 use Rattle.moments.specs.MomentsInner.{clock, instant}
+use Rattle.moments.proofs.instant.Goals.{After-struct_known-1}
 use Rattle.moments.proofs.instant.Goals as goal
 
 pub day_number-days-requires : goal.day_number-days-requires
@@ -24,7 +25,7 @@ overflow_mul-result c =
     omega (arith, (real-is m c.requires).summer)
 
 -- what the clock shows
-shown : (c : goal.After-struct_known-1) → c.millis-clock.result ≡ clock c.args.m
+shown : (c : After-struct_known-1) → c.millis-clock.result ≡ clock c.args.m
 unfolding clock
 shown c = rw (c.millis-clock.ensures, c.day_number-days.ensures)
 

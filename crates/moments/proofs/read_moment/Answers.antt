@@ -5,6 +5,7 @@ use borrow.Author.Tests.{not-true, not-false}
 use Rattle.moments.specs.Moments.{real, parts, moment_of, pick_read}
 use Rattle.moments.specs.MomentsLaws.{not-length, not-real, by_form, form-is}
 use Rattle.moments.specs.declared.MomentRead.TheVariants.{Real}
+use Rattle.moments.proofs.read_moment.Goals.{After-matches}
 use Rattle.moments.proofs.read_moment.Goals as goal
 
 pub returns-then-s-ne29 : goal.returns-then-s-ne29
@@ -19,7 +20,7 @@ returns-then-not-is_real c =
     (rw (← read.parts_of-m.ensures, ← tested.is_real.ensures) (not-true tested.is_real.result c.if-not-is_real.true)))
 
 -- where the moment is real, what is left to judge is the form
-judged : (c : goal.After-matches) → moment_of c.args.s.now ≡ pick_read c.matches.result (Real c.parts_of-m.result)
+judged : (c : After-matches) → moment_of c.args.s.now ≡ pick_read c.matches.result (Real c.parts_of-m.result)
 judged c =
     let written = c.before.before.before in
     let tested = written.before.before.before in

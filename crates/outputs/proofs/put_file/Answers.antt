@@ -1,10 +1,11 @@
 -- The parts of the input are lent to the file call; where it refuses, the line of its refusal is written over what it left unchanged.
 use Rattle.outputs.specs.OutputLaws.{Inside, inside, parts-on, file-accepted, file-refused}
 use native.Mathlib.Omega.{arith}
+use Rattle.outputs.proofs.put_file.Goals.{After-struct_known-1}
 use Rattle.outputs.proofs.put_file.Goals as goal
 
 -- the parts lie in the input
-lies : (c : goal.After-struct_known-1) → Inside c.args.input.now c.args.asked
+lies : (c : After-struct_known-1) → Inside c.args.input.now c.args.asked
 lies c = let s = c.before.before.before in inside s.args.input.now s.args.asked s.requires.0
 
 pub overflow_add-id_end : goal.overflow_add-id_end

@@ -13,6 +13,7 @@ use Rattle.text.specs.declared.Number.TheVariants.{Value, NotDigits}
 use Rattle.text.specs.Decimal.{digit, digits, value_from, fixed_at}
 use Rattle.text.specs.DecimalLaws.{digit-is, above_zero, above-push, below-within}
 use Rattle.text.proofs.fixed_at.Invariants.{number_from, part}
+use Rattle.text.proofs.fixed_at.Goals.{At-loop-i}
 use Rattle.text.proofs.fixed_at.Goals as goal
 
 module _ (s : List ℕ) (at n : ℕ) where
@@ -47,27 +48,27 @@ module _ (s : List ℕ) (at n : ℕ) where
       let l : length (part s at n) ≡ n = length-take-le n (drop at s) (omega (arith, length-drop at s)) in
       ap (number_from acc) (drop_of_length-le (part s at n) {i = i} (omega arith))
 
-abbrev S : goal.At-loop-i → List ℕ
+abbrev S : At-loop-i → List ℕ
 S l = l.args.s.now
 
-abbrev A : goal.At-loop-i → ℕ
+abbrev A : At-loop-i → ℕ
 A l = l.args.at
 
-abbrev N : goal.At-loop-i → ℕ
+abbrev N : At-loop-i → ℕ
 N l = l.args.n
 
-abbrev byte : goal.At-loop-i → ℕ
+abbrev byte : At-loop-i → ℕ
 byte l = get_or (S l) (A l + l.loop-i.i) 0
 
-abbrev room : goal.At-loop-i → Type 0
+abbrev room : At-loop-i → Type 0
 room l = A l + N l ≤ length (S l)
 
 -- the loop's equation, one digit on or ended at a byte that is none
-passed : (l : goal.At-loop-i) → l.loop-i.i < N l → room l → digit (byte l) ≡ true
+passed : (l : At-loop-i) → l.loop-i.i < N l → room l → digit (byte l) ≡ true
     → fixed_at (S l) (A l) (N l) ≡ number_from (l.loop-i.acc * 10 + (byte l - 48)) (drop (l.loop-i.i + 1) (part (S l) (A l) (N l)))
 passed l h k e = l.loop-i.invariant.2 ∙ step (S l) (A l) (N l) l.loop-i.i l.loop-i.acc h k e
 
-ended : (l : goal.At-loop-i) → l.loop-i.i < N l → room l → digit (byte l) ≡ false → fixed_at (S l) (A l) (N l) ≡ NotDigits
+ended : (l : At-loop-i) → l.loop-i.i < N l → room l → digit (byte l) ≡ false → fixed_at (S l) (A l) (N l) ≡ NotDigits
 ended l h k e = l.loop-i.invariant.2 ∙ stop (S l) (A l) (N l) l.loop-i.i l.loop-i.acc h k e
 
 pub returns-then-s-n : goal.returns-then-s-n

@@ -18,6 +18,7 @@ use Rattle.baseline.specs.ShownInner.{window_in}
 use Rattle.baseline.specs.ShownLaws.{DayStands, stands, stands_on}
 use Rattle.baseline.specs.RefersLaws.{alike, refers-not, refers}
 use native.Mathlib.Omega.{arith}
+use Rattle.baseline.proofs.days.reference_day.Goals.{After-is_clock_change, Else-not-alike, Start}
 use Rattle.baseline.proofs.days.reference_day.Goals as goal
 
 pub excludes-requires : goal.excludes-requires
@@ -26,7 +27,7 @@ excludes-requires c =
     omega (arith, (stands s.args.shown s.args.calendar.now s.args.readings.now s.requires.0).early, s.requires.2)
 
 -- the test is that of the definitions
-tested : (c : goal.After-is_clock_change) → (eqb (get_or c.args.calendar.now c.args.day 0) (get_or c.args.calendar.now c.args.shown.e-1.day 0) && (not c.excludes.result && not c.is_clock_change.result)) ≡ alike c.args.calendar.now c.args.shown c.args.day
+tested : (c : After-is_clock_change) → (eqb (get_or c.args.calendar.now c.args.day 0) (get_or c.args.calendar.now c.args.shown.e-1.day 0) && (not c.excludes.result && not c.is_clock_change.result)) ≡ alike c.args.calendar.now c.args.shown c.args.day
 tested c = let s = c.args in
     λ i. eqb (get_or s.calendar.now s.day 0) (get_or s.calendar.now s.shown.e-1.day 0) && (not (c.excludes.ensures i) && not (c.is_clock_change.ensures i))
 
@@ -37,13 +38,13 @@ returns-then-not-alike c = (
 )
 
 -- where the day's readings stand
-lies : (s : goal.Start) → DayStands s.args.shown.c-1 s.args.shown.e-1 (length s.args.readings.now) × StandsOn s.args.shown.c-1 s.args.shown.e-1 s.args.day
+lies : (s : Start) → DayStands s.args.shown.c-1 s.args.shown.e-1 (length s.args.readings.now) × StandsOn s.args.shown.c-1 s.args.shown.e-1 s.args.day
 lies s = (stands s.args.shown s.args.calendar.now s.args.readings.now s.requires.0, stands_on s.args.shown s.args.calendar.now s.args.readings.now s.args.day s.requires.0 s.requires.2)
 
-passed : (c : goal.Else-not-alike) → alike c.args.calendar.now c.args.shown c.args.day ≡ true
+passed : (c : Else-not-alike) → alike c.args.calendar.now c.args.shown c.args.day ≡ true
 passed c = sym (tested c.before) ∙ not-false _ c.if-not-alike.false
 
-usual : (c : goal.Else-not-alike) → is_clock_change c.args.shown.c-1 c.args.day ≡ false
+usual : (c : Else-not-alike) → is_clock_change c.args.shown.c-1 c.args.day ≡ false
 usual c = let s = c.args in
     let free = (both (eqb (get_or s.calendar.now s.day 0) (get_or s.calendar.now s.shown.e-1.day 0)) (not (excludes s.shown.closed s.day) && not (is_clock_change s.shown.c-1 s.day)) (passed c)).1 in
     not-true _ (both (not (excludes s.shown.closed s.day)) (not (is_clock_change s.shown.c-1 s.day)) free).1

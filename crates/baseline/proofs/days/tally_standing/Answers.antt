@@ -11,6 +11,7 @@ use Rattle.baseline.specs.RunsLaws.{two_runs, standing-run, standing-runs}
 use Rattle.quarters.specs.Quarters.{quarters_of}
 use Rattle.volumes.specs.Quarters.{reference}
 use native.Mathlib.Omega.{arith}
+use Rattle.baseline.proofs.days.tally_standing.Goals.{After-reference_at-2}
 use Rattle.baseline.proofs.days.tally_standing.Goals as goal
 
 pub overflow_add-at : goal.overflow_add-at
@@ -37,7 +38,7 @@ reference_at-requires-2 c = let s = c.before.before.before.before.before.before 
     (s.requires.0.early, omega (arith, c.together-n.ensures, (two_runs s.args.c s.args.e).most, s.requires.1))
 
 -- where the second run lies
-late : (c : goal.After-reference_at-2) → c.reference_at-2.result + (c.args.e.count - c.together-n.result) ≤ quarters_of c.args.c
+late : (c : After-reference_at-2) → c.reference_at-2.result + (c.args.e.count - c.together-n.result) ≤ quarters_of c.args.c
 late c =
     let s = c.before.before.before.before.before.before.before in
     omega (arith, c.reference_at-2.ensures, subst (λ (m : ℕ). reference s.args.c s.args.e s.args.day m + (s.args.e.count - m) ≤ quarters_of s.args.c) (sym c.together-n.ensures) s.requires.0.second)

@@ -7,10 +7,11 @@ use native.Mathlib.Omega.{arith}
 use Rattle.integers.specs.TestsLaws.{both}
 use Rattle.baseline.specs.RunsInner.{turn, together}
 use Rattle.quarters.specs.Quarters.{quarters}
+use Rattle.baseline.proofs.days.together.Goals.{After-turn_of-turn}
 use Rattle.baseline.proofs.days.together.Goals as goal
 
 -- the turn is that of A's quarter-hours
-is : (c : goal.After-turn_of-turn) → c.turn_of-turn.result ≡ turn (quarters c.args.c c.args.e.day)
+is : (c : After-turn_of-turn) → c.turn_of-turn.result ≡ turn (quarters c.args.c c.args.e.day)
 is c = c.turn_of-turn.ensures ∙ ap turn c.quarters.ensures
 
 pub overflow_sub-result : goal.overflow_sub-result

@@ -18,23 +18,24 @@ use Rattle.baseline.specs.RunsLaws.{runs-by-starts}
 use Rattle.baseline.specs.TakenInner.{Took}
 use Rattle.baseline.specs.FilledInner.{Unrefused}
 use native.Mathlib.Omega.{arith}
+use Rattle.baseline.proofs.fill.fill_days.Goals.{After-rank_days, After-start_days}
 use Rattle.baseline.proofs.fill.fill_days.Goals as goal
 
 pub rank_days-requires : goal.rank_days-requires
 rank_days-requires c = (c.requires.0.fits, omega (arith, c.requires.0.fits.x_of_y.twenty))
 
 -- the keys tell the days that a book takes, and there are enough of them
-took-at : (c : goal.After-rank_days) (b : Book) → Unrefused c.args.shown c.args.calendar.now c.args.readings.now b → Took b c.args.shown.e-1 c.rank_days.new.1.1.1.0 c.args.shown.x
+took-at : (c : After-rank_days) (b : Book) → Unrefused c.args.shown c.args.calendar.now c.args.readings.now b → Took b c.args.shown.e-1 c.rank_days.new.1.1.1.0 c.args.shown.x
 took-at c b s = took-days s c.rank_days.new.1.1.1.0 c.rank_days.result c.requires.1 c.requires.0.fits.x_of_y.order (c.rank_days.ensures b s.shows)
 
-roomy : (c : goal.After-rank_days) → c.args.shown.x ≤ length c.rank_days.new.1.1.1.0
+roomy : (c : After-rank_days) → c.args.shown.x ≤ length c.rank_days.new.1.1.1.0
 roomy c = omega (arith, c.rank_days.auto.1.1.1.0, c.requires.0.fits.x_of_y.ten)
 
 pub start_days-requires : goal.start_days-requires
 start_days-requires c = (roomy c.before.before.before, c.requires.0.fits.x_of_y.ten)
 
 -- the starts are those of these days
-began : (c : goal.After-start_days) → Starts c.args.shown.c-1 c.rank_days.new.1.1.1.0 c.start_days.new.1.1.1.0 c.args.shown.x
+began : (c : After-start_days) → Starts c.args.shown.c-1 c.rank_days.new.1.1.1.0 c.start_days.new.1.1.1.0 c.args.shown.x
 began c = c.start_days.ensures
 
 pub in_calendar-q-requires : goal.in_calendar-q-requires

@@ -5,13 +5,14 @@ use Prim.Native.Nat.{ℕ, ◌-◌}
 use lib.ListN.{length, set, length-append, length-replicate, length-drop}
 use native.Mathlib.Omega.{arith}
 use Rattle.integers.specs.ListsLaws.{same_next}
+use Rattle.baseline.proofs.fill.fill_flat.Goals.{At-loop-k}
 use Rattle.baseline.proofs.fill.fill_flat.Goals as goal
 
 pub loop-k-init : goal.loop-k-init
 loop-k-init c = (omega arith, refl)
 
 -- the places stay as many
-long : (c : goal.At-loop-k) → length c.loop-k.levels ≡ length c.args.levels.now
+long : (c : At-loop-k) → length c.loop-k.levels ≡ length c.args.levels.now
 long c = ap length c.loop-k.invariant.1 ∙ simp (length-append, length-replicate, length-drop) (omega (arith, c.requires))
 
 pub bounds-levels-k : goal.bounds-levels-k

@@ -15,6 +15,7 @@ use Rattle.grains.specs.GrainsLaws.{shares-12x, mean-over, mean-small}
 use native.Mathlib.Omega.{arith}
 use Rattle.grains.specs.GrainsInner.{Shares}
 use Rattle.wire.specs.ReadingsInner.{raise}
+use Rattle.baseline.proofs.levels.addend_level.Goals.{After-mean-less}
 use Rattle.baseline.proofs.levels.addend_level.Goals as goal
 
 pub mean-less-requires : goal.mean-less-requires
@@ -25,7 +26,7 @@ twelve : Shares 12
 twelve = shares-12x 1 (omega arith) (omega arith)
 
 -- neither mean is more than the greatest raised reading
-less-small : (c : goal.After-mean-less) → c.tally_days-days.result.sum * share (12 * c.args.x) ≤ grains 4294967295
+less-small : (c : After-mean-less) → c.tally_days-days.result.sum * share (12 * c.args.x) ≤ grains 4294967295
 less-small c =
     let s = c.before.before.before.before.before.before in
     mean-small (12 * s.args.x) c.tally_days-days.result.sum 4294967295 (shares-12x s.args.x s.requires.1 s.requires.0.few) (omega (arith, c.tally_days-days.ensures.small, mul_comm s.args.x 12))

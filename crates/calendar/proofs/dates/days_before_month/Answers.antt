@@ -4,13 +4,14 @@ use mathlib.Core.Path.{◌≡◌, sym}
 use native.Mathlib.Omega.{arith}
 use borrow.Author.Rules.{rules}
 use Rattle.calendar.specs.DatesLaws.{Length, month-length, first-before, next-before}
+use Rattle.calendar.proofs.dates.days_before_month.Goals.{After-month_length-days}
 use Rattle.calendar.proofs.dates.days_before_month.Goals as goal
 
 pub loop-m-init : goal.loop-m-init
 loop-m-init c = (search rules, search rules, sym (first-before c.args.year), search rules)
 
 -- the month that is added has at most 31 days
-passed : (c : goal.After-month_length-days) → Length c.month_length-days.result
+passed : (c : After-month_length-days) → Length c.month_length-days.result
 passed c =
     let at = c.before.before in
     rw c.month_length-days.ensures (month-length at.args.year at.loop-m.m (search rules) (search rules))

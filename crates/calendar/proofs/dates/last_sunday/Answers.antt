@@ -4,6 +4,7 @@ use Prim.Native.Nat.{◌+◌}
 use Rattle.calendar.specs.Dates.{last_sunday}
 use Rattle.calendar.specs.DatesLaws.{month-length, last-sunday}
 use native.Mathlib.Omega.{arith}
+use Rattle.calendar.proofs.dates.last_sunday.Goals.{After-weekday}
 use Rattle.calendar.proofs.dates.last_sunday.Goals as goal
 
 pub weekday-requires : goal.weekday-requires
@@ -12,7 +13,7 @@ weekday-requires c =
     (c.requires, omega (arith, month-length a.year a.month c.requires.january c.requires.december))
 
 -- the last day less its weekday is the last Sunday
-less : (c : goal.After-weekday) → last_sunday c.args.year c.args.month + c.weekday.result ≡ c.month_length-last.result
+less : (c : After-weekday) → last_sunday c.args.year c.args.month + c.weekday.result ≡ c.month_length-last.result
 less c =
     let start = c.before.before in
     rw (c.weekday.ensures, c.month_length-last.ensures)

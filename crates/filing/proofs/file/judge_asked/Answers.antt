@@ -8,13 +8,14 @@ use Rattle.reports.specs.Calls.{stands}
 use Rattle.partners.specs.PartnersLaws.{role-in}
 use Rattle.filing.specs.FileCallLaws.{asked-other, asked-malformed, asked-short, asked-well}
 use borrow.Author.Rules.{rules}
+use Rattle.filing.proofs.file.judge_asked.Goals.{After-in_role}
 use Rattle.filing.proofs.file.judge_asked.Goals as goal
 
 pub section-requires : goal.section-requires
 section-requires c = ((passing _ c.requires).passed, search rules)
 
 -- the receiver's role, by the book
-role : (c : goal.After-in_role) → let a = c.args in c.in_role.result ≡ stands a.role.receiver (receivers (book_of a.book.now) a.role.kind)
+role : (c : After-in_role) → let a = c.args in c.in_role.result ≡ stands a.role.receiver (receivers (book_of a.book.now) a.role.kind)
 role c =
     let s = c.before.before.before.before.before in
     c.in_role.ensures ∙ role-in s.args.book.now c.section.result.now s.args.role.kind s.args.role.receiver (passing _ s.requires).passed c.section.ensures

@@ -17,12 +17,13 @@ use Rattle.reports.specs.RegisteredLaws.{registered}
 use Rattle.partners.specs.PartnerRowsInner.{partner_rows_of}
 use Rattle.partners.specs.PartnerRowsLaws.{filled-stand, filled-length, partner-writable, partner-bytes, partner-count}
 use native.Mathlib.Omega.{arith}
+use Rattle.filing.proofs.laying.emit_partner.Goals.{After-fill_partner-end, Start}
 use Rattle.filing.proofs.laying.emit_partner.Goals as goal
 
-calendar : (c : goal.Start) → Dated c.args.book.now
+calendar : (c : Start) → Dated c.args.book.now
 calendar c = dated c.args.book.now c.args.volumes.now c.requires.0
 
-stood : (c : goal.After-fill_partner-end) → let a = c.args in
+stood : (c : After-fill_partner-end) → let a = c.args in
     rows_from c.fill_partner-end.new.1.1.1.1.0 0 (c.fill_partner-end.result / 6) ≡ partner_rows_of (book_of a.book.now) a.role.kind a.role.receiver a.partner
 stood c =
     let s = c.before.before.before.before.before.before.before in

@@ -14,6 +14,7 @@ use Rattle.filing.specs.LayingLaws.{next-in, scan-falls, partners-bytes, partner
 use Rattle.partners.specs.PartnerRowsLaws.{next_known}
 use borrow.Author.Rules.{rules}
 use native.Mathlib.Omega.{arith}
+use Rattle.filing.proofs.laying.emit_partners.Goals.{After-next_partner-next-in-loop-next}
 use Rattle.filing.proofs.laying.emit_partners.Goals as goal
 
 pub section-register-requires : goal.section-register-requires
@@ -55,7 +56,7 @@ pub next_partner-next-requires-in-loop-next : goal.next_partner-next-requires-in
 next_partner-next-requires-in-loop-next c = tt
 
 -- the partner that follows
-later : (c : goal.After-next_partner-next-in-loop-next) → let a = c.args in Next (c.loop-next.next + 1) (partner_column (book_of a.book.now).points a.role.kind a.role.receiver) c.next_partner-next-in-loop-next.result
+later : (c : After-next_partner-next-in-loop-next) → let a = c.args in Next (c.loop-next.next + 1) (partner_column (book_of a.book.now).points a.role.kind a.role.receiver) c.next_partner-next-in-loop-next.result
 later c =
     let s = c.before.before.before.before.before.before.before.before.before.before.before.before.before.before.before.before.before in
     let a = s.args in

@@ -16,6 +16,7 @@ use Rattle.settlement.specs.SectionsLaws.{bytes-long}
 use Rattle.sheets.specs.PartiesInner.{parties_in}
 use Rattle.reports.specs.Calls.{stands}
 use Rattle.filing.specs.SheetLaws.{stands-in, sheet-refused, sheet-stranger, sheet-short, sheet-filled}
+use Rattle.filing.proofs.sheet.sheet.Goals.{After-is_party, Else-not-is_party, In_default}
 use Rattle.filing.proofs.sheet.sheet.Goals as goal
 
 pub returns-in-Refused : goal.returns-in-Refused
@@ -25,10 +26,10 @@ returns-in-Refused c =
     sheet-refused a.book.now a.party a.sums-1.now _ (ap refusal_in (sym c.verdict-1.given.1) ∙ k.judge_settlement-verdict.ensures)
 
 -- the book is accepted
-passed : (c : goal.In_default) → book_refusal c.args.book.now ≡ none
+passed : (c : In_default) → book_refusal c.args.book.now ≡ none
 passed c = sym c.judge_settlement-verdict.ensures ∙ ap refusal_in c.enum_told-1.given.1
 
-sound : (c : goal.In_default) → refusal_of c.args.book.now ≡ none
+sound : (c : In_default) → refusal_of c.args.book.now ≡ none
 sound c = (passing c.args.book.now (passed c)).passed
 
 pub version_of-version-requires : goal.version_of-version-requires
@@ -38,7 +39,7 @@ pub section-register-requires : goal.section-register-requires
 section-register-requires c = (sound c.before, search rules)
 
 -- whether the party stands in a column
-column : (c : goal.After-is_party) → let a = c.args in
+column : (c : After-is_party) → let a = c.args in
     c.is_party.result ≡ stands a.party (parties (book_of a.book.now))
 column c =
     let a = c.args in
@@ -52,7 +53,7 @@ returns-then-not-is_party c =
     sheet-stranger a.book.now a.party a.sums-1.now (passed c.before.before.before.before) (sym (column c.before) ∙ not-true _ c.if-not-is_party.true)
 
 -- it does
-present : (c : goal.Else-not-is_party) → let a = c.args in
+present : (c : Else-not-is_party) → let a = c.args in
     stands a.party (parties (book_of a.book.now)) ≡ true
 present c = sym (column c.before) ∙ not-false _ c.if-not-is_party.false
 

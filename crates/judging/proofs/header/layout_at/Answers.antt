@@ -4,10 +4,11 @@ use Prim.Native.Nat.{ℕ, ◌*◌, ◌≤◌}
 use Rattle.quarters.specs.QuartersLaws.{days-few, quarters-few, readings-few}
 use native.Mathlib.Omega.{arith}
 use Rattle.quarters.specs.QuartersInner.{longest_calendar, most_reading_bytes}
+use Rattle.judging.proofs.header.layout_at.Goals.{After-quarters_of-quarters}
 use Rattle.judging.proofs.header.layout_at.Goals as goal
 
 -- the numbers are small
-small : (c : goal.After-quarters_of-quarters) → (c.days_of-days.result ≤ 64) × (c.quarters_of-quarters.result ≤ longest_calendar) × (4 * c.quarters_of-quarters.result * c.args.points ≤ most_reading_bytes)
+small : (c : After-quarters_of-quarters) → (c.days_of-days.result ≤ 64) × (c.quarters_of-quarters.result ≤ longest_calendar) × (4 * c.quarters_of-quarters.result * c.args.points ≤ most_reading_bytes)
 small c =
     let s = c.before.before in (
       omega (arith, days-few s.args.c s.requires.0, c.days_of-days.ensures),

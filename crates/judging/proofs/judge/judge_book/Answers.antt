@@ -6,6 +6,7 @@ use borrow.Author.Tests.{not-true, not-false}
 use Rattle.book.specs.HeaderLaws.{Headed, headed}
 use native.Mathlib.Omega.{arith}
 use Rattle.quarters.specs.QuartersInner.{Ranged}
+use Rattle.judging.proofs.judge.judge_book.Goals.{After-calendar_of-c, After-layout_good, Else-not-header_good}
 use Rattle.judging.proofs.judge.judge_book.Goals as goal
 
 pub returns-then-not-header_good : goal.returns-then-not-header_good
@@ -13,14 +14,14 @@ unfolding refusal_of
 returns-then-not-header_good c = rw (sym c.header_good.ensures ∙ not-true _ c.if-not-header_good.true)
 
 -- what the header says, from where it has passed on
-header : (c : goal.Else-not-header_good) → Headed c.args.book.now
+header : (c : Else-not-header_good) → Headed c.args.book.now
 header c = headed c.args.book.now (sym c.header_good.ensures ∙ not-false _ c.if-not-header_good.false)
 
-ranged : (c : goal.After-calendar_of-c) → Ranged c.calendar_of-c.result
+ranged : (c : After-calendar_of-c) → Ranged c.calendar_of-c.result
 ranged c = subst Ranged (sym c.calendar_of-c.ensures) (header c.before.before).ranged
 
 -- the layout that is judged is that of the header's own numbers
-layout : (c : goal.After-layout_good) → c.layout_good.result ≡ layout_good c.args.book.now
+layout : (c : After-layout_good) → c.layout_good.result ≡ layout_good c.args.book.now
 unfolding layout_good
 layout c =
     let book = c.args.book.now in

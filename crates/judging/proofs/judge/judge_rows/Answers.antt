@@ -11,18 +11,19 @@ use Rattle.book.specs.Judged.{rows_refusal}
 use Rattle.searches.specs.FoundInner.{found_at}
 use native.Mathlib.Omega.{arith}
 use borrow.Author.Rules.{rules}
+use Rattle.judging.proofs.judge.judge_rows.Goals.{After-days_of-days, After-judge_readings, After-judge_register}
 use Rattle.judging.proofs.judge.judge_rows.Goals as goal
 
-days-small : (c : goal.After-days_of-days) → c.days_of-days.result ≤ 64
+days-small : (c : After-days_of-days) → c.days_of-days.result ≤ 64
 days-small c = let s = c.before.before.before.before in omega (arith, days-few s.args.c s.requires.0, c.days_of-days.ensures)
 
 -- what the search of the register found, of the days that there are
-points-found : (c : goal.After-judge_register) → first (bad_point c.args.version (days_of c.args.c) c.args.register.now) 0 c.args.points ≡ found_at c.judge_register.result
+points-found : (c : After-judge_register) → first (bad_point c.args.version (days_of c.args.c) c.args.register.now) 0 c.args.points ≡ found_at c.judge_register.result
 points-found c =
     let s = c.args in
     ap (λ (d : ℕ). first (bad_point s.version d s.register.now) 0 s.points) (sym c.days_of-days.ensures) ∙ sym c.judge_register.ensures
 
-readings-found : (c : goal.After-judge_readings) → first_bad_reading c.args.c c.args.readings.now c.args.points ≡ point_of_reading c.quarters_of-quarters.result (found_at c.judge_readings.result)
+readings-found : (c : After-judge_readings) → first_bad_reading c.args.c c.args.readings.now c.args.points ≡ point_of_reading c.quarters_of-quarters.result (found_at c.judge_readings.result)
 unfolding first_bad_reading
 readings-found c =
     let s = c.args in

@@ -9,10 +9,11 @@ use Rattle.book.specs.Tables.{calendar_good, table_good}
 use Rattle.book.specs.Judged.{rows_refusal, sections_refusal}
 use native.Mathlib.Omega.{arith}
 use borrow.Author.Rules.{rules}
+use Rattle.judging.proofs.judge.judge_sections.Goals.{After-table_good, Start}
 use Rattle.judging.proofs.judge.judge_sections.Goals as goal
 
 -- the sections, as the layout says
-known : (s : goal.Start) → LaidOut s.args.book.now s.args.c s.args.points s.args.rows
+known : (s : Start) → LaidOut s.args.book.now s.args.c s.args.points s.args.rows
 known s = laid s.args.book.now s.args.c s.args.points s.args.rows s.requires.3
 
 pub section-calendar-requires : goal.section-calendar-requires
@@ -34,7 +35,7 @@ pub table_good-requires : goal.table_good-requires
 table_good-requires c = omega (arith, ap length c.section-table.ensures, (known c.before.before.before.before.before.before.before).table.size)
 
 -- the tables that are tested are those of sections 1 and 2
-tables : (c : goal.After-table_good) → let book = c.args.book.now in
+tables : (c : After-table_good) → let book = c.args.book.now in
     (c.calendar_good-days.result && c.table_good.result) ≡ (calendar_good (calendar_section book) && table_good (table_section book))
 tables c =
     ap₂ ◌&&◌ (c.calendar_good-days.ensures ∙ ap calendar_good c.section-calendar.ensures) (c.table_good.ensures ∙ ap table_good c.section-table.ensures)

@@ -9,20 +9,21 @@ use native.Mathlib.Omega.{arith}
 use Rattle.quarters.specs.Quarters.{month_quarters}
 use Rattle.quarters.specs.QuartersInner.{longest_month}
 use Rattle.reports.specs.FileRowsInner.{observations_of}
+use Rattle.partners.proofs.rows.fill_series.Goals.{After-month_quarters-n, Start}
 use Rattle.partners.proofs.rows.fill_series.Goals as goal
 
 -- the book's calendar, and the positions of its month, which the array has
-calendar : (c : goal.Start) → Dated c.args.book.now
+calendar : (c : Start) → Dated c.args.book.now
 calendar c = dated c.args.book.now c.args.volumes.now c.requires.0
 
-month : (c : goal.After-month_quarters-n) → c.month_quarters-n.result ≡ month_quarters (book_of c.args.book.now).calendar
+month : (c : After-month_quarters-n) → c.month_quarters-n.result ≡ month_quarters (book_of c.args.book.now).calendar
 month c = c.month_quarters-n.ensures ∙ ap month_quarters (c.calendar_of-c.ensures ∙ (calendar c.before.before.before.before.before.before.before.before).own)
 
-few : (c : goal.After-month_quarters-n) → c.month_quarters-n.result ≤ longest_month
+few : (c : After-month_quarters-n) → c.month_quarters-n.result ≤ longest_month
 few c = omega (arith, month c, (calendar c.before.before.before.before.before.before.before.before).few)
 
 -- what is written are the series' observations
-own : (c : goal.After-month_quarters-n) → let a = c.args in
+own : (c : After-month_quarters-n) → let a = c.args in
     observations_in c.series_watts.new.1.1.1.1.0 c.month_quarters-n.result ≡ observations_of (book_of a.book.now) a.role.kind a.role.receiver a.s
 own c =
     let a = c.args in

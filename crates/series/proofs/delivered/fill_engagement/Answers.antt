@@ -16,10 +16,11 @@ use Rattle.settlement.specs.DrawnLaws.{engagement-placed}
 use Rattle.series.specs.VolumesInner.{volume_in}
 use Rattle.series.specs.VolumesLaws.{volume-is, volumes-are}
 use Rattle.quarters.specs.QuartersInner.{longest_day}
+use Rattle.series.proofs.delivered.fill_engagement.Goals.{After-engagement_at-e, Start}
 use Rattle.series.proofs.delivered.fill_engagement.Goals as goal
 
 -- the rows of a day have room
-room : (s : goal.Start) → row_width * (engagement_at s.args.engagements.now s.args.i).count ≤ length (replicate (row_width * longest_day) (pos 0))
+room : (s : Start) → row_width * (engagement_at s.args.engagements.now s.args.i).count ≤ length (replicate (row_width * longest_day) (pos 0))
 room s = omega (arith, (engagement-placed s.requires.0 s.args.i s.requires.2).few, length-replicate (row_width * longest_day) (pos 0))
 
 pub settle_engagement_at-requires : goal.settle_engagement_at-requires
@@ -28,7 +29,7 @@ settle_engagement_at-requires c =
     (s.requires.0, s.requires.1, s.requires.2, s.requires.3, omega (arith, (engagement-placed s.requires.0 s.args.i s.requires.2).few), s.requires.5)
 
 -- as many volumes as were read
-count : (c : goal.After-engagement_at-e) → c.engagement_at-e.result.count ≡ (engagement_at c.args.engagements.now c.args.i).count
+count : (c : After-engagement_at-e) → c.engagement_at-e.result.count ≡ (engagement_at c.args.engagements.now c.args.i).count
 count c = ap (λ (e : Engagement). e.count) c.engagement_at-e.ensures
 
 pub store_volumes-requires : goal.store_volumes-requires

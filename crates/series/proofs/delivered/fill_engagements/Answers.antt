@@ -12,13 +12,14 @@ use Rattle.settlement.specs.PartsLaws.{row_count_to, count_none, count-more, cou
 use Rattle.settlement.specs.SettlingLaws.{not-refused}
 use Rattle.series.specs.VolumesInner.{volumes_of}
 use Rattle.series.specs.VolumesLaws.{volumes-each, volumes-all}
+use Rattle.series.proofs.delivered.fill_engagements.Goals.{In-loop-i}
 use Rattle.series.proofs.delivered.fill_engagements.Goals as goal
 
 pub loop-i-init : goal.loop-i-init
 loop-i-init c = (search rules, omega (arith, count_none c.args.engagements.now), sym (parts_none _ _ _))
 
 -- the volumes lent have room for one engagement's more
-room : (c : goal.In-loop-i) → let s = c.before.before.before.before.before.before in
+room : (c : In-loop-i) → let s = c.before.before.before.before.before.before in
     let l = c.loop-i in
     l.at + (engagement_at s.args.engagements.now l.i).count ≤ length l.volumes-1
 room c =

@@ -16,14 +16,15 @@ use Rattle.settlement.specs.SectionsInner.{engagement_count_in}
 use Rattle.settlement.specs.PartsLaws.{count_none, count-more}
 use Rattle.series.specs.SumsInner.{grains_to, Parts}
 use Rattle.series.specs.SumsLaws.{by-cong, added-length, rows_few, placed, volumes-room, grains-none, grains-all, turn-adds, turn-sums}
+use Rattle.series.proofs.sums.add_engagements.Goals.{After-cell_of-first, In-loop-i}
 use Rattle.series.proofs.sums.add_engagements.Goals as goal
 
 -- an engagement of the section
-inside : (c : goal.In-loop-i) → c.loop-i.i < engagement_count_in c.args.engagements.now
+inside : (c : In-loop-i) → c.loop-i.i < engagement_count_in c.args.engagements.now
 inside c = search rules
 
 -- what was read of it: its rows in the series, and the cell of its first position
-rows_are : (c : goal.After-cell_of-first) → let a = c.args in
+rows_are : (c : After-cell_of-first) → let a = c.args in
     let i = c.loop-i.i in
     (b : Book) → Parts a.c a.register.now a.engagements.now a.volumes.now b
     → c.series_rows-own.result ≡ cond (is_engagement b a.role.kind a.role.receiver a.s (engagement_at a.engagements.now i)) (engagement_at a.engagements.now i).count 0
@@ -33,7 +34,7 @@ rows_are c b p =
     c.series_rows-own.ensures b (rw read (p.owner c.loop-i.i (inside c.before.before.before)))
     ∙ ap (λ (e : Engagement). cond (is_engagement b a.role.kind a.role.receiver a.s e) e.count 0) read
 
-start_is : (c : goal.After-cell_of-first) → let a = c.args in
+start_is : (c : After-cell_of-first) → let a = c.args in
     c.cell_of-first.result + 1 ≡ start_position a.c (engagement_at a.engagements.now c.loop-i.i)
 start_is c = let a = c.args in
     let e = c.engagement_at-e.result in

@@ -13,24 +13,25 @@ use Rattle.volumes.specs.Series.{grains_at}
 use Rattle.settlement.specs.SectionsLaws.{bytes-headed}
 use Rattle.series.specs.SumsInner.{by_position, Parts}
 use Rattle.series.specs.SumsLaws.{by-again, by-own, parts-of}
+use Rattle.series.proofs.sums.fill_grains.Goals.{After-clear, After-month_quarters, Start}
 use Rattle.series.proofs.sums.fill_grains.Goals as goal
 
 -- the book passes refusals 1 to 7, and these are its parts
-passed : (c : goal.Start) → refusal_of c.args.book.now ≡ none
+passed : (c : Start) → refusal_of c.args.book.now ≡ none
 passed c = (passing c.args.book.now c.requires.0.accepted).passed
 
-parts : (c : goal.Start) → let bytes = c.args.book.now in
+parts : (c : Start) → let bytes = c.args.book.now in
     Parts (calendar_of bytes) (register_section bytes) (engagement_section bytes) c.args.volumes.now (book_of bytes)
 parts c = parts-of c.args.book.now c.args.volumes.now c.requires.0
 
 -- the cells of its month
-month : (c : goal.After-month_quarters) → c.month_quarters.result ≡ month_quarters (book_of c.args.book.now).calendar
+month : (c : After-month_quarters) → c.month_quarters.result ≡ month_quarters (book_of c.args.book.now).calendar
 month c =
     let s = c.before.before.before.before.before.before.before.before in
     c.month_quarters.ensures ∙ ap month_quarters (c.calendar_of-c.ensures ∙ sym (parts s).when)
 
 -- the parts as they were read
-read : (c : goal.After-clear) → let s = c.before.before.before.before.before.before.before.before.before in
+read : (c : After-clear) → let s = c.before.before.before.before.before.before.before.before.before in
     Parts c.calendar_of-c.result c.section-register.result.now c.section-engagements.result.now s.args.volumes.now (book_of s.args.book.now)
 read c =
     rw (c.calendar_of-c.ensures, c.section-register.ensures, c.section-engagements.ensures) (parts c.before.before.before.before.before.before.before.before.before)

@@ -10,10 +10,11 @@ use Rattle.integers.specs.Running.{floor_at}
 use Rattle.grains.specs.Grains.{per_watt}
 use Rattle.series.specs.SumsInner.{by_position, cell_at}
 use Rattle.series.specs.SumsLaws.{by-none, by-rest, by-more, carried, carry-none}
+use Rattle.series.proofs.sums.fill_watts.Goals.{In-loop-i}
 use Rattle.series.proofs.sums.fill_watts.Goals as goal
 
 -- a position's grains are as they were when its turn comes
-cell : (c : goal.In-loop-i) → get_or c.loop-i.cells c.loop-i.i 0 ≡ cell_at c.args.cells.now (c.loop-i.i + 1)
+cell : (c : In-loop-i) → get_or c.loop-i.cells c.loop-i.i 0 ≡ cell_at c.args.cells.now (c.loop-i.i + 1)
 cell c =
     let l = c.before in
     let s = l.before.before in

@@ -13,14 +13,15 @@ use Rattle.volumes.specs.Series.{grains_at}
 use Rattle.settlement.specs.SectionsLaws.{bytes-headed}
 use Rattle.series.specs.SumsInner.{by_position, cell_at, Parts}
 use Rattle.series.specs.SumsLaws.{by_length, parts-of, carry-fits, watts-are}
+use Rattle.series.proofs.sums.series_watts.Goals.{After-month_quarters, Start}
 use Rattle.series.proofs.sums.series_watts.Goals as goal
 
 -- the book's parts, and the positions of its month
-parts : (c : goal.Start) → let bytes = c.args.book.now in
+parts : (c : Start) → let bytes = c.args.book.now in
     Parts (calendar_of bytes) (register_section bytes) (engagement_section bytes) c.args.volumes.now (book_of bytes)
 parts c = parts-of c.args.book.now c.args.volumes.now c.requires.0
 
-month : (c : goal.After-month_quarters) → c.month_quarters.result ≡ month_quarters (book_of c.args.book.now).calendar
+month : (c : After-month_quarters) → c.month_quarters.result ≡ month_quarters (book_of c.args.book.now).calendar
 month c =
     let s = c.before.before.before.before.before.before.before.before.before.before in
     c.month_quarters.ensures ∙ ap month_quarters (c.calendar_of-c.ensures ∙ sym (parts s).when)

@@ -6,13 +6,14 @@ use lib.ListN.{length, length-set}
 use Rattle.book.specs.declared.Engagement.{Engagement}
 use Rattle.settlement.specs.DaysLaws.{gathers-none, gathers-more, gathers-all}
 use borrow.Author.Rules.{rules}
+use Rattle.settlement.proofs.days.gather_days.Goals.{After-engagement_at-e}
 use Rattle.settlement.proofs.days.gather_days.Goals as goal
 
 pub loop-i-init : goal.loop-i-init
 loop-i-init c = (search rules, refl, gathers-none _ _)
 
 -- its point has a number
-inside : (g : goal.After-engagement_at-e) → g.engagement_at-e.result.point < length g.loop-i.engaged
+inside : (g : After-engagement_at-e) → g.engagement_at-e.result.point < length g.loop-i.engaged
 inside g = let l = g.before.before in
     omega (arith, ap (λ (e : Engagement). e.point) g.engagement_at-e.ensures, l.requires.point l.loop-i.i (search rules), l.loop-i.invariant.1)
 

@@ -5,6 +5,7 @@ use Rattle.baseline.specs.declared.shown.Shown.{Shown}
 use Rattle.settlement.specs.SectionsInner.{book_with, shown_in}
 use Rattle.settlement.specs.DrawnLaws.{Drawn, drawn}
 use borrow.Author.Rules.{rules}
+use Rattle.settlement.proofs.judge.judge_engagement_at.Goals.{Start}
 use Rattle.settlement.proofs.judge.judge_engagement_at.Goals as goal
 
 pub shown_at-shown-requires : goal.shown_at-shown-requires
@@ -18,7 +19,7 @@ section-calendar-requires c = (c.requires.0.passed, search rules)
 pub section-readings-requires : goal.section-readings-requires
 section-readings-requires c = (c.requires.0.passed, search rules)
 
-here : (s : goal.Start) → Drawn s.args.book.now s.args.engagements.now s.args.engaged.now s.args.i
+here : (s : Start) → Drawn s.args.book.now s.args.engagements.now s.args.engaged.now s.args.i
 here s = drawn s.requires.0 s.requires.3 s.args.i s.requires.2
 
 pub judge_engagement-requires : goal.judge_engagement-requires

@@ -8,13 +8,14 @@ use Rattle.baseline.specs.NeedsInner.{number_of}
 use Rattle.settlement.specs.SectionsInner.{book_with}
 use Rattle.settlement.specs.DrawnLaws.{refusal-row, refusal-last}
 use borrow.Author.Rules.{rules}
+use Rattle.settlement.proofs.judge.judge_engagements.Goals.{After-judge_engagement_at-lack}
 use Rattle.settlement.proofs.judge.judge_engagements.Goals as goal
 
 pub loop-i-init : goal.loop-i-init
 loop-i-init c = (search rules, refusal-all _)
 
 -- what is known of the present engagement, by what it lacks
-judged : (c : goal.After-judge_engagement_at-lack) → let s = c.before.before.before.before.before.before in
+judged : (c : After-judge_engagement_at-lack) → let s = c.before.before.before.before.before.before in
     let i = c.loop-i.i in
     let book = book_with s.args.book.now s.args.engagements.now in settlement_refusal book ≡ row_refusal i (number_of c.judge_engagement_at-lack.result) (refusal_at book (i + 1))
 judged c = let s = c.before.before.before.before.before.before in

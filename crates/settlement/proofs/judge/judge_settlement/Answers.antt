@@ -11,6 +11,7 @@ use Rattle.settlement.specs.DaysLaws.{gatherable, gathered}
 use Rattle.settlement.specs.VerdictsInner.{refusal_in}
 use Rattle.settlement.specs.VerdictsLaws.{book-refused, book-passed}
 use borrow.Author.Rules.{rules}
+use Rattle.settlement.proofs.judge.judge_settlement.Goals.{After-section-engagements, In_default}
 use Rattle.settlement.proofs.judge.judge_settlement.Goals as goal
 
 pub returns-in-Refused : goal.returns-in-Refused
@@ -18,7 +19,7 @@ returns-in-Refused c = let k = c.before.before.before in
     book-refused k.args.book.now _ (ap refusal_in (sym c.verdict-1.given.1) ∙ k.verdict_of-verdict.ensures ∙ k.judge_book.ensures)
 
 -- the book passes refusals 1 to 7
-passed : (c : goal.In_default) → refusal_of c.args.book.now ≡ none
+passed : (c : In_default) → refusal_of c.args.book.now ≡ none
 passed c = let k = c.before.before in
     sym k.judge_book.ensures ∙ sym k.verdict_of-verdict.ensures ∙ ap refusal_in c.enum_told-1.given.1
 
@@ -26,7 +27,7 @@ pub section-engagements-requires : goal.section-engagements-requires
 section-engagements-requires c = (passed c, search rules)
 
 -- it can be settled with its own engagements
-own : (c : goal.After-section-engagements) → Opened c.args.book.now c.section-engagements.result.now
+own : (c : After-section-engagements) → Opened c.args.book.now c.section-engagements.result.now
 own c = rw c.section-engagements.ensures (opened c.args.book.now (passed c.before))
 
 pub gather_days-requires : goal.gather_days-requires

@@ -8,6 +8,7 @@ use Rattle.book.specs.Header.{splits}
 use Rattle.volumes.specs.Settlement.{off_take_of, off_take_difference, off_take_share, source_by}
 use Rattle.settlement.specs.RaisedInner.{bias, baseline_of, watts_of}
 use Rattle.settlement.specs.RowsLaws.{off-take-level, off-take-reading}
+use Rattle.settlement.proofs.rows.source_volume.Goals.{After-off_take-read, Else-not-splits}
 use Rattle.settlement.proofs.rows.source_volume.Goals as goal
 
 pub returns-then-not-splits : goal.returns-then-not-splits
@@ -15,13 +16,13 @@ unfolding source_by
 returns-then-not-splits c = rw (sym c.splits.ensures ∙ not-true _ c.if-not-splits.true)
 
 -- what the split goes by: the off-take of baseline and reading
-split : (c : goal.Else-not-splits) → splits c.args.version ≡ true
+split : (c : Else-not-splits) → splits c.args.version ≡ true
 split c = sym c.splits.ensures ∙ not-false _ c.if-not-splits.false
 
-base-is : (c : goal.After-off_take-read) → c.off_take-base.result ≡ off_take_of (baseline_of c.args.level)
+base-is : (c : After-off_take-read) → c.off_take-base.result ≡ off_take_of (baseline_of c.args.level)
 base-is c = c.off_take-base.ensures ∙ sym (off-take-level c.args.level)
 
-read_is : (c : goal.After-off_take-read) → c.off_take-read.result ≡ off_take_of (grains_z (watts_of c.args.raised))
+read_is : (c : After-off_take-read) → c.off_take-read.result ≡ off_take_of (grains_z (watts_of c.args.raised))
 read_is c = c.off_take-read.ensures ∙ ap (λ n. n - bias) c.reading_grains.ensures ∙ sym (off-take-reading c.args.raised)
 
 pub returns-in-Up : goal.returns-in-Up

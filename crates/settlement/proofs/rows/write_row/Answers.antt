@@ -14,10 +14,11 @@ use Rattle.settlement.specs.RaisedInner.{baseline_of, watts_of}
 use Rattle.settlement.specs.RowsInner.{row_from}
 use Rattle.settlement.specs.RowsLaws.{delivered-by, rest_of}
 use Rattle.settlement.specs.StoresLaws.{five-sets}
+use Rattle.settlement.proofs.rows.write_row.Goals.{After-delivered-volume, After-source_volume-source}
 use Rattle.settlement.proofs.rows.write_row.Goals as goal
 
 -- what the source party gets is no more than the volume
-source-small : (c : goal.After-source_volume-source) → c.source_volume-source.result < 9223372036854775808
+source-small : (c : After-source_volume-source) → c.source_volume-source.result < 9223372036854775808
 source-small c =
     let a = c.args in
     omega (arith, c.source_volume-source.ensures, source-most a.version a.direction (baseline_of a.level) (grains_z (watts_of a.raised)) c.delivered-volume.result, c.delivered-volume.ensures.1)
@@ -41,7 +42,7 @@ pub bounds-out-at-5 : goal.bounds-out-at-5
 bounds-out-at-5 c = simp length-set (omega arith)
 
 -- the volume is the one delivered by the point's direction
-volume-is : (c : goal.After-delivered-volume) → c.delivered-volume.result ≡ delivered_by c.args.direction c.args.point (baseline_of c.args.level) (grains_z (watts_of c.args.raised))
+volume-is : (c : After-delivered-volume) → c.delivered-volume.result ≡ delivered_by c.args.direction c.args.point (baseline_of c.args.level) (grains_z (watts_of c.args.raised))
 volume-is c =
     let a = c.args in
     let z = baseline_of a.level in

@@ -12,17 +12,18 @@ use Rattle.settlement.specs.SectionsInner.{book_with, Opened}
 use Rattle.settlement.specs.SectionsLaws.{bytes-headed, same-book, opened, count-book, own-settled}
 use Rattle.settlement.specs.DaysLaws.{gatherable, gathered}
 use borrow.Author.Rules.{rules}
+use Rattle.settlement.proofs.settle.fill_book.Goals.{After-section-engagements, Start}
 use Rattle.settlement.proofs.settle.fill_book.Goals as goal
 
 -- the book passes refusals 1 to 7
-passed : (c : goal.Start) → refusal_of c.args.book.now ≡ none
+passed : (c : Start) → refusal_of c.args.book.now ≡ none
 passed c = (passing c.args.book.now c.requires.0).passed
 
 pub section-engagements-requires : goal.section-engagements-requires
 section-engagements-requires c = (passed c.before, search rules)
 
 -- it can be settled with its own engagements
-own : (c : goal.After-section-engagements) → Opened c.args.book.now c.section-engagements.result.now
+own : (c : After-section-engagements) → Opened c.args.book.now c.section-engagements.result.now
 own c = rw c.section-engagements.ensures (opened c.args.book.now (passed c.before.before))
 
 pub gather_days-requires : goal.gather_days-requires

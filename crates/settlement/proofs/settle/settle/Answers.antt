@@ -5,6 +5,7 @@ use Rattle.volumes.specs.Settlement.{book_refusal}
 use Rattle.volumes.specs.SettlementLaws.{passing}
 use Rattle.settlement.specs.VerdictsInner.{refusal_in}
 use Rattle.settlement.specs.CallsLaws.{call-refused, call-short, call-filled}
+use Rattle.settlement.proofs.settle.settle.Goals.{In_default}
 use Rattle.settlement.proofs.settle.settle.Goals as goal
 
 pub returns-in-Refused : goal.returns-in-Refused
@@ -14,7 +15,7 @@ returns-in-Refused c =
     call-refused s.args.book.now s.args.rows-1.now _ (ap refusal_in (sym c.verdict-1.given.1) ∙ k.judge_settlement-verdict.ensures)
 
 -- the book is accepted
-passed : (c : goal.In_default) → book_refusal c.args.book.now ≡ none
+passed : (c : In_default) → book_refusal c.args.book.now ≡ none
 passed c = sym c.judge_settlement-verdict.ensures ∙ ap refusal_in c.enum_told-1.given.1
 
 pub row_count-count-requires : goal.row_count-count-requires

@@ -10,6 +10,7 @@ use Rattle.settlement.specs.SectionsLaws.{bytes-long}
 use Rattle.settlement.specs.SettlingLaws.{settled, accepts}
 use native.Mathlib.Omega.{arith}
 use borrow.Author.Rules.{rules}
+use Rattle.settlement.proofs.settle.settle_engagement_at.Goals.{After-shown_at-shown}
 use Rattle.settlement.proofs.settle.settle_engagement_at.Goals as goal
 
 pub shown_at-shown-requires : goal.shown_at-shown-requires
@@ -27,7 +28,7 @@ pub section-readings-requires : goal.section-readings-requires
 section-readings-requires c = (c.requires.0.passed, search rules)
 
 -- there is room for its rows
-room : (c : goal.After-shown_at-shown) → c.args.at + row_width * c.shown_at-shown.result.e.count ≤ length c.args.out-1.now
+room : (c : After-shown_at-shown) → c.args.at + row_width * c.shown_at-shown.result.e.count ≤ length c.args.out-1.now
 unfolding shown_in
 room c = rw c.shown_at-shown.ensures c.requires.4
 

@@ -13,13 +13,14 @@ use Rattle.settlement.specs.PartsLaws.{count_none, count-more, count_most, parts
 use Rattle.settlement.specs.SettlingLaws.{rows-all, not-refused}
 use borrow.Author.Rules.{rules}
 use native.Mathlib.Omega.{arith}
+use Rattle.settlement.proofs.settle.settle_engagements.Goals.{In-loop-i}
 use Rattle.settlement.proofs.settle.settle_engagements.Goals as goal
 
 pub loop-i-init : goal.loop-i-init
 loop-i-init c = (search rules, omega (arith, count_none c.args.engagements.now), sym (parts_none _ _ _))
 
 -- the rows lent have room for one engagement's more
-room : (c : goal.In-loop-i) → let s = c.before.before.before.before.before in
+room : (c : In-loop-i) → let s = c.before.before.before.before.before in
     let l = c.loop-i in
     l.at + row_width * (engagement_at s.args.engagements.now l.i).count ≤ length l.out-1
 room c =

@@ -10,6 +10,7 @@ use Rattle.integers.specs.Ranges.{range}
 use Rattle.sheets.specs.AddsLaws.{length-adds}
 use Rattle.sheets.specs.SharesInner.{source_in, fsp_in, injection_in, gets_at, gets_of}
 use Rattle.sheets.specs.SharesLaws.{gets-length, gets-next, gets-fits}
+use Rattle.sheets.proofs.cells.add_rows.Goals.{After-share-correction, At-loop-k}
 use Rattle.sheets.proofs.cells.add_rows.Goals as goal
 
 pub loop-k-init : goal.loop-k-init
@@ -17,11 +18,11 @@ unfolding gets_of range
 loop-k-init c = (search rules, refl)
 
 -- the cells stay as many, and those of the rows are among them
-long : (c : goal.At-loop-k) → length c.loop-k.sums-1 ≡ length c.args.sums-1.now
+long : (c : At-loop-k) → length c.loop-k.sums-1 ≡ length c.args.sums-1.now
 long c = let a = c.args.sums-1.now in
     ap length c.loop-k.invariant.1 ∙ length-adds a c.args.at (gets_of c.args.version c.args.party c.args.point c.args.rows.now c.loop-k.k)
 
-room : (c : goal.At-loop-k) → c.args.at + c.args.count ≤ length c.loop-k.sums-1
+room : (c : At-loop-k) → c.args.at + c.args.count ≤ length c.loop-k.sums-1
 room c = let a = c.args in omega (arith, long c, c.requires.2.room, gets-length a.version a.party a.point a.rows.now a.count)
 
 pub share-correction-requires : goal.share-correction-requires
@@ -37,7 +38,7 @@ share-correction-requires c =
     rw (x, y, z) (small.source-1 k h, small.fsp-1 k h, small.injection-1 k h)
 
 -- what the party gets of row k
-got : (c : goal.After-share-correction) → let l = c.before.before.before.before.before in
+got : (c : After-share-correction) → let l = c.before.before.before.before.before in
     let a = l.args in
     to_z w64 (of_z w64 c.share-correction.result) ≡ gets_at a.version a.party a.point a.rows.now l.loop-k.k
 got c =

@@ -7,13 +7,14 @@ use Prim.Native.Nat.{◌-◌}
 use lib.IntN.{ℤ, pos}
 use lib.ListN.{length, set, length-append, length-replicate, length-drop}
 use Rattle.integers.specs.ListsLaws.{same_next}
+use Rattle.sheets.proofs.cells.clear.Goals.{At-loop-i}
 use Rattle.sheets.proofs.cells.clear.Goals as goal
 
 pub loop-i-init : goal.loop-i-init
 loop-i-init c = (search rules, refl)
 
 -- the cells stay as many
-long : (c : goal.At-loop-i) → length c.loop-i.sums ≡ length c.args.sums.now
+long : (c : At-loop-i) → length c.loop-i.sums ≡ length c.args.sums.now
 long c =
     ap length c.loop-i.invariant.1
     ∙ simp (length-append, length-replicate, length-drop) (omega (arith, c.requires))

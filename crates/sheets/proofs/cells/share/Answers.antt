@@ -11,22 +11,23 @@ use Rattle.volumes.specs.SoundInner.{Bounded}
 use Rattle.volumes.specs.WidthsLaws.{bounded-add, bounded-fits}
 use Rattle.sheets.specs.SharesInner.{correction_most}
 use Rattle.sheets.specs.SharesLaws.{pick, pick-bounded, gets-two, gets-three}
+use Rattle.sheets.proofs.cells.share.Goals.{After-amount, After-amount-2, After-amount-3}
 use Rattle.sheets.proofs.cells.share.Goals as goal
 
 -- what the columns of every version give, and that it adds up
-source_is : (c : goal.After-amount) → let a = c.args in c.amount.result ≡ pick a.point.sourceparty a.party a.source
+source_is : (c : After-amount) → let a = c.args in c.amount.result ≡ pick a.point.sourceparty a.party a.source
 source_is c =
     let a = c.args in
     let x : to_z w64 (of_z w64 a.source) ≡ a.source = search rules in
     c.amount.ensures ∙ ap (pick a.point.sourceparty a.party) x
 
-fsp-is : (c : goal.After-amount-2) → let a = c.args in c.amount-2.result ≡ pick a.point.fspparty a.party a.fsp
+fsp-is : (c : After-amount-2) → let a = c.args in c.amount-2.result ≡ pick a.point.fspparty a.party a.fsp
 fsp-is c =
     let a = c.args in
     let x : to_z w64 (of_z w64 a.fsp) ≡ a.fsp = search rules in
     c.amount-2.ensures ∙ ap (pick a.point.fspparty a.party) x
 
-two-small : (c : goal.After-amount-2) → Bounded (correction_most + correction_most) (c.amount.result +ℤ c.amount-2.result)
+two-small : (c : After-amount-2) → Bounded (correction_most + correction_most) (c.amount.result +ℤ c.amount-2.result)
 two-small c =
     let s = c.before.before in
     let a = s.args in
@@ -41,7 +42,7 @@ overflow_add-two c =
     rw (x, y) f
 
 -- the sum as the next lines find it
-two_is : (c : goal.After-amount-2) → let a = c.args in
+two_is : (c : After-amount-2) → let a = c.args in
     to_z w64 (of_z w64 (to_z w64 (of_z w64 c.amount.result) +ℤ to_z w64 (of_z w64 c.amount-2.result))) ≡ pick a.point.sourceparty a.party a.source +ℤ pick a.point.fspparty a.party a.fsp
 two_is c =
     let f : SFits w64 (c.amount.result +ℤ c.amount-2.result) = bounded-fits (two-small c) (omega arith) in
@@ -56,13 +57,13 @@ returns-then-not-splits c =
     two_is c.before.before ∙ sym (gets-two a.version a.party a.point a.source a.fsp a.injection (sym c.splits.ensures ∙ not-true _ c.if-not-splits.true))
 
 -- what the injection column gives, and that all three add up
-injection-is : (c : goal.After-amount-3) → let a = c.args in c.amount-3.result ≡ pick a.point.injectionparty a.party a.injection
+injection-is : (c : After-amount-3) → let a = c.args in c.amount-3.result ≡ pick a.point.injectionparty a.party a.injection
 injection-is c =
     let a = c.args in
     let x : to_z w64 (of_z w64 a.injection) ≡ a.injection = search rules in
     c.amount-3.ensures ∙ ap (pick a.point.injectionparty a.party) x
 
-three-fit : (c : goal.After-amount-3) → let a = c.args in
+three-fit : (c : After-amount-3) → let a = c.args in
     SFits w64 (pick a.point.sourceparty a.party a.source +ℤ pick a.point.fspparty a.party a.fsp +ℤ c.amount-3.result)
 three-fit c =
     let s = c.before.before.before.before.before in

@@ -16,6 +16,7 @@ use Rattle.sheets.specs.SharesInner.{gets_of, RowsSmall, corrections_for, first_
 use Rattle.settlement.specs.DrawnLaws.{Placing, engagement-placed}
 use Rattle.sheets.specs.EngagementLaws.{engagement-gets, engagement-small}
 use Rattle.quarters.specs.QuartersInner.{longest_day}
+use Rattle.sheets.proofs.fill.add_engagement.Goals.{After-cell_of-at, After-settle_engagement_at, Start}
 use Rattle.sheets.proofs.fill.add_engagement.Goals as goal
 
 pub version_of-version-requires : goal.version_of-version-requires
@@ -25,7 +26,7 @@ pub section-register-requires : goal.section-register-requires
 section-register-requires c = (c.requires.0.passed, search rules)
 
 -- where the engagement stands
-placed : (s : goal.Start) → Placing s.args.c (engagement_at s.args.engagements.now s.args.i)
+placed : (s : Start) → Placing s.args.c (engagement_at s.args.engagements.now s.args.i)
 placed s = rw s.requires.1 (engagement-placed s.requires.0 s.args.i s.requires.2)
 
 pub point_at-point-requires : goal.point_at-point-requires
@@ -42,7 +43,7 @@ settle_engagement_at-requires c =
     (s.requires.0, s.requires.1, s.requires.2, s.requires.3, omega (arith, (placed s).few), s.requires.5)
 
 -- what the party gets of the rows, and that their corrections are small
-gets : (c : goal.After-settle_engagement_at) → let k = c.before.before.before in
+gets : (c : After-settle_engagement_at) → let k = c.before.before.before in
     let g = k.before.before in
     let s = g.before.before.before.before.before.before in
     let a = s.args in
@@ -54,7 +55,7 @@ gets c =
     ap (λ v. gets_of v s.args.party k.point_at-point.result c.settle_engagement_at.new.1.1.1.1.1.0 g.engagement_at-e.result.count) g.version_of-version.ensures
     ∙ engagement-gets s.requires.0 s.args.i s.requires.2 (replicate (row_width * longest_day) (pos 0)) (omega (arith, length-replicate (row_width * longest_day) (pos 0))) g.engagement_at-e.ensures k.point_at-point.ensures g.section-register.ensures c.settle_engagement_at.ensures.1 s.args.party
 
-small : (c : goal.After-settle_engagement_at) → RowsSmall c.settle_engagement_at.new.1.1.1.1.1.0 c.engagement_at-e.result.count
+small : (c : After-settle_engagement_at) → RowsSmall c.settle_engagement_at.new.1.1.1.1.1.0 c.engagement_at-e.result.count
 small c =
     let k = c.before.before.before in
     let g = k.before.before in
@@ -62,7 +63,7 @@ small c =
     engagement-small s.requires.0 s.args.i s.requires.2 (replicate (row_width * longest_day) (pos 0)) (omega (arith, length-replicate (row_width * longest_day) (pos 0))) g.engagement_at-e.ensures k.point_at-point.ensures g.section-register.ensures c.settle_engagement_at.ensures.1
 
 -- the first of its cells
-cell : (c : goal.After-cell_of-at) → let a = c.args in
+cell : (c : After-cell_of-at) → let a = c.args in
     c.cell_of-at.result ≡ first_cell a.c (engagement_at a.engagements.now a.i)
 cell c = c.cell_of-at.ensures ∙ ap (first_cell c.args.c) c.engagement_at-e.ensures
 

@@ -10,13 +10,14 @@ use Rattle.volumes.specs.Sheets.{parties_of}
 use Rattle.settlement.specs.SectionsInner.{point_count_in}
 use Rattle.integers.specs.Counts.{stands}
 use Rattle.sheets.specs.PartiesLaws.{no-party, party-next, party-here}
+use Rattle.sheets.proofs.parties.is_party.Goals.{After-in_columns}
 use Rattle.sheets.proofs.parties.is_party.Goals as goal
 
 pub loop-i-init : goal.loop-i-init
 loop-i-init c = (search rules, no-party c.args.version c.args.register.now c.args.party)
 
 -- what is said of row i
-row : (c : goal.After-in_columns) → let l = c.before.before.before in
+row : (c : After-in_columns) → let l = c.before.before.before in
     let a = l.args in
     c.in_columns.result ≡ stands a.party (parties_of a.version (point_at a.register.now l.loop-i.i))
 row c =
