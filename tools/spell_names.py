@@ -109,7 +109,7 @@ def spelled(text, names, both):
             before, after = text[: found.start()], text[found.end() :]
             line = before[before.rfind("\n") + 1 :]
             is_field = (before.endswith(".") and not before.endswith("..")) or re.fullmatch(r" +pub ", line) and after.startswith(" :") and in_record(before)
-            is_field = is_field or (re.match(r" = ", after) and re.search(r"(?:\{|;|^) *$", line) and "let" not in line[-6:])
+            is_field = is_field or re.match(r" = ", after) and re.search(r"(?:\{|;)\s*(?:--[^\n]*\s*)*$", before)
             if is_field and not re.search(r"\buse\b[^;\n]*$", line):
                 return it.replace("-", "_")
         return it

@@ -67,7 +67,7 @@ module _ {shown : Shown} {calendar readings : List ℕ} {book : Book} (s : Shows
 
   pub own-window : own_window book shown.e ≡ window_in readings (origin_of shown.c shown.e.point) (start shown.c shown.e)
   unfolding own_window
-  own_window = window-at (start book.calendar shown.e) ∙ ap (window_in readings (origin_of shown.c shown.e.point)) start-at
+  own-window = window-at (start book.calendar shown.e) ∙ ap (window_in readings (origin_of shown.c shown.e.point)) start-at
 
   pub day-window : (d : ℕ) → day_window book shown.e d ≡ window_in readings (origin_of shown.c shown.e.point) (reference shown.c shown.e d 0)
   unfolding day_window

@@ -79,7 +79,7 @@ counts_of = (refl, refl, refl)
 
 calendar-is : calendar_section march ≡ calendar
 unfolding march header calendar
-calendar_is = refl
+calendar-is = refl
 
 table_is : table_section march ≡ table
 unfolding march header calendar table
@@ -87,11 +87,11 @@ table_is = refl
 
 register-is : register_section march ≡ register
 unfolding march header calendar table register
-register_is = refl
+register-is = refl
 
 readings-is : reading_section march ≡ readings
 unfolding march header calendar table register
-readings_is = take_at readings engagements 12272 readings-length
+readings-is = take_at readings engagements 12272 readings-length
 
 sixteen : take 16 engagements ≡ engagements
 unfolding engagements
@@ -99,7 +99,7 @@ sixteen = refl
 
 engagements-is : engagement_section march ≡ engagements
 unfolding march header calendar table register
-engagements_is = ap (take 16) (drop_at readings engagements 12272 readings-length) ∙ sixteen
+engagements-is = ap (take 16) (drop_at readings engagements 12272 readings-length) ∙ sixteen
 
 parts : Parts march 1 month 1 1 calendar table register readings engagements
 parts =

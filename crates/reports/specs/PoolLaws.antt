@@ -62,7 +62,7 @@ header-good = rw pool-length refl
 
 calendar-is : calendar_section pool ≡ calendar
 unfolding pool header calendar
-calendar_is = refl
+calendar-is = refl
 
 table_is : table_section pool ≡ table
 unfolding pool header calendar table
@@ -70,11 +70,11 @@ table_is = refl
 
 register-is : register_section pool ≡ register
 unfolding pool header calendar table register
-register_is = refl
+register-is = refl
 
 readings-is : reading_section pool ≡ readings
 unfolding pool header calendar table register
-readings_is = take_at readings engagements 34560 readings-length
+readings-is = take_at readings engagements 34560 readings-length
 
 all-engagements : take 48 engagements ≡ engagements
 unfolding engagements
@@ -82,7 +82,7 @@ all-engagements = refl
 
 engagements-is : engagement_section pool ≡ engagements
 unfolding pool header calendar table register
-engagements_is = ap (take 48) (drop_at readings engagements 34560 readings-length) ∙ all-engagements
+engagements-is = ap (take 48) (drop_at readings engagements 34560 readings-length) ∙ all-engagements
 
 february : Calendar
 february = record { year = 2021; month = 2; lead = 2; clock = Same }

@@ -49,7 +49,7 @@ readings-length = ap (λ n. suc (suc (suc (suc n)))) (length-replicate {A = ℕ}
 
 calendar-is : calendar_section small ≡ calendar
 unfolding small header calendar
-calendar_is = refl
+calendar-is = refl
 
 table_is : table_section small ≡ table
 unfolding small header calendar table
@@ -57,11 +57,11 @@ table_is = refl
 
 register-is : register_section small ≡ register
 unfolding small header calendar table register
-register_is = refl
+register-is = refl
 
 readings-is : reading_section small ≡ readings
 unfolding small header calendar table register
-readings_is = take_at readings engagements 11136 readings-length
+readings-is = take_at readings engagements 11136 readings-length
 
 sixteen : take 16 engagements ≡ engagements
 unfolding engagements
@@ -69,7 +69,7 @@ sixteen = refl
 
 engagements-is : engagement_section small ≡ engagements
 unfolding small header calendar table register
-engagements_is = ap (take 16) (drop_at readings engagements 11136 readings-length) ∙ sixteen
+engagements-is = ap (take 16) (drop_at readings engagements 11136 readings-length) ∙ sixteen
 
 -- ---- the month, of which no day has another length
 

@@ -16,14 +16,14 @@ pub returns-then-not-is_name_byte : goal.returns-then-not-is_name_byte
 returns-then-not-is_name_byte c =
     let l = c.loop-p in
     let s = c.args.s.now in
-    omega (arith, l.invariant.1, ap length (span-stop name_byte s l.p (search rules) (sym c.is_name_byte.ensures ∙ not-true _ c.if-not-is_name_byte.true)))
+    omega (arith, l.invariant.1, ap length (span-stop name_byte s l.p (search rules) (sym c.is_name_byte.ensures ∙ c.if-not-is_name_byte.true)))
 
 pub loop-p-preserved : goal.loop-p-preserved
 loop-p-preserved c =
     let l = c.loop-p in
     let s = c.args.s.now in (
       search rules,
-      omega (arith, l.invariant.1, ap length (span-step name_byte s l.p (search rules) (sym c.is_name_byte.ensures ∙ not-false _ c.if-not-is_name_byte.false))),
+      omega (arith, l.invariant.1, ap length (span-step name_byte s l.p (search rules) (sym c.is_name_byte.ensures ∙ c.if-not-is_name_byte.false))),
     )
 
 pub returns : goal.returns

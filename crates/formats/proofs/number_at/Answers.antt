@@ -49,20 +49,20 @@ pub returns-then-not-is_digit : goal.returns-then-not-is_digit
 returns-then-not-is_digit c =
     let a = c.args in
     not_there (number_parse a.stop a.max) a.s.now a.at 0
-    (number_step a.stop a.max a.s.now a.at (search rules) ∙ rw (sym c.is_digit.ensures ∙ not-true _ c.if-not-is_digit.true))
+    (number_step a.stop a.max a.s.now a.at (search rules) ∙ rw (sym c.is_digit.ensures ∙ c.if-not-is_digit.true))
 
 pub overflow_sub-acc : goal.overflow_sub-acc
-overflow_sub-acc c = (digit-is _ (sym c.is_digit.ensures ∙ not-false _ c.if-not-is_digit.false)).lo
+overflow_sub-acc c = (digit-is _ (sym c.is_digit.ensures ∙ c.if-not-is_digit.false)).lo
 
 pub overflow_cast-acc : goal.overflow_cast-acc
 overflow_cast-acc c =
     let a = c.args in
-    omega (arith, digit-is (get_or a.s.now a.at 0) (sym c.is_digit.ensures ∙ not-false _ c.if-not-is_digit.false))
+    omega (arith, digit-is (get_or a.s.now a.at 0) (sym c.is_digit.ensures ∙ c.if-not-is_digit.false))
 
 pub loop-p-init : goal.loop-p-init
 loop-p-init c =
     let a = c.args in
-    let is = sym c.is_digit.ensures ∙ not-false _ c.if-not-is_digit.false in
+    let is = sym c.is_digit.ensures ∙ c.if-not-is_digit.false in
     (search rules, omega (arith, digit-is (get_or a.s.now a.at 0) is), number_step a.stop a.max a.s.now a.at (search rules) ∙ rw is)
 
 pub returns-then-x-stop : goal.returns-then-x-stop
@@ -73,41 +73,41 @@ returns-then-x-stop c =
 pub returns-then-not-is_digit-2 : goal.returns-then-not-is_digit-2
 returns-then-not-is_digit-2 c =
     let l = c.before.before.before.before.before in
-    none l (step l (search rules) ∙ rw (ne_eqb _ _ c.if-x-stop.false, (sym c.is_digit-in-loop-p.ensures ∙ not-true _ c.if-not-is_digit-2.true)))
+    none l (step l (search rules) ∙ rw (ne_eqb _ _ c.if-x-stop.false, (sym c.is_digit-in-loop-p.ensures ∙ c.if-not-is_digit-2.true)))
 
 pub overflow_sub-d : goal.overflow_sub-d
-overflow_sub-d c = (digit-is _ (sym c.is_digit-in-loop-p.ensures ∙ not-false _ c.if-not-is_digit-2.false)).lo
+overflow_sub-d c = (digit-is _ (sym c.is_digit-in-loop-p.ensures ∙ c.if-not-is_digit-2.false)).lo
 
 pub overflow_cast-d : goal.overflow_cast-d
-overflow_cast-d c = omega (arith, digit-is (x c.before.before.before.before.before) (sym c.is_digit-in-loop-p.ensures ∙ not-false _ c.if-not-is_digit-2.false))
+overflow_cast-d c = omega (arith, digit-is (x c.before.before.before.before.before) (sym c.is_digit-in-loop-p.ensures ∙ c.if-not-is_digit-2.false))
 
 pub returns-then-acc-eq0 : goal.returns-then-acc-eq0
 returns-then-acc-eq0 c =
     let l = c.before.before.before.before.before.before in
-    none l (step l (search rules) ∙ rw (ne_eqb _ _ c.if-x-stop.false, (sym c.is_digit-in-loop-p.ensures ∙ not-false _ c.if-not-is_digit-2.false), le-ltb 0 l.loop-p.acc (omega arith)))
+    none l (step l (search rules) ∙ rw (ne_eqb _ _ c.if-x-stop.false, (sym c.is_digit-in-loop-p.ensures ∙ c.if-not-is_digit-2.false), le-ltb 0 l.loop-p.acc (omega arith)))
 
 pub overflow_sub-max : goal.overflow_sub-max
-overflow_sub-max c = omega (arith, digit-is (x c.before.before.before.before.before.before) (sym c.is_digit-in-loop-p.ensures ∙ not-false _ c.if-not-is_digit-2.false))
+overflow_sub-max c = omega (arith, digit-is (x c.before.before.before.before.before.before) (sym c.is_digit-in-loop-p.ensures ∙ c.if-not-is_digit-2.false))
 
 pub returns-then-max-d : goal.returns-then-max-d
 returns-then-max-d c =
     let l = c.before.before.before.before.before.before.before in
-    let d = digit-is (x l) (sym c.is_digit-in-loop-p.ensures ∙ not-false _ c.if-not-is_digit-2.false) in
-    none l (step l (search rules) ∙ rw (ne_eqb _ _ c.if-x-stop.false, (sym c.is_digit-in-loop-p.ensures ∙ not-false _ c.if-not-is_digit-2.false), lt-ltb 0 l.loop-p.acc (omega arith), lt-leb (l.loop-p.acc * 10 + (x l - 48)) (max l) (omega arith)))
+    let d = digit-is (x l) (sym c.is_digit-in-loop-p.ensures ∙ c.if-not-is_digit-2.false) in
+    none l (step l (search rules) ∙ rw (ne_eqb _ _ c.if-x-stop.false, (sym c.is_digit-in-loop-p.ensures ∙ c.if-not-is_digit-2.false), lt-ltb 0 l.loop-p.acc (omega arith), lt-leb (l.loop-p.acc * 10 + (x l - 48)) (max l) (omega arith)))
 
 pub overflow_mul-acc : goal.overflow_mul-acc
-overflow_mul-acc c = omega (arith, digit-is (x c.before.before.before.before.before.before.before) (sym c.is_digit-in-loop-p.ensures ∙ not-false _ c.if-not-is_digit-2.false))
+overflow_mul-acc c = omega (arith, digit-is (x c.before.before.before.before.before.before.before) (sym c.is_digit-in-loop-p.ensures ∙ c.if-not-is_digit-2.false))
 
 pub overflow_add-acc : goal.overflow_add-acc
-overflow_add-acc c = omega (arith, digit-is (x c.before.before.before.before.before.before.before) (sym c.is_digit-in-loop-p.ensures ∙ not-false _ c.if-not-is_digit-2.false))
+overflow_add-acc c = omega (arith, digit-is (x c.before.before.before.before.before.before.before) (sym c.is_digit-in-loop-p.ensures ∙ c.if-not-is_digit-2.false))
 
 pub loop-p-preserved : goal.loop-p-preserved
 loop-p-preserved c =
     let l = c.before.before.before.before.before.before.before in
-    let d = digit-is (x l) (sym c.is_digit-in-loop-p.ensures ∙ not-false _ c.if-not-is_digit-2.false) in (
+    let d = digit-is (x l) (sym c.is_digit-in-loop-p.ensures ∙ c.if-not-is_digit-2.false) in (
       search rules,
       omega arith,
-      step l (search rules) ∙ rw (ne_eqb _ _ c.if-x-stop.false, (sym c.is_digit-in-loop-p.ensures ∙ not-false _ c.if-not-is_digit-2.false), lt-ltb 0 l.loop-p.acc (omega arith), le-leb (l.loop-p.acc * 10 + (x l - 48)) (max l) (omega arith)),
+      step l (search rules) ∙ rw (ne_eqb _ _ c.if-x-stop.false, (sym c.is_digit-in-loop-p.ensures ∙ c.if-not-is_digit-2.false), lt-ltb 0 l.loop-p.acc (omega arith), le-leb (l.loop-p.acc * 10 + (x l - 48)) (max l) (omega arith)),
     )
 
 pub returns : goal.returns

@@ -9,16 +9,16 @@ pub returns-then-not-matches : goal.returns-then-not-matches
 returns-then-not-matches c =
     let a = c.args in
     let m = c.m-1.given in
-    rw m.1 (tag-none a.t.now a.s.now m.0.0 (sym c.matches.ensures ∙ not-true _ c.if-not-matches.true))
+    rw m.1 (tag-none a.t.now a.s.now m.0.0 (sym c.matches.ensures ∙ c.if-not-matches.true))
 
 pub overflow_add-result : goal.overflow_add-result
 overflow_add-result c =
     let a = c.args in
     let m = c.m-1.given in
-    omega (arith, tag-room a.t.now a.s.now m.0.0 (rw m.1 at c.requires) (sym c.matches.ensures ∙ not-false _ c.if-not-matches.false))
+    omega (arith, tag-room a.t.now a.s.now m.0.0 (rw m.1 at c.requires) (sym c.matches.ensures ∙ c.if-not-matches.false))
 
 pub returns : goal.returns
 returns c =
     let a = c.args in
     let m = c.m-1.given in
-    rw m.1 (tag-there a.t.now a.s.now m.0.0 (rw m.1 at c.requires) (sym c.matches.ensures ∙ not-false _ c.if-not-matches.false))
+    rw m.1 (tag-there a.t.now a.s.now m.0.0 (rw m.1 at c.requires) (sym c.matches.ensures ∙ c.if-not-matches.false))

@@ -5,18 +5,18 @@ use Rattle.moments.proofs.is_real.Goals as goal
 
 pub returns-then-not-real_date : goal.returns-then-not-real_date
 unfolding real
-returns-then-not-real_date c = rw (← c.real_date.ensures, not-true c.real_date.result c.if-not-real_date.true)
+returns-then-not-real_date c = rw (← c.real_date.ensures, c.if-not-real_date.true)
 
 pub returns-then-not-real_time : goal.returns-then-not-real_time
 unfolding real
 returns-then-not-real_time c =
     let date = c.before.before.before in
-    rw (← date.real_date.ensures, not-false date.real_date.result c.if-not-real_date.false, ← c.real_time.ensures, not-true c.real_time.result c.if-not-real_time.true)
+    rw (← date.real_date.ensures, c.if-not-real_date.false, ← c.real_time.ensures, c.if-not-real_time.true)
 
 pub returns : goal.returns
 unfolding real
 returns c =
     let time = c.before.before in
     let date = time.before.before in
-    rw (← date.real_date.ensures, not-false date.real_date.result time.if-not-real_date.false, ← time.real_time.ensures, not-false time.real_time.result c.if-not-real_time.false)
+    rw (← date.real_date.ensures, time.if-not-real_date.false, ← time.real_time.ensures, c.if-not-real_time.false)
     c.is_Within.ensures

@@ -17,7 +17,7 @@ returns-then-not-is_real c =
     let read = tested.before in
     sym
     (not-real read.args.s.now read.if-s-ne29.false
-    (rw (← read.parts_of-m.ensures, ← tested.is_real.ensures) (not-true tested.is_real.result c.if-not-is_real.true)))
+    (rw (← read.parts_of-m.ensures, ← tested.is_real.ensures) (c.if-not-is_real.true)))
 
 -- where the moment is real, what is left to judge is the form
 judged : (c : After-matches) → moment_of c.args.s.now ≡ pick_read c.matches.result (Real c.parts_of-m.result)
@@ -26,7 +26,7 @@ judged c =
     let tested = written.before.before.before in
     let read = tested.before in
     let s = read.args.s.now in
-    let is-real : real (parts s) ≡ true = rw (← read.parts_of-m.ensures, ← tested.is_real.ensures) (not-false tested.is_real.result written.if-not-is_real.false) in
+    let is-real : real (parts s) ≡ true = rw (← read.parts_of-m.ensures, ← tested.is_real.ensures) (written.if-not-is_real.false) in
     rw (c.matches.ensures, written.write_moment.ensures.list, form-is _ read.parts_of-m.result refl, read.parts_of-m.ensures)
     (by_form s read.if-s-ne29.false is-real)
 

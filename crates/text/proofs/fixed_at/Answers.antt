@@ -13,7 +13,6 @@ use Rattle.text.specs.declared.Number.TheVariants.{Value, NotDigits}
 use Rattle.text.specs.Decimal.{digit, digits, value_from, fixed_at}
 use Rattle.text.specs.DecimalLaws.{digit-is, above_zero, above-push, below-within}
 use Rattle.text.proofs.fixed_at.Invariants.{number_from, part}
-use Rattle.text.proofs.fixed_at.Goals.{At-loop-i}
 use Rattle.text.proofs.fixed_at.Goals as goal
 
 module _ (s : List ℕ) (at n : ℕ) where
@@ -48,29 +47,6 @@ module _ (s : List ℕ) (at n : ℕ) where
       let l : length (part s at n) ≡ n = length-take-le n (drop at s) (omega (arith, length-drop at s)) in
       ap (number_from acc) (drop_of_length-le (part s at n) {i = i} (omega arith))
 
-abbrev S : At-loop-i → List ℕ
-S l = l.args.s.now
-
-abbrev A : At-loop-i → ℕ
-A l = l.args.at
-
-abbrev N : At-loop-i → ℕ
-N l = l.args.n
-
-abbrev byte : At-loop-i → ℕ
-byte l = get_or (S l) (A l + l.loop-i.i) 0
-
-abbrev room : At-loop-i → Type 0
-room l = A l + N l ≤ length (S l)
-
--- the loop's equation, one digit on or ended at a byte that is none
-passed : (l : At-loop-i) → l.loop-i.i < N l → room l → digit (byte l) ≡ true
-    → fixed_at (S l) (A l) (N l) ≡ number_from (l.loop-i.acc * 10 + (byte l - 48)) (drop (l.loop-i.i + 1) (part (S l) (A l) (N l)))
-passed l h k e = l.loop-i.invariant.2 ∙ step (S l) (A l) (N l) l.loop-i.i l.loop-i.acc h k e
-
-ended : (l : At-loop-i) → l.loop-i.i < N l → room l → digit (byte l) ≡ false → fixed_at (S l) (A l) (N l) ≡ NotDigits
-ended l h k e = l.loop-i.invariant.2 ∙ stop (S l) (A l) (N l) l.loop-i.i l.loop-i.acc h k e
-
 pub returns-then-s-n : goal.returns-then-s-n
 returns-then-s-n c = sym (short c.args.s.now c.args.at c.args.n (omega arith))
 
@@ -81,7 +57,7 @@ pub loop-i-init : goal.loop-i-init
 loop-i-init c = (search rules, above_zero 0, begin c.args.s.now c.args.at c.args.n (omega arith))
 
 pub returns-then-not-is_digit : goal.returns-then-not-is_digit
-returns-then-not-is_digit c = sym (ended c.before.before.before.before (search rules) (omega arith) (sym c.is_digit.ensures ∙ not-true _ c.if-not-is_digit.true))
+returns-then-not-is_digit c = sym (c.loop-i.invariant.2 ∙ stop c.args.s.now c.args.at c.args.n c.loop-i.i c.loop-i.acc (search rules) (omega arith) (sym c.is_digit.ensures ∙ c.if-not-is_digit.true))
 
 pub overflow_mul-acc : goal.overflow_mul-acc
 overflow_mul-acc c =
@@ -89,25 +65,24 @@ overflow_mul-acc c =
     omega (arith, below-within 17 l.i l.acc (search rules) l.invariant.1)
 
 pub overflow_sub-acc : goal.overflow_sub-acc
-overflow_sub-acc c = (digit-is (byte c.before.before.before.before) (sym c.is_digit.ensures ∙ not-false _ c.if-not-is_digit.false)).lo
+overflow_sub-acc c = (digit-is (get_or c.args.s.now (c.args.at + c.loop-i.i) 0) (sym c.is_digit.ensures ∙ c.if-not-is_digit.false)).lo
 
 pub overflow_cast-acc : goal.overflow_cast-acc
-overflow_cast-acc c = omega (arith, digit-is (byte c.before.before.before.before) (sym c.is_digit.ensures ∙ not-false _ c.if-not-is_digit.false))
+overflow_cast-acc c = omega (arith, digit-is (get_or c.args.s.now (c.args.at + c.loop-i.i) 0) (sym c.is_digit.ensures ∙ c.if-not-is_digit.false))
 
 pub overflow_add-acc : goal.overflow_add-acc
 overflow_add-acc c =
     let l = c.loop-i in
-    let d = digit-is (byte c.before.before.before.before) (sym c.is_digit.ensures ∙ not-false _ c.if-not-is_digit.false) in
+    let d = digit-is (get_or c.args.s.now (c.args.at + c.loop-i.i) 0) (sym c.is_digit.ensures ∙ c.if-not-is_digit.false) in
     omega (arith, below-within 17 l.i l.acc (search rules) l.invariant.1)
 
 pub loop-i-preserved : goal.loop-i-preserved
 loop-i-preserved c =
-    let l = c.before.before.before.before in
-    let is : digit (byte l) ≡ true = sym c.is_digit.ensures ∙ not-false _ c.if-not-is_digit.false in
-    let d = digit-is (byte l) is in
-    (search rules, above-push l.loop-i.i l.loop-i.acc (byte l - 48) (omega arith) ∙ l.loop-i.invariant.1, passed l (search rules) (omega arith) is)
+    let byte = get_or c.args.s.now (c.args.at + c.loop-i.i) 0 in
+    let is : digit byte ≡ true = sym c.is_digit.ensures ∙ c.if-not-is_digit.false in
+    let d = digit-is byte is in
+    (search rules, above-push c.loop-i.i c.loop-i.acc (byte - 48) (omega arith) ∙ c.loop-i.invariant.1, c.loop-i.invariant.2 ∙ step c.args.s.now c.args.at c.args.n c.loop-i.i c.loop-i.acc (search rules) (omega arith) is)
 
 pub returns : goal.returns
 returns c =
-    let l = c.before in
-    sym (l.loop-i.invariant.2 ∙ end (S l) (A l) (N l) l.loop-i.i l.loop-i.acc c.loop-i-test.false (omega arith))
+    sym (c.loop-i.invariant.2 ∙ end c.args.s.now c.args.at c.args.n c.loop-i.i c.loop-i.acc c.loop-i-test.false (omega arith))

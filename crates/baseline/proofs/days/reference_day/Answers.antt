@@ -34,7 +34,7 @@ tested c = let s = c.args in
 pub returns-then-not-alike : goal.returns-then-not-alike
 returns-then-not-alike c = (
   omega arith,
-  λ b shows. refers-not shows c.args.day (sym (tested c.before) ∙ not-true _ c.if-not-alike.true),
+  λ b shows. refers-not shows c.args.day (sym (tested c.before) ∙ c.if-not-alike.true),
 )
 
 -- where the day's readings stand
@@ -42,7 +42,7 @@ lies : (s : Start) → DayStands s.args.shown.c-1 s.args.shown.e-1 (length s.arg
 lies s = (stands s.args.shown s.args.calendar.now s.args.readings.now s.requires.0, stands_on s.args.shown s.args.calendar.now s.args.readings.now s.args.day s.requires.0 s.requires.2)
 
 passed : (c : Else-not-alike) → alike c.args.calendar.now c.args.shown c.args.day ≡ true
-passed c = sym (tested c.before) ∙ not-false _ c.if-not-alike.false
+passed c = sym (tested c.before) ∙ c.if-not-alike.false
 
 usual : (c : Else-not-alike) → is_clock_change c.args.shown.c-1 c.args.day ≡ false
 usual c = let s = c.args in

@@ -6,8 +6,8 @@ use Rattle.baseline.proofs.judge.too_few.Goals as goal
 
 pub returns-then-not-looks_back : goal.returns-then-not-looks_back
 returns-then-not-looks_back c = λ b shows.
-    no-days _ _ _ (sym c.looks_back.ensures ∙ not-true _ c.if-not-looks_back.true)
+    no-days _ _ _ (sym c.looks_back.ensures ∙ c.if-not-looks_back.true)
 
 pub returns : goal.returns
 returns c = λ b shows.
-    days-found _ b _ _ _ (sym c.looks_back.ensures ∙ not-false _ c.if-not-looks_back.false) shows.wants (c.rank_days-found.ensures b shows).count
+    days-found _ b _ _ _ (sym c.looks_back.ensures ∙ c.if-not-looks_back.false) shows.wants (c.rank_days-found.ensures b shows).count

@@ -8,7 +8,7 @@ use Rattle.emitter.proofs.laying.lay.Goals as goal
 pub returns-then-not-live : goal.returns-then-not-live
 returns-then-not-live c =
     let a = c.args in
-    laid-dry a.live a.out-1.now a.m-1 a.tag.now c.ahead-next.result (not-true _ c.if-not-live.true) c.ahead-next.ensures
+    laid-dry a.live a.out-1.now a.m-1 a.tag.now c.ahead-next.result (c.if-not-live.true) c.ahead-next.ensures
 
 pub returns-in_default : goal.returns-in_default
 returns-in_default c =
@@ -32,4 +32,4 @@ pub returns : goal.returns
 returns c =
     let a = c.args in
     let m = c.m-1.given in
-    laid-live a.live a.out-1.now a.m-1 m.0.0 a.tag.now c.put.new.0 c.put.result (not-false _ c.if-not-live.false) m.1 c.put.ensures
+    laid-live a.live a.out-1.now a.m-1 m.0.0 a.tag.now c.put.new.0 c.put.result (c.if-not-live.false) m.1 c.put.ensures

@@ -11,7 +11,7 @@ use Rattle.emitter.proofs.laying.lay_fixed.Goals as goal
 pub returns-then-not-live : goal.returns-then-not-live
 returns-then-not-live c =
     let a = c.args in
-    laid-dry a.live a.out-1.now a.m-1 (fixed a.n a.v) c.ahead-next.result (not-true _ c.if-not-live.true) (c.ahead-next.ensures ∙ (ap (λ (k : ℕ). ahead (length a.out-1.now) a.m-1 k) (sym (length-fixed a.n a.v))))
+    laid-dry a.live a.out-1.now a.m-1 (fixed a.n a.v) c.ahead-next.result (c.if-not-live.true) (c.ahead-next.ensures ∙ (ap (λ (k : ℕ). ahead (length a.out-1.now) a.m-1 k) (sym (length-fixed a.n a.v))))
 
 pub returns-in_default : goal.returns-in_default
 returns-in_default c =
@@ -35,4 +35,4 @@ pub returns : goal.returns
 returns c =
     let a = c.args in
     let m = c.m-1.given in
-    laid-live a.live a.out-1.now a.m-1 m.0.0 (fixed a.n a.v) c.put_fixed.new.0 c.put_fixed.result (not-false _ c.if-not-live.false) m.1 c.put_fixed.ensures
+    laid-live a.live a.out-1.now a.m-1 m.0.0 (fixed a.n a.v) c.put_fixed.new.0 c.put_fixed.result (c.if-not-live.false) m.1 c.put_fixed.ensures

@@ -21,18 +21,18 @@ role c =
     c.in_role.ensures ∙ role-in s.args.book.now c.section.result.now s.args.role.kind s.args.role.receiver (passing _ s.requires).passed c.section.ensures
 
 pub returns-then-not-in_role : goal.returns-then-not-in_role
-returns-then-not-in_role c = asked-other _ _ _ _ _ _ (sym (role c.before) ∙ not-true _ c.if-not-in_role.true)
+returns-then-not-in_role c = asked-other _ _ _ _ _ _ (sym (role c.before) ∙ c.if-not-in_role.true)
 
 pub returns-then-not-in_form : goal.returns-then-not-in_form
-returns-then-not-in_form c = asked-malformed _ _ _ _ _ _ (sym (role c.before.before.before) ∙ not-false _ c.if-not-in_role.false) (sym c.in_form.ensures ∙ not-true _ c.if-not-in_form.true)
+returns-then-not-in_form c = asked-malformed _ _ _ _ _ _ (sym (role c.before.before.before) ∙ c.if-not-in_role.false) (sym c.in_form.ensures ∙ c.if-not-in_form.true)
 
 pub row_count-requires : goal.row_count-requires
 row_count-requires c = (passing _ c.requires).passed
 
 pub returns-then-lent-row_count : goal.returns-then-lent-row_count
 returns-then-lent-row_count c =
-    asked-short _ _ _ _ _ _ (sym (role c.before.before.before.before.before) ∙ not-false _ c.if-not-in_role.false) (sym c.in_form.ensures ∙ not-false _ c.if-not-in_form.false) (rw (← c.row_count.ensures.0) c.if-lent-row_count.true)
+    asked-short _ _ _ _ _ _ (sym (role c.before.before.before.before.before) ∙ c.if-not-in_role.false) (sym c.in_form.ensures ∙ c.if-not-in_form.false) (rw (← c.row_count.ensures.0) c.if-lent-row_count.true)
 
 pub returns : goal.returns
 returns c =
-    asked-well _ _ _ _ _ _ (sym (role c.before.before.before.before.before) ∙ not-false _ c.if-not-in_role.false) (sym c.in_form.ensures ∙ not-false _ c.if-not-in_form.false) (rw (← c.row_count.ensures.0) c.if-lent-row_count.false)
+    asked-well _ _ _ _ _ _ (sym (role c.before.before.before.before.before) ∙ c.if-not-in_role.false) (sym c.in_form.ensures ∙ c.if-not-in_form.false) (rw (← c.row_count.ensures.0) c.if-lent-row_count.false)

@@ -50,12 +50,12 @@ column c =
 pub returns-then-not-is_party : goal.returns-then-not-is_party
 returns-then-not-is_party c =
     let a = c.args in
-    sheet-stranger a.book.now a.party a.sums-1.now (passed c.before.before.before.before) (sym (column c.before) ∙ not-true _ c.if-not-is_party.true)
+    sheet-stranger a.book.now a.party a.sums-1.now (passed c.before.before.before.before) (sym (column c.before) ∙ c.if-not-is_party.true)
 
 -- it does
 present : (c : Else-not-is_party) → let a = c.args in
     stands a.party (parties (book_of a.book.now)) ≡ true
-present c = sym (column c.before) ∙ not-false _ c.if-not-is_party.false
+present c = sym (column c.before) ∙ c.if-not-is_party.false
 
 pub sheet_length-count-requires : goal.sheet_length-count-requires
 sheet_length-count-requires c = sound c.before.before.before.before

@@ -11,11 +11,11 @@ use Rattle.judging.proofs.judge.judge_book.Goals as goal
 
 pub returns-then-not-header_good : goal.returns-then-not-header_good
 unfolding refusal_of
-returns-then-not-header_good c = rw (sym c.header_good.ensures ∙ not-true _ c.if-not-header_good.true)
+returns-then-not-header_good c = rw (sym c.header_good.ensures ∙ c.if-not-header_good.true)
 
 -- what the header says, from where it has passed on
 header : (c : Else-not-header_good) → Headed c.args.book.now
-header c = headed c.args.book.now (sym c.header_good.ensures ∙ not-false _ c.if-not-header_good.false)
+header c = headed c.args.book.now (sym c.header_good.ensures ∙ c.if-not-header_good.false)
 
 ranged : (c : After-calendar_of-c) → Ranged c.calendar_of-c.result
 ranged c = subst Ranged (sym c.calendar_of-c.ensures) (header c.before.before).ranged
@@ -32,7 +32,7 @@ pub version_of-version-requires : goal.version_of-version-requires
 version_of-version-requires c = (header c).long
 
 pub calendar_of-c-requires : goal.calendar_of-c-requires
-calendar_of-c-requires c = sym c.header_good.ensures ∙ not-false _ c.if-not-header_good.false
+calendar_of-c-requires c = sym c.header_good.ensures ∙ c.if-not-header_good.false
 
 pub point_count-points-requires : goal.point_count-points-requires
 point_count-points-requires c = (header c.before.before).long
@@ -46,15 +46,15 @@ layout_good-requires c = let h = header c.before.before.before.before in
 
 pub returns-then-not-layout_good : goal.returns-then-not-layout_good
 unfolding refusal_of
-returns-then-not-layout_good c = rw (sym c.header_good.ensures ∙ not-false _ c.if-not-header_good.false, sym (layout c.before) ∙ not-true _ c.if-not-layout_good.true)
+returns-then-not-layout_good c = rw (sym c.header_good.ensures ∙ c.if-not-header_good.false, sym (layout c.before) ∙ c.if-not-layout_good.true)
 
 pub judge_sections-requires : goal.judge_sections-requires
 judge_sections-requires c = let h = header c.before.before.before.before.before.before in
-    (ranged c.before.before.before.before, omega (arith, c.point_count-points.ensures, h.points), omega (arith, c.engagement_count-rows.ensures, h.rows), sym c.layout_good.ensures ∙ not-false _ c.if-not-layout_good.false)
+    (ranged c.before.before.before.before, omega (arith, c.point_count-points.ensures, h.points), omega (arith, c.engagement_count-rows.ensures, h.rows), sym c.layout_good.ensures ∙ c.if-not-layout_good.false)
 
 pub returns : goal.returns
 unfolding refusal_of
 returns c = let book = c.args.book.now in
-    rw (sym c.header_good.ensures ∙ not-false _ c.if-not-header_good.false, sym (layout c.before.before) ∙ not-false _ c.if-not-layout_good.false)
+    rw (sym c.header_good.ensures ∙ c.if-not-header_good.false, sym (layout c.before.before) ∙ c.if-not-layout_good.false)
     (c.judge_sections.ensures
     ∙ (λ i. sections_refusal (c.version_of-version.ensures i) (c.calendar_of-c.ensures i) (c.point_count-points.ensures i) (c.engagement_count-rows.ensures i) (calendar_section book) (table_section book) (register_section book) (reading_section book) (engagement_section book)))

@@ -42,7 +42,7 @@ tables c =
 
 pub returns-then-not-days-table_good : goal.returns-then-not-days-table_good
 unfolding sections_refusal
-returns-then-not-days-table_good c = rw (sym (tables c.before) ∙ not-true _ c.if-not-days-table_good.true)
+returns-then-not-days-table_good c = rw (sym (tables c.before) ∙ c.if-not-days-table_good.true)
 
 pub judge_rows-requires : goal.judge_rows-requires
 judge_rows-requires c =
@@ -55,5 +55,5 @@ unfolding sections_refusal
 returns c =
     let w = c.before.before in
     let a = w.args in
-    rw (sym (tables w) ∙ not-false _ c.if-not-days-table_good.false)
+    rw (sym (tables w) ∙ c.if-not-days-table_good.false)
     (c.judge_rows.ensures ∙ (λ i. rows_refusal a.version a.c a.points a.rows (w.section-register.ensures i) (w.section-readings.ensures i) (w.section-engagements.ensures i)))

@@ -13,11 +13,11 @@ use Rattle.settlement.proofs.rows.source_volume.Goals as goal
 
 pub returns-then-not-splits : goal.returns-then-not-splits
 unfolding source_by
-returns-then-not-splits c = rw (sym c.splits.ensures ∙ not-true _ c.if-not-splits.true)
+returns-then-not-splits c = rw (sym c.splits.ensures ∙ c.if-not-splits.true)
 
 -- what the split goes by: the off-take of baseline and reading
 split : (c : Else-not-splits) → splits c.args.version ≡ true
-split c = sym c.splits.ensures ∙ not-false _ c.if-not-splits.false
+split c = sym c.splits.ensures ∙ c.if-not-splits.false
 
 base-is : (c : After-off_take-read) → c.off_take-base.result ≡ off_take_of (baseline_of c.args.level)
 base-is c = c.off_take-base.ensures ∙ sym (off-take-level c.args.level)

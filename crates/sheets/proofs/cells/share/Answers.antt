@@ -54,7 +54,7 @@ two_is c =
 pub returns-then-not-splits : goal.returns-then-not-splits
 returns-then-not-splits c =
     let a = c.args in
-    two_is c.before.before ∙ sym (gets-two a.version a.party a.point a.source a.fsp a.injection (sym c.splits.ensures ∙ not-true _ c.if-not-splits.true))
+    two_is c.before.before ∙ sym (gets-two a.version a.party a.point a.source a.fsp a.injection (sym c.splits.ensures ∙ c.if-not-splits.true))
 
 -- what the injection column gives, and that all three add up
 injection-is : (c : After-amount-3) → let a = c.args in c.amount-3.result ≡ pick a.point.injectionparty a.party a.injection
@@ -84,4 +84,4 @@ returns c =
     let z : to_z w64 (of_z w64 c.amount-3.result) ≡ c.amount-3.result = search rules in
     rw (two_is c.before.before.before, z, x)
     (ap (λ (y : ℤ). pick a.point.sourceparty a.party a.source +ℤ pick a.point.fspparty a.party a.fsp +ℤ y) (injection-is c)
-    ∙ sym (gets-three a.version a.party a.point a.source a.fsp a.injection (sym c.splits.ensures ∙ not-false _ c.if-not-splits.false)))
+    ∙ sym (gets-three a.version a.party a.point a.source a.fsp a.injection (sym c.splits.ensures ∙ c.if-not-splits.false)))

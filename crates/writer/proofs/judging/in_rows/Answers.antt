@@ -18,12 +18,12 @@ six_at-requires c = omega arith
 pub returns-then-not-six_at : goal.returns-then-not-six_at
 returns-then-not-six_at c =
     let a = c.args in
-    sym (ap (λ (b : Bool). b && behind a.kind a.last a.rows.now 0 (length a.rows.now / 6 - 1)) (sym c.six_at.ensures ∙ not-true _ c.if-not-six_at.true))
+    sym (ap (λ (b : Bool). b && behind a.kind a.last a.rows.now 0 (length a.rows.now / 6 - 1)) (sym c.six_at.ensures ∙ c.if-not-six_at.true))
 
 pub loop-at-init : goal.loop-at-init
 loop-at-init c =
     let a = c.args in
-    let six = sym c.six_at.ensures ∙ not-false _ c.if-not-six_at.false in (
+    let six = sym c.six_at.ensures ∙ c.if-not-six_at.false in (
       omega arith,
       omega arith,
       six,
@@ -38,7 +38,7 @@ pub returns-then-not-six_at-2 : goal.returns-then-not-six_at-2
 returns-then-not-six_at-2 c =
     let a = c.args in
     let l = c.loop-at in
-    sym (l.invariant.3 ∙ behind-not-six a.kind a.last a.rows.now l.at ((length a.rows.now - l.at) / 6 - 1) (omega arith) (sym c.six_at-in-loop-at.ensures ∙ not-true _ c.if-not-six_at-2.true))
+    sym (l.invariant.3 ∙ behind-not-six a.kind a.last a.rows.now l.at ((length a.rows.now - l.at) / 6 - 1) (omega arith) (sym c.six_at-in-loop-at.ensures ∙ c.if-not-six_at-2.true))
 
 pub row_before-requires : goal.row_before-requires
 row_before-requires c =
@@ -46,7 +46,7 @@ row_before-requires c =
     let l = c.loop-at in (
       omega arith,
       six-directions a.kind a.last a.rows.now l.at l.invariant.2,
-      six-directions a.kind a.last a.rows.now (l.at + 6) (sym c.six_at-in-loop-at.ensures ∙ not-false _ c.if-not-six_at-2.false),
+      six-directions a.kind a.last a.rows.now (l.at + 6) (sym c.six_at-in-loop-at.ensures ∙ c.if-not-six_at-2.false),
     )
 
 pub returns-then-not-row_before : goal.returns-then-not-row_before
@@ -54,18 +54,18 @@ returns-then-not-row_before c =
     let a = c.args in
     let l = c.loop-at in
     sym (l.invariant.3 ∙ behind-not-before a.kind a.last a.rows.now l.at ((length a.rows.now - l.at) / 6 - 1) (omega arith)
-    (sym c.six_at-in-loop-at.ensures ∙ not-false _ c.if-not-six_at-2.false) (sym c.row_before.ensures ∙ not-true _ c.if-not-row_before.true))
+    (sym c.six_at-in-loop-at.ensures ∙ c.if-not-six_at-2.false) (sym c.row_before.ensures ∙ c.if-not-row_before.true))
 
 pub loop-at-preserved : goal.loop-at-preserved
 loop-at-preserved c =
     let a = c.args in
     let l = c.loop-at in
-    let six = sym c.six_at-in-loop-at.ensures ∙ not-false _ c.if-not-six_at-2.false in (
+    let six = sym c.six_at-in-loop-at.ensures ∙ c.if-not-six_at-2.false in (
       omega arith,
       omega arith,
       six,
       l.invariant.3 ∙ behind-next a.kind a.last a.rows.now l.at ((length a.rows.now - l.at) / 6 - 1) ((length a.rows.now - (l.at + 6)) / 6 - 1) (omega arith)
-          six (sym c.row_before.ensures ∙ not-false _ c.if-not-row_before.false),
+          six (sym c.row_before.ensures ∙ c.if-not-row_before.false),
     )
 
 pub returns : goal.returns

@@ -30,7 +30,7 @@ pub returns-then-not-is_period : goal.returns-then-not-is_period
 returns-then-not-is_period c =
     let a = c.args in
     sym (rows-some a.kind a.receiver a.year a.month a.rows.now (omega arith) (omega arith) (omega arith)
-    ∙ ap (λ (b : Bool). b && (six_at a.kind (last_position a.year a.month) a.rows.now 0 && behind a.kind (last_position a.year a.month) a.rows.now 0 (length a.rows.now / 6 - 1))) (sym c.is_period.ensures ∙ not-true _ c.if-not-is_period.true))
+    ∙ ap (λ (b : Bool). b && (six_at a.kind (last_position a.year a.month) a.rows.now 0 && behind a.kind (last_position a.year a.month) a.rows.now 0 (length a.rows.now / 6 - 1))) (sym c.is_period.ensures ∙ c.if-not-is_period.true))
 
 pub returns : goal.returns
 returns c =
@@ -38,4 +38,4 @@ returns c =
     c.in_rows.ensures
     ∙ ap (λ (n : ℕ). six_at a.kind n a.rows.now 0 && behind a.kind n a.rows.now 0 (length a.rows.now / 6 - 1)) c.last_position-last.ensures
     ∙ sym (rows-some a.kind a.receiver a.year a.month a.rows.now (omega arith) (omega arith) (omega arith)
-    ∙ ap (λ (b : Bool). b && (six_at a.kind (last_position a.year a.month) a.rows.now 0 && behind a.kind (last_position a.year a.month) a.rows.now 0 (length a.rows.now / 6 - 1))) (sym c.is_period.ensures ∙ not-false _ c.if-not-is_period.false))
+    ∙ ap (λ (b : Bool). b && (six_at a.kind (last_position a.year a.month) a.rows.now 0 && behind a.kind (last_position a.year a.month) a.rows.now 0 (length a.rows.now / 6 - 1))) (sym c.is_period.ensures ∙ c.if-not-is_period.false))
