@@ -7,19 +7,14 @@ use Rattle.formats.proofs.fixed.Goals as goal
 pub returns-in_default-fixed_at : goal.returns-in_default-fixed_at
 returns-in_default-fixed_at c =
     let a = c.args in
-    let m = c.m-1.given in
-    rw m.1 (fixed-none a.s.now m.0.0 a.n (rw m.1 at c.requires.0) (sym c.enum_told-in_default-fixed_at-1.given.1 ∙ c.fixed_at.ensures))
+    rw c.in-At.is (fixed-none a.s.now c.in-At.p a.n (rw c.in-At.is at c.requires.0) c.in_default-fixed_at.ensures)
 
 pub overflow_add-result : goal.overflow_add-result
 overflow_add-result c =
     let a = c.args in
-    let m = c.m-1.given in
-    let v = c.v-1.given in
-    omega (arith, fixed-room a.s.now m.0.0 a.n (rw m.1 at c.requires.0) v.0.0 (sym v.1 ∙ c.fixed_at.ensures))
+    omega (arith, fixed-room a.s.now c.in-At.p a.n (rw c.in-At.is at c.requires.0) c.in-Value.v c.in-Value.ensures)
 
 pub returns : goal.returns
 returns c =
     let a = c.args in
-    let m = c.m-1.given in
-    let v = c.v-1.given in
-    rw m.1 (fixed-there a.s.now m.0.0 a.n (rw m.1 at c.requires.0) v.0.0 (sym v.1 ∙ c.fixed_at.ensures))
+    rw c.in-At.is (fixed-there a.s.now c.in-At.p a.n (rw c.in-At.is at c.requires.0) c.in-Value.v c.in-Value.ensures)

@@ -11,7 +11,7 @@ use Rattle.formats.specs.PlaceLaws.{not_there, span-room, name-short, name-long,
 use Rattle.formats.proofs.name.Goals as goal
 
 pub name_end-e-requires : goal.name_end-e-requires
-name_end-e-requires c = rw c.m-1.given.1 at c.requires
+name_end-e-requires c = rw c.in-At.is at c.requires
 
 pub overflow_sub-n : goal.overflow_sub-n
 overflow_sub-n c = omega (arith, c.name_end-e.ensures)
@@ -19,31 +19,27 @@ overflow_sub-n c = omega (arith, c.name_end-e.ensures)
 pub returns-then-n-least : goal.returns-then-n-least
 returns-then-n-least c =
     let a = c.args in
-    let m = c.m-1.given in
-    let h = rw m.1 at c.requires in
-    rw m.1 (not_there (name_parse name_byte a.least a.most a.stop) a.s.now m.0.0 _
-    (name-short name_byte a.s.now m.0.0 a.least a.most a.stop (omega (arith, c.name_end-e.ensures))))
+    let h = rw c.in-At.is at c.requires in
+    rw c.in-At.is (not_there (name_parse name_byte a.least a.most a.stop) a.s.now c.in-At.p _
+    (name-short name_byte a.s.now c.in-At.p a.least a.most a.stop (omega (arith, c.name_end-e.ensures))))
 
 pub returns-then-most-n : goal.returns-then-most-n
 returns-then-most-n c =
     let a = c.args in
-    let m = c.m-1.given in
-    let h = rw m.1 at c.requires in
-    rw m.1 (not_there (name_parse name_byte a.least a.most a.stop) a.s.now m.0.0 _
-    (name-long name_byte a.s.now m.0.0 a.least a.most a.stop (omega (arith, c.name_end-e.ensures)) (omega (arith, c.name_end-e.ensures))))
+    let h = rw c.in-At.is at c.requires in
+    rw c.in-At.is (not_there (name_parse name_byte a.least a.most a.stop) a.s.now c.in-At.p _
+    (name-long name_byte a.s.now c.in-At.p a.least a.most a.stop (omega (arith, c.name_end-e.ensures)) (omega (arith, c.name_end-e.ensures))))
 
 pub tag-requires : goal.tag-requires
 tag-requires c =
     let a = c.args in
-    let m = c.m-1.given in
-    let h = rw m.1 at c.requires in
-    omega (arith, span-room name_byte a.s.now m.0.0 h, c.name_end-e.ensures)
+    let h = rw c.in-At.is at c.requires in
+    omega (arith, span-room name_byte a.s.now c.in-At.p h, c.name_end-e.ensures)
 
 pub returns : goal.returns
 returns c =
     let a = c.args in
-    let m = c.m-1.given in
-    let h = rw m.1 at c.requires in
+    let h = rw c.in-At.is at c.requires in
     let e = c.name_end-e.ensures in
-    rw m.1 (name-there name_byte a.s.now m.0.0 a.least a.most a.stop c.tag.result (omega (arith, e)) (omega (arith, e))
+    rw c.in-At.is (name-there name_byte a.s.now c.in-At.p a.least a.most a.stop c.tag.result (omega (arith, e)) (omega (arith, e))
     (subst (λ (k : ℕ). Parsed (strip (a.stop ∷ [])) a.s.now (At k) c.tag.result tt) e c.tag.ensures))

@@ -2,4 +2,4 @@
 use Rattle.formats.proofs.number.Goals as goal
 
 pub returns : goal.returns
-returns c = rw c.m-1.given.1 c.number_at.ensures
+returns c = rw c.in-At.is c.number_at.ensures

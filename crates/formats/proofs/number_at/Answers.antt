@@ -16,29 +16,18 @@ use Rattle.formats.specs.declared.Mark.TheVariants.{At, No}
 use Rattle.formats.specs.Numbers.{number_parse, more_parse}
 use Rattle.formats.specs.PlaceInner.{Parsed}
 use Rattle.formats.specs.PlaceLaws.{parsed, not_there, number_short, number_step, more-short, more-step}
-use Rattle.formats.proofs.number_at.Invariants.{stop, max}
-use Rattle.formats.proofs.number_at.Goals.{At-loop-p}
 use Rattle.formats.proofs.number_at.Goals as goal
 
-abbrev S : At-loop-p → List ℕ
-S l = l.args.s.now
-
-abbrev A : At-loop-p → ℕ
-A l = l.args.at
-
-abbrev x : At-loop-p → ℕ
-x l = get_or (S l) l.loop-p.p 0
-
 -- the loop's equation, one byte on
-step : (l : At-loop-p) → l.loop-p.p < length (S l)
-    → number_parse (stop l) (max l) (drop (A l) (S l))
-    ≡ cond (eqb (x l) (stop l)) (got l.loop-p.acc (drop (l.loop-p.p + 1) (S l)))
-    (pick (digit (x l)) (pick (ltb 0 l.loop-p.acc) (pick (leb (l.loop-p.acc * 10 + (x l - 48)) (max l))
-    (more_parse (stop l) (max l) (l.loop-p.acc * 10 + (x l - 48)) (drop (l.loop-p.p + 1) (S l))))))
-step l h = l.loop-p.invariant.2 ∙ more-step (stop l) (max l) (S l) l.loop-p.p l.loop-p.acc h
+step : (s : List ℕ) (at stop max p acc : ℕ) → p < length s → number_parse stop max (drop at s) ≡ more_parse stop max acc (drop p s)
+    → number_parse stop max (drop at s)
+    ≡ cond (eqb (get_or s p 0) stop) (got acc (drop (p + 1) s))
+    (pick (digit (get_or s p 0)) (pick (ltb 0 acc) (pick (leb (acc * 10 + (get_or s p 0 - 48)) max)
+    (more_parse stop max (acc * 10 + (get_or s p 0 - 48)) (drop (p + 1) s)))))
+step s at stop max p acc h e = e ∙ more-step stop max s p acc h
 
-none : (l : At-loop-p) → number_parse (stop l) (max l) (drop (A l) (S l)) ≡ bad → Parsed (number_parse (stop l) (max l)) (S l) (At (A l)) No 0
-none l e = not_there (number_parse (stop l) (max l)) (S l) (A l) 0 e
+none : (s : List ℕ) (at stop max : ℕ) → number_parse stop max (drop at s) ≡ bad → Parsed (number_parse stop max) s (At at) No 0
+none s at stop max e = not_there (number_parse stop max) s at 0 e
 
 pub returns-then-s-at : goal.returns-then-s-at
 returns-then-s-at c =
@@ -67,50 +56,56 @@ loop-p-init c =
 
 pub returns-then-x-stop : goal.returns-then-x-stop
 returns-then-x-stop c =
-    let l = c.before.before.before in
-    parsed (number_parse (stop l) (max l)) (S l) (A l) l.loop-p.acc (l.loop-p.p + 1) (step l (search rules) ∙ rw (eq-eqb _ _ c.if-x-stop.true)) (search rules)
+    let a = c.args in
+    let l = c.loop-p in
+    parsed (number_parse a.stop a.max) a.s.now a.at l.acc (l.p + 1) (step a.s.now a.at a.stop a.max l.p l.acc (search rules) l.invariant.2 ∙ rw (eq-eqb _ _ c.if-x-stop.true)) (search rules)
 
 pub returns-then-not-is_digit-2 : goal.returns-then-not-is_digit-2
 returns-then-not-is_digit-2 c =
-    let l = c.before.before.before.before.before in
-    none l (step l (search rules) ∙ rw (ne_eqb _ _ c.if-x-stop.false, (sym c.is_digit-in-loop-p.ensures ∙ c.if-not-is_digit-2.true)))
+    let a = c.args in
+    let l = c.loop-p in
+    none a.s.now a.at a.stop a.max (step a.s.now a.at a.stop a.max l.p l.acc (search rules) l.invariant.2 ∙ rw (ne_eqb _ _ c.if-x-stop.false, (sym c.is_digit-in-loop-p.ensures ∙ c.if-not-is_digit-2.true)))
 
 pub overflow_sub-d : goal.overflow_sub-d
 overflow_sub-d c = (digit-is _ (sym c.is_digit-in-loop-p.ensures ∙ c.if-not-is_digit-2.false)).lo
 
 pub overflow_cast-d : goal.overflow_cast-d
-overflow_cast-d c = omega (arith, digit-is (x c.before.before.before.before.before) (sym c.is_digit-in-loop-p.ensures ∙ c.if-not-is_digit-2.false))
+overflow_cast-d c = omega (arith, digit-is (get_or c.args.s.now c.loop-p.p 0) (sym c.is_digit-in-loop-p.ensures ∙ c.if-not-is_digit-2.false))
 
 pub returns-then-acc-eq0 : goal.returns-then-acc-eq0
 returns-then-acc-eq0 c =
-    let l = c.before.before.before.before.before.before in
-    none l (step l (search rules) ∙ rw (ne_eqb _ _ c.if-x-stop.false, (sym c.is_digit-in-loop-p.ensures ∙ c.if-not-is_digit-2.false), le-ltb 0 l.loop-p.acc (omega arith)))
+    let a = c.args in
+    let l = c.loop-p in
+    none a.s.now a.at a.stop a.max (step a.s.now a.at a.stop a.max l.p l.acc (search rules) l.invariant.2 ∙ rw (ne_eqb _ _ c.if-x-stop.false, (sym c.is_digit-in-loop-p.ensures ∙ c.if-not-is_digit-2.false), le-ltb 0 l.acc (omega arith)))
 
 pub overflow_sub-max : goal.overflow_sub-max
-overflow_sub-max c = omega (arith, digit-is (x c.before.before.before.before.before.before) (sym c.is_digit-in-loop-p.ensures ∙ c.if-not-is_digit-2.false))
+overflow_sub-max c = omega (arith, digit-is (get_or c.args.s.now c.loop-p.p 0) (sym c.is_digit-in-loop-p.ensures ∙ c.if-not-is_digit-2.false))
 
 pub returns-then-max-d : goal.returns-then-max-d
 returns-then-max-d c =
-    let l = c.before.before.before.before.before.before.before in
-    let d = digit-is (x l) (sym c.is_digit-in-loop-p.ensures ∙ c.if-not-is_digit-2.false) in
-    none l (step l (search rules) ∙ rw (ne_eqb _ _ c.if-x-stop.false, (sym c.is_digit-in-loop-p.ensures ∙ c.if-not-is_digit-2.false), lt-ltb 0 l.loop-p.acc (omega arith), lt-leb (l.loop-p.acc * 10 + (x l - 48)) (max l) (omega arith)))
+    let a = c.args in
+    let l = c.loop-p in
+    let d = digit-is (get_or a.s.now l.p 0) (sym c.is_digit-in-loop-p.ensures ∙ c.if-not-is_digit-2.false) in
+    none a.s.now a.at a.stop a.max (step a.s.now a.at a.stop a.max l.p l.acc (search rules) l.invariant.2 ∙ rw (ne_eqb _ _ c.if-x-stop.false, (sym c.is_digit-in-loop-p.ensures ∙ c.if-not-is_digit-2.false), lt-ltb 0 l.acc (omega arith), lt-leb (l.acc * 10 + (get_or a.s.now l.p 0 - 48)) a.max (omega arith)))
 
 pub overflow_mul-acc : goal.overflow_mul-acc
-overflow_mul-acc c = omega (arith, digit-is (x c.before.before.before.before.before.before.before) (sym c.is_digit-in-loop-p.ensures ∙ c.if-not-is_digit-2.false))
+overflow_mul-acc c = omega (arith, digit-is (get_or c.args.s.now c.loop-p.p 0) (sym c.is_digit-in-loop-p.ensures ∙ c.if-not-is_digit-2.false))
 
 pub overflow_add-acc : goal.overflow_add-acc
-overflow_add-acc c = omega (arith, digit-is (x c.before.before.before.before.before.before.before) (sym c.is_digit-in-loop-p.ensures ∙ c.if-not-is_digit-2.false))
+overflow_add-acc c = omega (arith, digit-is (get_or c.args.s.now c.loop-p.p 0) (sym c.is_digit-in-loop-p.ensures ∙ c.if-not-is_digit-2.false))
 
 pub loop-p-preserved : goal.loop-p-preserved
 loop-p-preserved c =
-    let l = c.before.before.before.before.before.before.before in
-    let d = digit-is (x l) (sym c.is_digit-in-loop-p.ensures ∙ c.if-not-is_digit-2.false) in (
+    let a = c.args in
+    let l = c.loop-p in
+    let d = digit-is (get_or a.s.now l.p 0) (sym c.is_digit-in-loop-p.ensures ∙ c.if-not-is_digit-2.false) in (
       search rules,
       omega arith,
-      step l (search rules) ∙ rw (ne_eqb _ _ c.if-x-stop.false, (sym c.is_digit-in-loop-p.ensures ∙ c.if-not-is_digit-2.false), lt-ltb 0 l.loop-p.acc (omega arith), le-leb (l.loop-p.acc * 10 + (x l - 48)) (max l) (omega arith)),
+      step a.s.now a.at a.stop a.max l.p l.acc (search rules) l.invariant.2 ∙ rw (ne_eqb _ _ c.if-x-stop.false, (sym c.is_digit-in-loop-p.ensures ∙ c.if-not-is_digit-2.false), lt-ltb 0 l.acc (omega arith), le-leb (l.acc * 10 + (get_or a.s.now l.p 0 - 48)) a.max (omega arith)),
     )
 
 pub returns : goal.returns
 returns c =
-    let l = c.before in
-    none l (l.loop-p.invariant.2 ∙ more-short (stop l) (max l) (S l) l.loop-p.p l.loop-p.acc c.loop-p-test.false)
+    let a = c.args in
+    let l = c.loop-p in
+    none a.s.now a.at a.stop a.max (l.invariant.2 ∙ more-short a.stop a.max a.s.now l.p l.acc c.loop-p-test.false)

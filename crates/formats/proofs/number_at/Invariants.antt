@@ -1,7 +1,7 @@
 -- The loop stands at p behind digits that say acc: what is read at `at` is what follows there. The test before the sum keeps it
 -- within max, so that no number of digits wraps.
 use mathlib.Core.Path.{◌≡◌}
-use Prim.Native.Nat.{ℕ, ◌-◌, ◌≤◌}
+use Prim.Native.Nat.{◌-◌, ◌≤◌}
 use lib.ListN.{length, drop}
 use Rattle.formats.specs.Numbers.{number_parse, more_parse}
 use Rattle.formats.proofs.number_at.Given as goal
@@ -11,9 +11,3 @@ invariant-loop-p l = (l.p ≤ length l.s) × (l.acc ≤ l.max) × (number_parse 
 
 abbrev pub decreases-loop-p : goal.decreases-loop-p
 decreases-loop-p l = length l.s - l.p
-
-abbrev pub stop : goal.At-loop-p → ℕ
-stop l = l.args.stop
-
-abbrev pub max : goal.At-loop-p → ℕ
-max l = l.args.max

@@ -1,11 +1,12 @@
 -- `instant` meets its contract: what is read of a real moment keeps every sum in range.
 use mathlib.Core.Path.{◌≡◌, ap}
-use Prim.Native.Nat.{◌-◌, ◌*◌}
+use Prim.Native.Nat.{ℕ, ◌-◌, ◌*◌}
+use Rattle.calendar.specs.Dates.{day_number}
 use Rattle.calendar.specs.DatesLaws.{number-most}
 use Rattle.moments.specs.MomentsLaws.{real-is, real-month, real-day, instant-clock}
 use native.Mathlib.Omega.{arith}
-use Rattle.moments.specs.MomentsInner.{clock, instant}
-use Rattle.moments.proofs.instant.Goals.{After-struct_known-1}
+use Rattle.moments.specs.MomentsInner.{millis, clock, instant}
+use Rattle.moments.specs.declared.Moment.{Moment}
 use Rattle.moments.proofs.instant.Goals as goal
 
 pub day_number-days-requires : goal.day_number-days-requires
@@ -25,15 +26,15 @@ overflow_mul-result c =
     omega (arith, (real-is m c.requires).summer)
 
 -- what the clock shows
-shown : (c : After-struct_known-1) → c.millis-clock.result ≡ clock c.args.m
+shown : (m : Moment) (days r : ℕ) → days ≡ day_number m.year m.month m.day → r ≡ millis days m.hour m.minute m.second m.milli → r ≡ clock m
 unfolding clock
-shown c = rw (c.millis-clock.ensures, c.day_number-days.ensures)
+shown m days r e f = rw (f, e)
 
 pub overflow_sub-result : goal.overflow_sub-result
 overflow_sub-result c =
     let m = c.args.m in
-    omega (arith, shown c, instant-clock m (real-is m c.requires))
+    omega (arith, shown c.args.m c.day_number-days.result c.millis-clock.result c.day_number-days.ensures c.millis-clock.ensures, instant-clock m (real-is m c.requires))
 
 pub returns : goal.returns
 unfolding instant
-returns c = ap (λ n. n - c.args.m.offset * 3600000) (shown c)
+returns c = ap (λ n. n - c.args.m.offset * 3600000) (shown c.args.m c.day_number-days.result c.millis-clock.result c.day_number-days.ensures c.millis-clock.ensures)

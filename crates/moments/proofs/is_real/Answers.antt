@@ -10,13 +10,10 @@ returns-then-not-real_date c = rw (← c.real_date.ensures, c.if-not-real_date.t
 pub returns-then-not-real_time : goal.returns-then-not-real_time
 unfolding real
 returns-then-not-real_time c =
-    let date = c.before.before.before in
-    rw (← date.real_date.ensures, c.if-not-real_date.false, ← c.real_time.ensures, c.if-not-real_time.true)
+    rw (← c.real_date.ensures, c.if-not-real_date.false, ← c.real_time.ensures, c.if-not-real_time.true)
 
 pub returns : goal.returns
 unfolding real
 returns c =
-    let time = c.before.before in
-    let date = time.before.before in
-    rw (← date.real_date.ensures, time.if-not-real_date.false, ← time.real_time.ensures, c.if-not-real_time.false)
-    c.is_Within.ensures
+    rw (← c.real_date.ensures, c.if-not-real_date.false, ← c.real_time.ensures, c.if-not-real_time.false)
+    c.is_within.ensures

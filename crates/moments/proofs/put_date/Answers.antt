@@ -29,9 +29,4 @@ put_fixed-requires c = omega arith
 pub returns : goal.returns
 unfolding date_bytes bytes
 returns c =
-    let p5 = c.before.before in
-    let p4 = p5.before.before.before.before in
-    let p3 = p4.before.before.before.before.before in
-    let p2 = p3.before.before.before.before in
-    let p1 = p2.before.before.before.before.before in
-    and_then (and_then (and_then (and_then p1.put_fixed-a.ensures p2.put-b.ensures) p3.put_fixed-c.ensures) p4.put-d.ensures) p5.put_fixed.ensures
+    and_then (and_then (and_then (and_then c.put_fixed-a.ensures c.put-b.ensures) c.put_fixed-c.ensures) c.put-d.ensures) c.put_fixed.ensures

@@ -29,9 +29,4 @@ put-requires c = omega arith
 pub returns : goal.returns
 unfolding tail_bytes bytes
 returns c =
-    let p5 = c.before.before in
-    let p4 = p5.before.before.before.before.before in
-    let p3 = p4.before.before.before.before in
-    let p2 = p3.before.before.before.before.before in
-    let p1 = p2.before.before.before.before in
-    and_then (and_then (and_then (and_then p1.put-a.ensures p2.put_fixed-b.ensures) p3.put-c.ensures) p4.put_fixed-d.ensures) p5.put.ensures
+    and_then (and_then (and_then (and_then c.put-a.ensures c.put_fixed-b.ensures) c.put-c.ensures) c.put_fixed-d.ensures) c.put.ensures

@@ -33,10 +33,4 @@ put_fixed-requires c = omega arith
 pub returns : goal.returns
 unfolding time_bytes bytes
 returns c =
-    let p6 = c.before.before in
-    let p5 = p6.before.before.before.before in
-    let p4 = p5.before.before.before.before.before in
-    let p3 = p4.before.before.before.before in
-    let p2 = p3.before.before.before.before.before in
-    let p1 = p2.before.before.before.before in
-    and_then (and_then (and_then (and_then (and_then p1.put-a.ensures p2.put_fixed-b.ensures) p3.put-c.ensures) p4.put_fixed-d.ensures) p5.put-e.ensures) p6.put_fixed.ensures
+    and_then (and_then (and_then (and_then (and_then c.put-a.ensures c.put_fixed-b.ensures) c.put-c.ensures) c.put_fixed-d.ensures) c.put-e.ensures) c.put_fixed.ensures

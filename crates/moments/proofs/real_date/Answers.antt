@@ -5,8 +5,8 @@ use Rattle.moments.proofs.real_date.Goals as goal
 pub returns-then-is_within : goal.returns-then-is_within
 unfolding real_date
 returns-then-is_within c =
-    rw (← c.is_Within.ensures, c.if-is_within.true, ← c.month_length.ensures) c.is_within-then-is_within.ensures
+    rw (← c.is_within.ensures, c.if-is_within.true, ← c.month_length.ensures) c.is_within-then-is_within.ensures
 
 pub returns-else-is_within : goal.returns-else-is_within
 unfolding real_date
-returns-else-is_within c = rw (← c.is_Within.ensures, c.if-is_within.false)
+returns-else-is_within c = rw (← c.is_within.ensures, c.if-is_within.false)

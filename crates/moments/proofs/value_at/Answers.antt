@@ -4,8 +4,8 @@ use Rattle.moments.proofs.value_at.Goals as goal
 
 pub returns-in_default : goal.returns-in_default
 unfolding value_at
-returns-in_default c = rw (← c.fixed_at.ensures, c.enum_told-1.given.1)
+returns-in_default c = rw (← c.fixed_at.ensures, c.in_default.is)
 
 pub returns : goal.returns
 unfolding value_at
-returns c = rw (← c.fixed_at.ensures, c.v-1.given.1)
+returns c = rw (← c.fixed_at.ensures, c.in-Value.is)

@@ -17,7 +17,4 @@ put_tail-requires c = omega arith
 pub returns : goal.returns
 unfolding moment_bytes
 returns c =
-    let p3 = c.before.before in
-    let p2 = p3.before.before.before.before in
-    let p1 = p2.before.before.before.before in
-    and_then (and_then p1.put_date-a.ensures p2.put_time-b.ensures) p3.put_tail.ensures
+    and_then (and_then c.put_date-a.ensures c.put_time-b.ensures) c.put_tail.ensures

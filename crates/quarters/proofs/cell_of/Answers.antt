@@ -6,11 +6,9 @@ use Rattle.quarters.proofs.cell_of.Goals as goal
 
 pub overflow_sub-result : goal.overflow_sub-result
 overflow_sub-result c =
-    let s = c.before.before in
-    omega (arith, c.in_calendar.ensures, c.day_start.ensures, day-start-mono s.args.c s.args.c.lead s.args.day s.requires.1)
+    omega (arith, c.in_calendar.ensures, c.day_start.ensures, day-start-mono c.args.c c.args.c.lead c.args.day c.requires.1)
 
 pub returns : goal.returns
 unfolding position
 returns c =
-    let s = c.before.before in
-    omega (arith, c.in_calendar.ensures, c.day_start.ensures, day-start-mono s.args.c s.args.c.lead s.args.day s.requires.1)
+    omega (arith, c.in_calendar.ensures, c.day_start.ensures, day-start-mono c.args.c c.args.c.lead c.args.day c.requires.1)

@@ -8,5 +8,4 @@ day_start-requires c = omega (arith, c.requires)
 
 pub overflow_add-result : goal.overflow_add-result
 overflow_add-result c =
-    let s = c.before in
-    omega (arith, c.day_start.ensures, day-start-few s.args.c s.args.day (omega (arith, s.requires)))
+    omega (arith, c.day_start.ensures, day-start-few c.args.c c.args.day (omega (arith, c.requires)))

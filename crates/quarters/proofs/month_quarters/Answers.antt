@@ -10,9 +10,8 @@ use Rattle.quarters.proofs.month_quarters.Goals as goal
 
 pub overflow_sub-result : goal.overflow_sub-result
 overflow_sub-result c =
-    let s = c.before.before in
-    let d = s.args.c in
-    omega (arith, c.quarters_of.ensures, c.day_start.ensures, day-start-mono d d.lead (days_of d) (omega (arith, days-few d s.requires)))
+    let d = c.args.c in
+    omega (arith, c.quarters_of.ensures, c.day_start.ensures, day-start-mono d d.lead (days_of d) (omega (arith, days-few d c.requires)))
 
 pub returns : goal.returns
 unfolding month_quarters

@@ -7,8 +7,7 @@ use Rattle.quarters.proofs.origin_of.Goals as goal
 
 pub overflow_mul-result : goal.overflow_mul-result
 overflow_mul-result c =
-    let s = c.before in
-    omega (arith, origin-few s.args.c s.args.point s.requires.0 s.requires.1, ap (λ (q : ℕ). q * s.args.point) c.quarters_of.ensures)
+    omega (arith, origin-few c.args.c c.args.point c.requires.0 c.requires.1, ap (λ (q : ℕ). q * c.args.point) c.quarters_of.ensures)
 
 pub returns : goal.returns
 returns c = ap (λ (q : ℕ). q * c.args.point) c.quarters_of.ensures

@@ -20,5 +20,4 @@ overflow_mul-result c = let s = c.args in omega (arith, days-most s.year s.month
 pub returns : goal.returns
 unfolding quarters_in_month
 returns c =
-    let b = c.before in
-    rw (ne_eqb b.args.month 3 b.if-month-eq3.false, ne_eqb b.args.month 10 b.if-month-eq10.false, c.month_length.ensures)
+    rw (ne_eqb c.args.month 3 c.if-month-eq3.false, ne_eqb c.args.month 10 c.if-month-eq10.false, c.month_length.ensures)

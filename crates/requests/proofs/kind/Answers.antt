@@ -7,10 +7,8 @@ use Rattle.requests.proofs.kind.Goals as goal
 
 pub returns-in-Of : goal.returns-in-Of
 returns-in-Of c =
-    let k = c.before.before in
-    kind-is _ _ _ _ k.fixed-v.ensures (ap is_there (sym k.kind_numbered-numbered.ensures ∙ ap kind_in c.enum_told-1.given.1))
+    kind-is _ _ _ _ c.fixed-v.ensures (ap is_there (sym c.kind_numbered-numbered.ensures ∙ ap kind_in c.enum_told-1.given.1))
 
 pub returns-in-Unknown : goal.returns-in-Unknown
 returns-in-Unknown c =
-    let k = c.before.before in
-    kind-none _ _ _ _ k.fixed-v.ensures (ap is_there (sym k.kind_numbered-numbered.ensures ∙ ap kind_in c.enum_told-in-Unknown-1.given.1))
+    kind-none _ _ _ _ c.fixed-v.ensures (ap is_there (sym c.kind_numbered-numbered.ensures ∙ ap kind_in c.enum_told-in-Unknown-1.given.1))

@@ -9,6 +9,6 @@ pub returns : goal.returns
 returns c =
     let bits = c.u32_at in
     record {
-      is = c.wrapping_add_u32.ensures ∙ raised-bits bits.result (omega arith) ∙ ap (λ n. raised (reading_of (to_z w32 n))) bits.ensures;
+      is = c.wrapping_add_u32.ensures.value ∙ raised-bits bits.result (omega arith) ∙ ap (λ n. raised (reading_of (to_z w32 n))) bits.ensures;
       range = rw (← bits.ensures) (in-range bits.result (omega arith));
     }

@@ -7,7 +7,4 @@ use Rattle.emitter.proofs.parts.emit_access_supply.Goals as goal
 pub returns : goal.returns
 unfolding opening ending closing bytes
 returns c =
-    let p3 = c.before.before in
-    let p2 = p3.before.before.before.before.before in
-    let p1 = p2.before.before.before.before in
-    laid_then (laid_then p1.lay-a.ensures p2.emit_supply-b.ensures) p3.lay.ensures
+    laid_then (laid_then c.lay-a.ensures c.emit_supply-b.ensures) c.lay.ensures

@@ -1,5 +1,4 @@
 -- The word of the direction, between its tags.
-use native.Mathlib.Omega.{arith}
 use Rattle.text.specs.Ascii.{bytes}
 use Rattle.message.specs.Bytes.{opening, ending, closing}
 use Rattle.emitter.specs.LaidLaws.{laid-is}

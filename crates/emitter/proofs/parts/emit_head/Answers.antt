@@ -8,9 +8,4 @@ use Rattle.emitter.proofs.parts.emit_head.Goals as goal
 pub returns : goal.returns
 unfolding head_bytes opening ending closing bytes
 returns c =
-    let p5 = c.before.before in
-    let p4 = p5.before.before.before.before in
-    let p3 = p4.before.before.before.before.before in
-    let p2 = p3.before.before.before.before in
-    let p1 = p2.before.before.before.before.before in
-    laid_then (laid_then (laid_then (laid_then p1.emit_delivery-a.ensures p2.lay-b.ensures) p3.lay_plain-c.ensures) p4.lay-d.ensures) p5.emit_period.ensures
+    laid_then (laid_then (laid_then (laid_then c.emit_delivery-a.ensures c.lay-b.ensures) c.lay_plain-c.ensures) c.lay-d.ensures) c.emit_period.ensures

@@ -9,11 +9,6 @@ use Rattle.emitter.proofs.parts.emit_origin.Goals as goal
 pub returns : goal.returns
 unfolding opening ending closing bytes
 returns c =
-    let p5 = c.before.before in
-    let p4 = p5.before.before.before.before.before in
-    let p3 = p4.before.before.before.before in
-    let p2 = p3.before.before.before.before.before in
-    let p1 = p2.before.before.before.before in
-    let a = p1.args in
+    let a = c.args in
     laid-is (origin_bytes a.kind a.id.now a.moment.now) (origin-parts a.kind a.id.now a.moment.now)
-    (laid_then (laid_then (laid_then (laid_then p1.emit_root-a.ensures p2.lay-b.ensures) p3.lay-c.ensures) p4.lay-d.ensures) p5.lay.ensures)
+    (laid_then (laid_then (laid_then (laid_then c.emit_root-a.ensures c.lay-b.ensures) c.lay-c.ensures) c.lay-d.ensures) c.lay.ensures)

@@ -6,12 +6,12 @@ use Rattle.emitter.proofs.parts.emit_partner_end.Goals as goal
 
 pub returns-in-Toe01 : goal.returns-in-Toe01
 unfolding partner_end closing ending group bytes
-returns-in-Toe01 c = rw c.enum_told-1.given.1 c.lay.ensures
+returns-in-Toe01 c = rw c.in-Toe01.is c.lay.ensures
 
 pub returns-in-Toe02 : goal.returns-in-Toe02
 unfolding partner_end closing ending group bytes
-returns-in-Toe02 c = rw c.enum_told-in-Toe02-1.given.1 c.lay-in-Toe02.ensures
+returns-in-Toe02 c = rw c.in-Toe02.is c.lay-in-Toe02.ensures
 
 pub returns-in-Toe03 : goal.returns-in-Toe03
 unfolding partner_end closing ending group bytes
-returns-in-Toe03 c = rw c.enum_told-in-Toe03-1.given.1 c.lay-in-Toe03.ensures
+returns-in-Toe03 c = rw c.in-Toe03.is c.lay-in-Toe03.ensures

@@ -12,13 +12,7 @@ use Rattle.emitter.proofs.parts.emit_partner_head.Goals as goal
 pub returns : goal.returns
 unfolding opening ending closing bytes
 returns c =
-    let p5 = c.before.before in
-    let p4 = p5.before.before.before.before.before in
-    let p3 = p4.before.before.before.before in
-    let p2 = p3.before.before.before.before in
-    let p1 = p2.before.before.before.before in
-    let w = p1.before.before in
-    let a = w.args in
-    let digits = laid-is (fixed (digits a.kind) a.number) (ap (λ (n : ℕ). fixed n a.number) w.digits-width.ensures) p2.lay_fixed-b.ensures in
+    let a = c.args in
+    let digits = laid-is (fixed (digits a.kind) a.number) (ap (λ (n : ℕ). fixed n a.number) c.digits-width.ensures) c.lay_fixed-b.ensures in
     laid-is (partner_head a.kind a.number a.supply a.n) (partner-head-parts a.kind a.number a.supply a.n)
-    (laid_then (laid_then (laid_then (laid_then p1.emit_partner_start-a.ensures digits) p3.emit_number_end-c.ensures) p4.lay_plain-d.ensures) p5.lay.ensures)
+    (laid_then (laid_then (laid_then (laid_then c.emit_partner_start-a.ensures digits) c.emit_number_end-c.ensures) c.lay_plain-d.ensures) c.lay.ensures)

@@ -7,8 +7,6 @@ use native.Mathlib.Nat.{sub-zero}
 use native.Mathlib.Omega.{arith}
 use borrow.Author.Tests.{not-true, not-false}
 use Rattle.writer.specs.StepsLaws.{six-directions, behind-none, behind-not-six, behind-not-before, behind-next}
-use native.Mathlib.Nat.{sub-zero}
-use native.Mathlib.Omega.{arith}
 use Rattle.writer.specs.RowsInner.{six_at, behind}
 use Rattle.writer.proofs.judging.in_rows.Goals as goal
 

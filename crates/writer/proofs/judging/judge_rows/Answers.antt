@@ -7,7 +7,6 @@ use native.Mathlib.Omega.{arith}
 use borrow.Author.Tests.{not-true, not-false}
 use Rattle.message.specs.Valid.{last_position}
 use Rattle.writer.specs.StepsLaws.{rows-far, rows-odd, rows_none, rows-some}
-use native.Mathlib.Omega.{arith}
 use Rattle.writer.specs.RowsInner.{six_at, behind}
 use Rattle.writer.proofs.judging.judge_rows.Goals as goal
 

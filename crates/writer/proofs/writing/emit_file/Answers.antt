@@ -12,21 +12,17 @@ use Rattle.writer.proofs.writing.emit_file.Goals as goal
 
 pub emit_partners-b-requires : goal.emit_partners-b-requires
 emit_partners-b-requires c =
-    let s = c.before.before.before.before.before.before.before.before.before.before in
-    let a = s.args in
-    (rows-writable a.title.kind a.title.receiver a.title.year a.title.month a.rows.now s.requires, laid-stands c.emit_file_head-a.ensures)
+    let a = c.args in
+    (rows-writable a.title.kind a.title.receiver a.title.year a.title.month a.rows.now c.requires, laid-stands c.emit_file_head-a.ensures)
 
 pub returns : goal.returns
 returns c =
-    let p3 = c.before.before in
-    let p2 = p3.before.before.before.before in
-    let p1 = p2.before.before.before.before in
-    let a = p1.args in
+    let a = c.args in
     let n = length a.rows.now / 6 in
-    let count = p1.count_partners-count.ensures ∙ sym (partners-count (a.title.year, a.title.month) a.rows.now 0 n) in
+    let count = c.count_partners-count.ensures ∙ sym (partners-count (a.title.year, a.title.month) a.rows.now 0 n) in
     let head =
     laid-is (file_head a.title.kind a.id.now a.moment.now a.title.receiver (length (partners_in (a.title.year, a.title.month) a.rows.now 0 n)))
-    (ap (file_head a.title.kind a.id.now a.moment.now a.title.receiver) count) p1.emit_file_head-a.ensures in
+    (ap (file_head a.title.kind a.id.now a.moment.now a.title.receiver) count) c.emit_file_head-a.ensures in
     laid-is (message_bytes (rows_message a.title.kind a.title.receiver a.title.year a.title.month a.rows.now a.id.now a.moment.now))
     (message-parts a.title.kind a.title.receiver a.title.year a.title.month a.rows.now a.id.now a.moment.now)
-    (laid_then (laid_then head p2.emit_partners-b.ensures) p3.emit_file_end.ensures)
+    (laid_then (laid_then head c.emit_partners-b.ensures) c.emit_file_end.ensures)

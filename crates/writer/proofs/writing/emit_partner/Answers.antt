@@ -11,22 +11,18 @@ use Rattle.emitter.specs.LaidLaws.{laid_then, laid-is, laid-stands}
 use Rattle.writer.proofs.writing.emit_partner.Goals as goal
 
 pub emit_partner_head-a-requires : goal.emit_partner_head-a-requires
-emit_partner_head-a-requires c = let s = c.before.before.before.before.before.before in (writable-first s.requires.1 s.requires.0).supply
+emit_partner_head-a-requires c = (writable-first c.requires.1 c.requires.0).supply
 
 pub emit_series_list-b-requires : goal.emit_series_list-b-requires
 emit_series_list-b-requires c = (c.requires.1, laid-stands c.emit_partner_head-a.ensures)
 
 pub returns : goal.returns
 returns c =
-    let p3 = c.before.before in
-    let p2 = p3.before.before.before.before in
-    let p1 = p2.before.before.before.before in
-    let s = p1.before.before.before.before.before.before.before in
-    let a = s.args in
+    let a = c.args in
     let p = partner_at (a.title.year, a.title.month) a.rows.now a.at a.n in
-    let supply = series-supply (a.title.year, a.title.month) a.rows.now a.at a.n s.requires.0 in
-    let count = p1.count_series-count.ensures ∙ sym (series-count (a.title.year, a.title.month) a.rows.now a.at a.n) in
+    let supply = series-supply (a.title.year, a.title.month) a.rows.now a.at a.n c.requires.0 in
+    let count = c.count_series-count.ensures ∙ sym (series-count (a.title.year, a.title.month) a.rows.now a.at a.n) in
     let head =
     laid-is (partner_head a.title.kind p.number (supply_of p.series) (length p.series)) (ap₂ (λ (d : ℕ) (n : ℕ). partner_head a.title.kind p.number d n) (sym supply) count)
-    p1.emit_partner_head-a.ensures in
-    laid-is (partner_bytes a.title.kind p) (partner-parts a.title.kind p) (laid_then (laid_then head p2.emit_series_list-b.ensures) p3.emit_partner_end.ensures)
+    c.emit_partner_head-a.ensures in
+    laid-is (partner_bytes a.title.kind p) (partner-parts a.title.kind p) (laid_then (laid_then head c.emit_series_list-b.ensures) c.emit_partner_end.ensures)

@@ -12,20 +12,16 @@ use Rattle.writer.proofs.writing.emit_series.Goals as goal
 
 pub emit_series_head-a-requires : goal.emit_series_head-a-requires
 emit_series_head-a-requires c =
-    let s = c.before.before.before.before.before in
-    let p = writable-first s.requires.1 s.requires.0 in
-    (p.supply, p.delivery, s.requires.1.period s.requires.0)
+    let p = writable-first c.requires.1 c.requires.0 in
+    (p.supply, p.delivery, c.requires.1.period c.requires.0)
 
 pub emit_observations-b-requires : goal.emit_observations-b-requires
 emit_observations-b-requires c = (c.requires.1.within, laid-stands c.emit_series_head-a.ensures)
 
 pub returns : goal.returns
 returns c =
-    let p3 = c.before.before in
-    let p2 = p3.before.before.before.before in
-    let p1 = p2.before.before.before.before in
-    let a = p1.args in
+    let a = c.args in
     let s = series_at (a.title.year, a.title.month) a.rows.now a.at a.n in
     let count = ap (λ (n : ℕ). series_head a.title.kind s.supply s.delivery n a.title.year a.title.month) (sym (observations-length a.rows.now a.at a.n)) in
-    let head = laid-is (series_head a.title.kind s.supply s.delivery (length s.observations) a.title.year a.title.month) count p1.emit_series_head-a.ensures in
-    laid-is (series_bytes a.title.kind s) (series-parts a.title.kind s) (laid_then (laid_then head p2.emit_observations-b.ensures) p3.emit_series_end.ensures)
+    let head = laid-is (series_head a.title.kind s.supply s.delivery (length s.observations) a.title.year a.title.month) count c.emit_series_head-a.ensures in
+    laid-is (series_bytes a.title.kind s) (series-parts a.title.kind s) (laid_then (laid_then head c.emit_observations-b.ensures) c.emit_series_end.ensures)

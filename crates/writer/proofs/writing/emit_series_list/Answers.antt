@@ -10,7 +10,7 @@ use Rattle.emitter.specs.LaidLaws.{laying-none, laying-then, laying-all}
 use Rattle.writer.proofs.writing.emit_series_list.Goals as goal
 
 pub loop-left-init : goal.loop-left-init
-loop-left-init c = let s = c.before.before in (s.requires.0, laying-none _ _ _ _ s.requires.1)
+loop-left-init c = (c.requires.0, laying-none _ _ _ _ c.requires.1)
 
 pub directions_run-run-requires : goal.directions_run-run-requires
 directions_run-run-requires c = record { some = omega arith; within = c.loop-left.invariant.0.within }

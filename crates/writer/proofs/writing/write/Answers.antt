@@ -10,7 +10,6 @@ returns-in_default c = wrote-no-kind _ _ _ _ _ _ _ _ (sym c.kind_numbered-number
 
 pub returns : goal.returns
 returns c =
-    let k = c.before.before.before.before.before in
-    let n = k.kind_numbered-numbered in
-    let a = k.args in
-    rw (number-kind a.kind k.numbered-1.given.0.0 (sym n.ensures ∙ ap kind_in k.numbered-1.given.1)) at c.write_kind.ensures
+    let n = c.kind_numbered-numbered in
+    let a = c.args in
+    rw (number-kind a.kind c.numbered-1.given.0.0 (sym n.ensures ∙ ap kind_in c.numbered-1.given.1)) at c.write_kind.ensures

@@ -4,12 +4,10 @@ use Rattle.writer.proofs.writing.write_file.Goals as goal
 
 pub returns-in_default : goal.returns-in_default
 returns-in_default c =
-    let s = c.before.before.before.before.before.before.before.before.before.before in
-    let a = s.args in
-    called-short a.title.kind a.title.receiver a.title.year a.title.month a.rows.now a.id.now a.moment.now a.file-1.now s.requires.0 s.requires.1 c.enum_told-1.given.1 c.emit_file-end.ensures
+    let a = c.args in
+    called-short a.title.kind a.title.receiver a.title.year a.title.month a.rows.now a.id.now a.moment.now a.file-1.now c.requires.0 c.requires.1 c.enum_told-1.given.1 c.emit_file-end.ensures
 
 pub returns : goal.returns
 returns c =
-    let s = c.before.before.before.before.before.before.before.before.before.before.before.before.before.before.before in
-    let a = s.args in
-    called-file a.title.kind a.title.receiver a.title.year a.title.month a.rows.now a.id.now a.moment.now a.file-1.now s.requires.0 s.requires.1 _ c.end-1.given.1 c.emit_file-end.ensures c.emit_file.ensures
+    let a = c.args in
+    called-file a.title.kind a.title.receiver a.title.year a.title.month a.rows.now a.id.now a.moment.now a.file-1.now c.requires.0 c.requires.1 _ c.end-1.given.1 c.emit_file-end.ensures c.emit_file.ensures
