@@ -1,5 +1,5 @@
 -- What 4 bytes say as a reading, and what the raised reading tells of it: its watts plus 2^31, and 0 only where it is missing.
-use Rattle.std.specs.Prelude.{◌≡◌, ℕ, suc, ◌+◌, ◌-◌, ◌%◌, ◌^◌, ◌<◌, Bool, true, false, ℤ, pos, negsuc, ◌==◌, nat_lt, refl}
+use Rattle.std.specs.Prelude.{◌≡◌, ℕ, suc, ◌+◌, ◌%◌, ◌^◌, ◌<◌, Bool, true, false, ℤ, pos, negsuc, ◌==◌, nat_lt, refl}
 use Rattle.std.proofs.Common.{arith, to_z, eqb-true, ltb-true, ltb-false}
 use Rattle.std.specs.Int.{w32}
 use Rattle.std.proofs.lemmas.Bool.{eqb-false}
