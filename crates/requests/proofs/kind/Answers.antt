@@ -7,8 +7,8 @@ use Rattle.requests.proofs.kind.Goals as goal
 
 pub returns-in-Of : goal.returns-in-Of
 returns-in-Of c =
-    kind-is _ _ _ _ c.fixed-v.ensures (ap is_there (sym c.kind_numbered-numbered.ensures ∙ ap kind_in c.enum_told-1.given.1))
+    kind-is _ _ _ _ c.fixed-v.ensures (ap is_there (sym c.kind_numbered-numbered.ensures ∙ ap kind_in c.in-Of.is))
 
 pub returns-in-Unknown : goal.returns-in-Unknown
 returns-in-Unknown c =
-    kind-none _ _ _ _ c.fixed-v.ensures (ap is_there (sym c.kind_numbered-numbered.ensures ∙ ap kind_in c.enum_told-in-Unknown-1.given.1))
+    kind-none _ _ _ _ c.fixed-v.ensures (ap is_there (sym c.kind_numbered-numbered.ensures ∙ ap kind_in c.in-Unknown.is))

@@ -7,22 +7,19 @@ use Rattle.emitter.proofs.laying.ahead.Goals as goal
 
 pub returns-in_default : goal.returns-in_default
 unfolding ahead
-returns-in_default c = rw c.enum_told-1.given.1
+returns-in_default c = rw c.in_default.is
 
 pub returns-then-len-n : goal.returns-then-len-n
 returns-then-len-n c =
     let a = c.args in
-    let m = c.m-1.given in
-    rw m.1 (sym (ahead-over a.len m.0.0 a.n (λ h. omega arith)))
+    rw c.in-At.is (sym (ahead-over a.len c.in-At.p a.n (λ h. omega arith)))
 
 pub returns-then-len-n-2 : goal.returns-then-len-n-2
 returns-then-len-n-2 c =
     let a = c.args in
-    let m = c.m-1.given in
-    rw m.1 (sym (ahead-over a.len m.0.0 a.n (λ h. omega arith)))
+    rw c.in-At.is (sym (ahead-over a.len c.in-At.p a.n (λ h. omega arith)))
 
 pub returns : goal.returns
 returns c =
     let a = c.args in
-    let m = c.m-1.given in
-    rw m.1 (sym (ahead-fits a.len m.0.0 a.n (omega arith)))
+    rw c.in-At.is (sym (ahead-fits a.len c.in-At.p a.n (omega arith)))

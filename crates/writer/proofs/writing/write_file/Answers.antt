@@ -5,9 +5,9 @@ use Rattle.writer.proofs.writing.write_file.Goals as goal
 pub returns-in_default : goal.returns-in_default
 returns-in_default c =
     let a = c.args in
-    called-short a.title.kind a.title.receiver a.title.year a.title.month a.rows.now a.id.now a.moment.now a.file-1.now c.requires.0 c.requires.1 c.enum_told-1.given.1 c.emit_file-end.ensures
+    called-short a.title.kind a.title.receiver a.title.year a.title.month a.rows.now a.id.now a.moment.now a.file.now c.requires.0 c.requires.1 c.in_default.is c.emit_file-end.ensures
 
 pub returns : goal.returns
 returns c =
     let a = c.args in
-    called-file a.title.kind a.title.receiver a.title.year a.title.month a.rows.now a.id.now a.moment.now a.file-1.now c.requires.0 c.requires.1 _ c.end-1.given.1 c.emit_file-end.ensures c.emit_file.ensures
+    called-file a.title.kind a.title.receiver a.title.year a.title.month a.rows.now a.id.now a.moment.now a.file.now c.requires.0 c.requires.1 _ c.in-At.is c.emit_file-end.ensures c.emit_file.ensures
