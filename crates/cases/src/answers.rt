@@ -1,12 +1,14 @@
 // Answers on standard output.
 ghost use Rattle.std.specs.Prelude.{◌≡◌, nat_abs};
 
-pub fn text(t: &[u8]) {
-    io::write_all(1, t);
+use std::io;
+
+pub fn text(rt: &impl Print, t: &[u8]) -> io::Result<()> {
+    rt.write_all(t)
 }
 
-pub fn number(n: u64) {
-    io::print_decimal(1, n);
+pub fn number(rt: &impl Print, n: u64) -> io::Result<()> {
+    rt.print(n)
 }
 
 fn magnitude(z: i64) -> u64
@@ -20,42 +22,37 @@ fn magnitude(z: i64) -> u64
 }
 
 // A number with its sign.
-pub fn signed(z: i64) {
+pub fn signed(rt: &impl Print, z: i64) -> io::Result<()> {
     if z < 0 {
-        io::write_all(1, b"-");
+        text(rt, b"-")?;
     }
-    io::print_decimal(1, magnitude(z));
+    number(rt, magnitude(z))
 }
 
 // The numbers of a row are parted by spaces, and a line feed ends it.
-fn end_number(i: usize) {
+fn end_number(rt: &impl Print, i: usize) -> io::Result<()> {
     if i % 5 == 4 {
-        io::write_all(1, b"\n");
+        text(rt, b"\n")
     } else {
-        io::write_all(1, b" ");
+        text(rt, b" ")
     }
 }
 
 // Settlement rows, five numbers each.
-pub fn rows(numbers: &[i64]) {
-    let mut i = 0;
-    while i < numbers.len() {
-        signed(numbers[i]);
-        end_number(i);
-        i += 1;
+pub fn rows(rt: &impl Print, numbers: &[i64]) -> io::Result<()> {
+    for (i, z) in numbers.iter().enumerate() {
+        signed(rt, *z)?;
+        end_number(rt, i)?;
     }
+    Ok(())
 }
 
 // `refused NUMBER ITEM`
-pub fn refused(number: u64, item: u64) {
-    io::write_all(1, b"refused ");
-    io::print_decimal(1, number);
-    io::write_all(1, b" ");
-    io::print_decimal(1, item);
-    io::write_all(1, b"\n");
+pub fn refused(rt: &impl Print, number: u64, item: u64) -> io::Result<()> {
+    println!(rt; "refused {number} {item}")
 }
 
 // What is said of a line that is no case.
-pub fn no_case() {
-    io::write_all(1, b"no case\n");
+pub fn no_case(rt: &impl Print) -> io::Result<()> {
+    text(rt, b"no case\n")
 }

@@ -1,4 +1,5 @@
 // A lent buffer of numbers or bytes, before a call and after it.
+use std::io;
 
 // The number at each place before a call, and the byte.
 const CANARY: i64 = 77;
@@ -6,41 +7,29 @@ const CANARY: i64 = 77;
 const CANARY_BYTE: u8 = 77;
 
 pub fn prepare(rows: &mut [i64]) {
-    let mut i = 0;
-    while i < rows.len() {
-        rows[i] = CANARY;
-        i += 1;
-    }
+    rows.fill(CANARY);
 }
 
 // Says so if one of these numbers changed.
-pub fn kept(rows: &[i64]) {
-    let mut i = 0;
-    while i < rows.len() {
-        if rows[i] != CANARY {
-            crate::answers::text(b"changed\n");
-            return;
+pub fn kept(rt: &impl Print, rows: &[i64]) -> io::Result<()> {
+    for n in rows {
+        if *n != CANARY {
+            return crate::answers::text(rt, b"changed\n");
         }
-        i += 1;
     }
+    Ok(())
 }
 
 pub fn prepare_bytes(bytes: &mut [u8]) {
-    let mut i = 0;
-    while i < bytes.len() {
-        bytes[i] = CANARY_BYTE;
-        i += 1;
-    }
+    bytes.fill(CANARY_BYTE);
 }
 
 // The same of bytes.
-pub fn kept_bytes(bytes: &[u8]) {
-    let mut i = 0;
-    while i < bytes.len() {
-        if bytes[i] != CANARY_BYTE {
-            crate::answers::text(b"changed\n");
-            return;
+pub fn kept_bytes(rt: &impl Print, bytes: &[u8]) -> io::Result<()> {
+    for b in bytes {
+        if *b != CANARY_BYTE {
+            return crate::answers::text(rt, b"changed\n");
         }
-        i += 1;
     }
+    Ok(())
 }

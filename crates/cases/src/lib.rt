@@ -1,7 +1,8 @@
-// Stored cases: the words of a line, the sparse bytes that they say, and the answers that are printed.
+// Stored cases: the text that is read, the words of a line, the sparse bytes that they say, and the answers that are printed.
 #![tactic(auto)]
 
 pub mod answers;
+pub mod input;
 pub mod lent;
 pub mod sparse;
 pub mod words;

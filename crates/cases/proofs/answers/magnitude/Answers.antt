@@ -11,8 +11,7 @@ use mir.ValLaws.{to_z-of_z}
 use borrow.Author.Rules.{rules}
 use native.Mathlib.Omega.{arith}
 use Rattle.integers.specs.ZLaws.{up, dn, one-0, sum, dif, inside, sfits, le_yes, le-no}
-use Rattle.cases.proofs.answers.magnitude.Statement.{statement}
-use Rattle.cases.proofs.answers.magnitude.Tie as tie
+use Rattle.cases.proofs.answers.magnitude.Goals as goal
 
 size : (z : ℤ) → nat_abs z ≡ up z + dn z
 size (pos n) = omega arith
@@ -51,50 +50,43 @@ module _ (z : ℤ) (f : SFits w64 z) where
           one-0 z,
         )
 
-cast-result : tie.Need-overflow-cast-result
-cast-result c =
-    let z = c.before.args.z in
+pub overflow_cast-result : goal.overflow_cast-result
+overflow_cast-result c =
+    let z = c.args.z in
     let f : SFits w64 z = search rules in
-    rw (to_z-of_z w64 z f) (above z f (rw (to_z-of_z w64 z f) at c.if1.true), size_fits z f)
+    rw (to_z-of_z w64 z f) (above z f (rw (to_z-of_z w64 z f) at c.if-z-ge0.true), size_fits z f)
 
-returns : tie.Need-returns
-returns c = search rules
-
-add-below : tie.Need-overflow-add-below
-add-below c =
-    let z = c.before.args.z in
+pub overflow_add-below : goal.overflow_add-below
+overflow_add-below c =
+    let z = c.args.z in
     let f : SFits w64 z = search rules in
-    let e : le_z (pos 0) z ≡ false = rw (to_z-of_z w64 z f) at c.if1.false in
+    let e : le_z (pos 0) z ≡ false = rw (to_z-of_z w64 z f) at c.if-z-ge0.false in
     rw (to_z-of_z w64 z f) (next_fits z f e)
 
-sub-below : tie.Need-overflow-sub-below
-sub-below c =
-    let z = c.before.args.z in
+pub overflow_sub-below : goal.overflow_sub-below
+overflow_sub-below c =
+    let z = c.args.z in
     let f : SFits w64 z = search rules in
-    let e : le_z (pos 0) z ≡ false = rw (to_z-of_z w64 z f) at c.if1.false in
+    let e : le_z (pos 0) z ≡ false = rw (to_z-of_z w64 z f) at c.if-z-ge0.false in
     rw (to_z-of_z w64 z f, to_z-of_z w64 (z +ℤ pos 1) (next_fits z f e)) (below-fits z f e)
 
-cast-result-2 : tie.Need-overflow-cast-result-2
-cast-result-2 c =
-    let z = c.before.args.z in
+pub overflow_cast-result-2 : goal.overflow_cast-result-2
+overflow_cast-result-2 c =
+    let z = c.args.z in
     let f : SFits w64 z = search rules in
-    let e : le_z (pos 0) z ≡ false = rw (to_z-of_z w64 z f) at c.if1.false in
+    let e : le_z (pos 0) z ≡ false = rw (to_z-of_z w64 z f) at c.if-z-ge0.false in
     rw (to_z-of_z w64 z f, to_z-of_z w64 (z +ℤ pos 1) (next_fits z f e), to_z-of_z w64 (pos 0 -ℤ (z +ℤ pos 1)) (below-fits z f e)) (below-non_neg z f e, size_fits (pos 0 -ℤ (z +ℤ pos 1)) (below-fits z f e))
 
-add-result : tie.Need-overflow-add-result
-add-result c =
-    let z = c.before.args.z in
+pub overflow_add-result : goal.overflow_add-result
+overflow_add-result c =
+    let z = c.args.z in
     let f : SFits w64 z = search rules in
-    let e : le_z (pos 0) z ≡ false = rw (to_z-of_z w64 z f) at c.if1.false in
+    let e : le_z (pos 0) z ≡ false = rw (to_z-of_z w64 z f) at c.if-z-ge0.false in
     rw (to_z-of_z w64 z f, to_z-of_z w64 (z +ℤ pos 1) (next_fits z f e), to_z-of_z w64 (pos 0 -ℤ (z +ℤ pos 1)) (below-fits z f e), below-size z f e) (size_fits z f)
 
-returns-2 : tie.Need-returns-2
-returns-2 c =
-    let z = c.before.args.z in
+pub returns : goal.returns
+returns c =
+    let z = c.args.z in
     let f : SFits w64 z = search rules in
-    let e : le_z (pos 0) z ≡ false = rw (to_z-of_z w64 z f) at c.if1.false in
+    let e : le_z (pos 0) z ≡ false = rw (to_z-of_z w64 z f) at c.if-z-ge0.false in
     rw (to_z-of_z w64 z f, to_z-of_z w64 (z +ℤ pos 1) (next_fits z f e), to_z-of_z w64 (pos 0 -ℤ (z +ℤ pos 1)) (below-fits z f e)) (below-size z f e)
-
-pub magnitude-spec : {M : Type 1} → statement M
-magnitude-spec =
-    tie.close (tie.spec cast-result returns add-below sub-below cast-result-2 add-result returns-2)
