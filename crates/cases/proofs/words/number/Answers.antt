@@ -1,26 +1,10 @@
 -- The word says what its bytes from i on say behind acc. A digit that would not fit ends it: more digits say no less.
-use mathlib.Core.Path.{◌≡◌, sym, ◌∙◌}
-use mathlib.Core.Bool.{true, false}
-use mathlib.Core.List.{List}
-use Prim.Native.Nat.{ℕ, ◌+◌, ◌-◌, ◌*◌, ◌≤◌, ◌<◌}
-use lib.ListN.{length, drop, get_or}
+use mathlib.Core.Path.{sym, ◌∙◌}
 use borrow.Author.Tests.{le-leb, lt-leb}
-use Rattle.text.specs.declared.Number.TheVariants.{NotDigits}
-use Rattle.text.specs.Decimal.{digit}
-use Rattle.cases.specs.WordsInner.{number_from, number_of}
 use Rattle.cases.specs.WordsLaws.{number-large, number_step, number-stop, number-end}
 use borrow.Author.Rules.{rules}
 use native.Mathlib.Omega.{arith}
 use Rattle.cases.proofs.words.number.Goals as goal
-
-begun : (word : List ℕ) → 1 ≤ length word → number_of word ≡ number_from 0 word
-begun word h = rw (le-leb 1 (length word) h)
-
-pub returns-then-word-eq0 : goal.returns-then-word-eq0
-returns-then-word-eq0 c = let e : length c.args.word.now ≡ 0 = c.if-word-eq0.true in rw (lt-leb 1 (length c.args.word.now) (omega arith))
-
-pub loop-i-init : goal.loop-i-init
-loop-i-init c = (search rules, search rules, begun c.args.word.now (omega arith))
 
 -- a byte that is no digit ends the word
 pub returns-then-x-lt48 : goal.returns-then-x-lt48
