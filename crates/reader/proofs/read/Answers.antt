@@ -7,11 +7,11 @@ use Rattle.reader.proofs.read.Goals as goal
 pub returns-in_default : goal.returns-in_default
 returns-in_default c =
     let a = c.args in
-    let r = c.enum_told-1.given in
-    rw r.1 (called-refused a.file.now a.rows-1.now r.0.0 r.0.1.0 (sym r.1 ∙ c.judge-answer.ensures))
+    let r = c.in_default in
+    rw r.is (called-refused a.file.now a.rows.now r.field-0 r.field-1 (sym r.is ∙ c.judge-answer.ensures))
 
 pub returns : goal.returns
 returns c =
     let a = c.args in
-    let f = c.answer-1.given in
-    read-filled a.file.now a.rows-1.now _ f.0.0 (sym f.1 ∙ c.judge-answer.ensures) c.file_read.ensures.1
+    let f = c.in-File in
+    read-filled a.file.now a.rows.now c.file_read.new.out f.said (sym f.is ∙ c.judge-answer.ensures) c.file_read.ensures.1

@@ -4,12 +4,12 @@ use Rattle.reader.proofs.file.end_by.Goals as goal
 
 pub returns-in-Toe01 : goal.returns-in-Toe01
 unfolding bytes
-returns-in-Toe01 c = rw c.enum_told-1.given.1 c.tag_by.ensures
+returns-in-Toe01 c = rw c.in-Toe01.is c.tag_by.ensures
 
 pub returns-in-Toe02 : goal.returns-in-Toe02
 unfolding bytes
-returns-in-Toe02 c = rw c.enum_told-in-Toe02-1.given.1 c.tag_by-in-Toe02.ensures
+returns-in-Toe02 c = rw c.in-Toe02.is c.tag_by-in-Toe02.ensures
 
 pub returns-in-Toe03 : goal.returns-in-Toe03
 unfolding bytes
-returns-in-Toe03 c = rw c.enum_told-in-Toe03-1.given.1 c.tag_by-in-Toe03.ensures
+returns-in-Toe03 c = rw c.in-Toe03.is c.tag_by-in-Toe03.ensures

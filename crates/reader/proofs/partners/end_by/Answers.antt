@@ -10,11 +10,11 @@ use Rattle.reader.proofs.partners.end_by.Goals as goal
 pub returns-then-not-to : goal.returns-then-not-to
 returns-then-not-to c =
     let k = c.keep-to in
-    let m = mark-lost (keep (leb c.args.x.todo.low c.args.x.series.partner) (standing c.args.s.now c.group_end-behind.result)) k.result k.ensures (c.if-not-to.true) in
+    let m = mark-lost (keep (leb c.args.x.todo.low c.args.x.series.partner) (standing c.args.s.now c.group_end-behind.result)) k.result k.ensures (not-true _ c.if-not-to.true) in
     rw c.none_left-todo.ensures (omega arith, rw (← c.group_end-behind.ensures, m) (k.ensures ∙ ap cursor_at m, refl))
 
 pub returns : goal.returns
 returns c =
     let k = c.keep-to in
-    let m = mark-found (keep (leb c.args.x.todo.low c.args.x.series.partner) (standing c.args.s.now c.group_end-behind.result)) k.result k.ensures (c.if-not-to.false) in
+    let m = mark-found (keep (leb c.args.x.todo.low c.args.x.series.partner) (standing c.args.s.now c.group_end-behind.result)) k.result k.ensures (not-false _ c.if-not-to.false) in
     (c.left_behind-todo.ensures.1, rw (← c.group_end-behind.ensures, m) (k.ensures ∙ ap cursor_at m, c.left_behind-todo.ensures.0))

@@ -4,11 +4,8 @@ use Rattle.reader.proofs.partners.head_of.Goals as goal
 
 pub returns-in-Toe01 : goal.returns-in-Toe01
 unfolding bytes
-returns-in-Toe01 c = rw c.enum_told-1.given.1 c.company_head.ensures
+returns-in-Toe01 c = rw c.in-Toe01.is c.company_head.ensures
 
 pub returns-in-Toe02 : goal.returns-in-Toe02
 unfolding bytes
-returns-in-Toe02 c = rw c.enum_told-in-Toe02-1.given.1 c.company_head-in-Toe02.ensures
-
-pub returns-in-Toe03 : goal.returns-in-Toe03
-returns-in-Toe03 c = rw c.enum_told-in-Toe03-1.given.1 c.access_head.ensures
+returns-in-Toe02 c = rw c.in-Toe02.is c.company_head-in-Toe02.ensures

@@ -1,8 +1,0 @@
--- A value with its place is the number with the cursor there, none is a lost one.
-use Rattle.cursor.proofs.read_of.Goals as goal
-
-pub returns-in_default : goal.returns-in_default
-returns-in_default c = rw c.enum_told-1.given.1
-
-pub returns : goal.returns
-returns c = rw c.m-1.given.1
