@@ -15,8 +15,7 @@ u8_at-lead-requires c = let l = (headed c.args.book.now c.requires).long in sear
 
 pub clock_of-clock-requires : goal.clock_of-clock-requires
 clock_of-clock-requires c =
-    let s = c.before.before.before.before in
-    let r = (headed s.args.book.now s.requires).ranged in
+    let r = (headed c.args.book.now c.requires).ranged in
     let y = c.u16_at-year.ensures in
     let m = c.u8_at-month.ensures in
     let l = c.u8_at-lead.ensures in

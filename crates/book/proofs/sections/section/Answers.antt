@@ -12,5 +12,5 @@ pub returns : goal.returns
 returns c =
     let o = c.u32_at-a in
     let n = c.u32_at in
-    let e : o.result-1 + n.result-1 - o.result-1 ≡ n.result-1 = omega arith in
+    let e : o.result + n.result - o.result ≡ n.result = omega arith in
     rw e (ap₂ (λ (m a : ℕ). take m (drop a c.args.book.now)) n.ensures o.ensures)
