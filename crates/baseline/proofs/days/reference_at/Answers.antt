@@ -9,8 +9,7 @@ use Rattle.baseline.proofs.days.reference_at.Goals as goal
 
 pub overflow_add-result : goal.overflow_add-result
 overflow_add-result c =
-    let s = c.before.before in
-    omega (arith, c.day_start.ensures, day-start-few s.args.c s.args.day (omega (arith, s.requires.0)), c.reference_quarter.ensures, reference-near s.args.c s.args.e.day (s.args.e.first + s.args.k), s.requires.1)
+    omega (arith, c.day_start.ensures, day-start-few c.args.c c.args.day (omega (arith, c.requires.0)), c.reference_quarter.ensures, reference-near c.args.c c.args.e.day (c.args.e.first + c.args.k), c.requires.1)
 
 pub returns : goal.returns
 unfolding reference

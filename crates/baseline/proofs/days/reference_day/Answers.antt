@@ -23,8 +23,7 @@ use Rattle.baseline.proofs.days.reference_day.Goals as goal
 
 pub excludes-requires : goal.excludes-requires
 excludes-requires c =
-    let s = c.before.before.before.before.before.before.before.before in
-    omega (arith, (stands s.args.shown s.args.calendar.now s.args.readings.now s.requires.0).early, s.requires.2)
+    omega (arith, (stands c.args.shown c.args.calendar.now c.args.readings.now c.requires.0).early, c.requires.2)
 
 -- the test is that of the definitions
 tested : (c : After-is_clock_change) → (eqb (get_or c.args.calendar.now c.args.day 0) (get_or c.args.calendar.now c.args.shown.e-1.day 0) && (not c.excludes.result && not c.is_clock_change.result)) ≡ alike c.args.calendar.now c.args.shown c.args.day
@@ -71,13 +70,12 @@ unfolding reference
 returns c = (
   c.tally_standing-t.ensures.small,
   λ b shows.
-      let start = c.before.before.before.before.before.before.before.before.before.before.before.before.before.before.before in
-      let s = start.args in
+      let s = c.args in
       let t = c.tally_standing-t in
       refers shows s.day
       (passed c.before.before.before.before)
       t.result
       c.window_good-good.result
-      (subst (λ (o : ℕ). Tallied (standing s.readings.now s.shown.c-1 s.shown.e-1 o s.day) s.shown.e-1.count t.result) start.requires.1 t.ensures)
-      (c.window_good-good.ensures ∙ ap₂ (λ (o k : ℕ). windowed s.shown.point-1.method (window_in s.readings.now o (day_start s.shown.c-1 s.day + k)) && clear s.shown.point-1.method s.shown.c-1 (day_start s.shown.c-1 s.day + k)) start.requires.1 c.reference_quarter-place.ensures),
+      (subst (λ (o : ℕ). Tallied (standing s.readings.now s.shown.c-1 s.shown.e-1 o s.day) s.shown.e-1.count t.result) c.requires.1 t.ensures)
+      (c.window_good-good.ensures ∙ ap₂ (λ (o k : ℕ). windowed s.shown.point-1.method (window_in s.readings.now o (day_start s.shown.c-1 s.day + k)) && clear s.shown.point-1.method s.shown.c-1 (day_start s.shown.c-1 s.day + k)) c.requires.1 c.reference_quarter-place.ensures),
 )

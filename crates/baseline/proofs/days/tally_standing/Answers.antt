@@ -15,45 +15,37 @@ use Rattle.baseline.proofs.days.tally_standing.Goals.{After-reference_at-2}
 use Rattle.baseline.proofs.days.tally_standing.Goals as goal
 
 pub overflow_add-at : goal.overflow_add-at
-overflow_add-at c = let s = c.before.before.before.before in
-    omega (arith, c.reference_at.ensures, s.requires.0.first, s.requires.2, s.requires.3)
+overflow_add-at c = omega (arith, c.reference_at.ensures, c.requires.0.first, c.requires.2, c.requires.3)
 
 pub tally_run-t-requires : goal.tally_run-t-requires
-tally_run-t-requires c = let s = c.before.before.before.before in
-    let m = c.together-n.ensures in
-    (omega (arith, m, c.reference_at.ensures, s.requires.0.first, s.requires.4), omega (arith, m, (two_runs s.args.c s.args.e).most, s.requires.1))
+tally_run-t-requires c = let m = c.together-n.ensures in
+    (omega (arith, m, c.reference_at.ensures, c.requires.0.first, c.requires.4), omega (arith, m, (two_runs c.args.c c.args.e).most, c.requires.1))
 
 pub returns-then-n-count : goal.returns-then-n-count
 returns-then-n-count c =
-    let run = c.before in
-    let s = run.args in
-    let n = run.together-n.ensures in
+    let s = c.args in
+    let n = c.together-n.ensures in
     let all : together s.c s.e ≡ s.e.count = sym n ∙ c.if-n-count.true in
-    subst (λ (l : List Reading). Tallied l s.e.count run.tally_run-t.result)
-    (ap (λ (q : ℕ). in_run s.readings.now (s.origin + q) s.e.count) run.reference_at.ensures ∙ sym (standing-run s.readings.now s.c s.e s.origin s.day all))
-    (subst (λ (m : ℕ). Tallied (in_run s.readings.now (s.origin + run.reference_at.result) m) m run.tally_run-t.result) c.if-n-count.true run.tally_run-t.ensures)
+    subst (λ (l : List Reading). Tallied l s.e.count c.tally_run-t.result)
+    (ap (λ (q : ℕ). in_run s.readings.now (s.origin + q) s.e.count) c.reference_at.ensures ∙ sym (standing-run s.readings.now s.c s.e s.origin s.day all))
+    (subst (λ (m : ℕ). Tallied (in_run s.readings.now (s.origin + c.reference_at.result) m) m c.tally_run-t.result) c.if-n-count.true c.tally_run-t.ensures)
 
 pub reference_at-requires-2 : goal.reference_at-requires-2
-reference_at-requires-2 c = let s = c.before.before.before.before.before.before in
-    (s.requires.0.early, omega (arith, c.together-n.ensures, (two_runs s.args.c s.args.e).most, s.requires.1))
+reference_at-requires-2 c = (c.requires.0.early, omega (arith, c.together-n.ensures, (two_runs c.args.c c.args.e).most, c.requires.1))
 
 -- where the second run lies
 late : (c : After-reference_at-2) → c.reference_at-2.result + (c.args.e.count - c.together-n.result) ≤ quarters_of c.args.c
 late c =
-    let s = c.before.before.before.before.before.before.before in
-    omega (arith, c.reference_at-2.ensures, subst (λ (m : ℕ). reference s.args.c s.args.e s.args.day m + (s.args.e.count - m) ≤ quarters_of s.args.c) (sym c.together-n.ensures) s.requires.0.second)
+    omega (arith, c.reference_at-2.ensures, subst (λ (m : ℕ). reference c.args.c c.args.e c.args.day m + (c.args.e.count - m) ≤ quarters_of c.args.c) (sym c.together-n.ensures) c.requires.0.second)
 
 pub overflow_add-turned : goal.overflow_add-turned
-overflow_add-turned c = let s = c.before.before.before.before.before.before.before in
-    omega (arith, late c, s.requires.2, s.requires.3)
+overflow_add-turned c = omega (arith, late c, c.requires.2, c.requires.3)
 
 pub overflow_sub-count : goal.overflow_sub-count
-overflow_sub-count c = let s = c.before.before.before.before.before.before.before in
-    omega (arith, c.together-n.ensures, (two_runs s.args.c s.args.e).most)
+overflow_sub-count c = omega (arith, c.together-n.ensures, (two_runs c.args.c c.args.e).most)
 
 pub tally_run-u-requires : goal.tally_run-u-requires
-tally_run-u-requires c = let s = c.before.before.before.before.before.before.before in
-    (omega (arith, late c, s.requires.4), omega (arith, s.requires.1))
+tally_run-u-requires c = (omega (arith, late c, c.requires.4), omega (arith, c.requires.1))
 
 pub returns : goal.returns
 returns c =

@@ -15,9 +15,8 @@ is : (c : After-turn_of-turn) → c.turn_of-turn.result ≡ turn (quarters c.arg
 is c = c.turn_of-turn.ensures ∙ ap turn c.quarters.ensures
 
 pub overflow_sub-result : goal.overflow_sub-result
-overflow_sub-result c = let t = c.before.before.before in
-    let e = t.args.e in
-    omega (arith, ltb-true e.first t.turn_of-turn.result (both (ltb e.first t.turn_of-turn.result) (ltb t.turn_of-turn.result (e.first + e.count)) c.if-first-turn.true).0)
+overflow_sub-result c = let e = c.args.e in
+    omega (arith, ltb-true e.first c.turn_of-turn.result (both (ltb e.first c.turn_of-turn.result) (ltb c.turn_of-turn.result (e.first + e.count)) c.if-first-turn.true).0)
 
 pub returns-then-first-turn : goal.returns-then-first-turn
 unfolding together

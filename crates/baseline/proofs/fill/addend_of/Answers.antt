@@ -5,8 +5,7 @@ use native.Mathlib.Omega.{arith}
 use Rattle.baseline.proofs.fill.addend_of.Goals as goal
 
 pub addend_level-requires : goal.addend_level-requires
-addend_level-requires c = let s = c.before.before.before.before in
-    (s.requires.0 c.enum_told-in-Adjusted-1.given.1, s.requires.1, s.requires.2, s.requires.3)
+addend_level-requires c = (c.requires.0 c.enum_told-in-Adjusted-1.given.1, c.requires.1, c.requires.2, c.requires.3)
 
 pub returns-in-LastQuarter : goal.returns-in-LastQuarter
 returns-in-LastQuarter c = let m = c.enum_told-1.given.1 in

@@ -39,20 +39,18 @@ began : (c : After-start_days) → Starts c.args.shown.c-1 c.rank_days.new.1.1.1
 began c = c.start_days.ensures
 
 pub in_calendar-q-requires : goal.in_calendar-q-requires
-in_calendar-q-requires c = let s = c.before.before.before.before.before.before.before.before.before.before.before.before.before.before in
-    (stands s.args.shown s.args.calendar.now s.args.readings.now s.requires.0.fits).early
+in_calendar-q-requires c = (stands c.args.shown c.args.calendar.now c.args.readings.now c.requires.0.fits).early
 
 pub addend_of-add-requires : goal.addend_of-add-requires
 addend_of-add-requires c =
-    let s = c.before.before.before.before.before.before.before.before.before.before.before.before.before.before.before.before.before in
-    let a = s.requires.0 in
-    let m = stands s.args.shown s.args.calendar.now s.args.readings.now a.fits in
+    let a = c.requires.0 in
+    let m = stands c.args.shown c.args.calendar.now c.args.readings.now a.fits in
     let d = c.before.before.before.before.before in
     let r = d.before.before.before.before in
     let keys = r.rank_days.new.1.1.1.0 in
     let starts = d.start_days.new.1.1.1.0 in
-    let begins = start_is s.args.shown.c-1 s.args.shown.e-1 in (
-      λ w. subst_both (λ (o p : ℕ). Lie s.args.readings.now starts o p 24 12 s.args.shown.x) (sym c.origin_of-origin.ensures) (sym c.reference_quarter-place.ensures) (lie-windows a.settled keys starts a.fits (took-at r a.book a.settled) a.fits.x_of_y.ten (roomy r) (began d) w),
+    let begins = start_is c.args.shown.c-1 c.args.shown.e-1 in (
+      λ w. subst_both (λ (o p : ℕ). Lie c.args.readings.now starts o p 24 12 c.args.shown.x) (sym c.origin_of-origin.ensures) (sym c.reference_quarter-place.ensures) (lie-windows a.settled keys starts a.fits (took-at r a.book a.settled) a.fits.x_of_y.ten (roomy r) (began d) w),
       a.fits.x_of_y.one,
       omega (arith, m.inside, m.few, begins, c.in_calendar-q.ensures),
       omega (arith, m.roomy, m.inside, begins, c.origin_of-origin.ensures, c.in_calendar-q.ensures),
@@ -60,28 +58,26 @@ addend_of-add-requires c =
 
 pub fill_means-requires : goal.fill_means-requires
 fill_means-requires c =
-    let s = c.before.before.before.before.before.before.before.before.before.before.before.before.before.before.before.before.before.before.before.before in
-    let a = s.requires.0 in
+    let a = c.requires.0 in
     let d = c.before.before.before.before.before.before.before.before in
     let r = d.before.before.before.before in
     let keys = r.rank_days.new.1.1.1.0 in
     let starts = d.start_days.new.1.1.1.0 in
-    let place = reference_quarter s.args.shown.c-1 s.args.shown.e-1.day in (
-      λ k h. subst (λ (o : ℕ). Lie s.args.readings.now starts o (place (s.args.shown.e-1.first + k)) 0 1 s.args.shown.x) (sym c.origin_of-origin.ensures) (lie-quarters a.settled keys starts a.fits (took-at r a.book a.settled) a.fits.x_of_y.ten (roomy r) (began d) k h),
+    let place = reference_quarter c.args.shown.c-1 c.args.shown.e-1.day in (
+      λ k h. subst (λ (o : ℕ). Lie c.args.readings.now starts o (place (c.args.shown.e-1.first + k)) 0 1 c.args.shown.x) (sym c.origin_of-origin.ensures) (lie-quarters a.settled keys starts a.fits (took-at r a.book a.settled) a.fits.x_of_y.ten (roomy r) (began d) k h),
       a.fits.x_of_y.one,
       c.addend_of-add.ensures.small,
-      (stands s.args.shown s.args.calendar.now s.args.readings.now a.fits).many,
-      s.requires.2,
+      (stands c.args.shown c.args.calendar.now c.args.readings.now a.fits).many,
+      c.requires.2,
     )
 
 pub returns : goal.returns
 returns c =
-    let s = c.before.before.before.before.before.before.before.before.before.before.before.before.before.before.before.before.before.before.before.before.before.before.before in
     let d = c.before.before.before.before.before.before.before.before.before.before.before in
     let r = d.before.before.before.before in
     let keys = r.rank_days.new.1.1.1.0 in
-    let readings = s.args.readings.now in
-    let shown = s.args.shown in
+    let readings = c.args.readings.now in
+    let shown = c.args.shown in
     let starts = take shown.x d.start_days.new.1.1.1.0 in
     let place : ℕ → ℕ = λ k. reference_quarter shown.c-1 shown.e-1.day (shown.e-1.first + k) in
     let base = origin_of shown.c-1 shown.e-1.point-1 in
@@ -93,7 +89,7 @@ returns c =
     record {
       small = λ k h. (c.fill_means.ensures.each k h).small;
       levels = λ book settled k h.
-          by-days settled keys k add.result (get_or out k 0) shown.point-1.method refl s.requires.1 (took-at r book settled) h
+          by-days settled keys k add.result (get_or out k 0) shown.point-1.method refl c.requires.1 (took-at r book settled) h
           (subst (λ (l : List Reading). Added shown.point-1.method (window_in readings base (start shown.c-1 shown.e-1)) l shown.x add.result) (runs-by-starts readings shown.c-1 shown.e-1 base 0 24 12 (began d))
           (subst (λ (p : ℕ). Added shown.point-1.method (window_in readings base (start shown.c-1 shown.e-1)) (start_runs readings base p 24 12 starts) shown.x add.result) first
           (subst_both (λ (o q : ℕ). Added shown.point-1.method (window_in readings o q) (start_runs readings o c.reference_quarter-place.result 24 12 starts) shown.x add.result) origin begins add.ensures)))

@@ -21,8 +21,7 @@ bounds-levels-k c = omega (arith, long c.before)
 pub loop-k-preserved : goal.loop-k-preserved
 loop-k-preserved c =
     let l = c.loop-k in
-    let s = c.before.before in
-    (omega arith, ap (λ (m : List ℕ). set m l.k s.args.level) l.invariant.1 ∙ same_next s.args.levels.now l.k s.args.level (omega (arith, s.requires)))
+    (omega arith, ap (λ (m : List ℕ). set m l.k c.args.level) l.invariant.1 ∙ same_next c.args.levels.now l.k c.args.level (omega (arith, c.requires)))
 
 pub shape_of-levels : goal.shape_of-levels
 shape_of-levels c = long c.before

@@ -14,25 +14,22 @@ pub origin_of-origin-requires : goal.origin_of-origin-requires
 origin_of-origin-requires c = (c.requires.0.fits.ranged, c.requires.0.fits.few)
 
 pub in_calendar-q-requires : goal.in_calendar-q-requires
-in_calendar-q-requires c = let s = c.before.before.before.before.before.before in
-    let a = s.requires.0 in
-    let m = stands s.args.shown s.args.calendar.now s.args.readings.now a.fits in
+in_calendar-q-requires c = let a = c.requires.0 in
+    let m = stands c.args.shown c.args.calendar.now c.args.readings.now a.fits in
     m.early
 
 pub last_level-level-requires : goal.last_level-level-requires
-last_level-level-requires c = let s = c.before.before.before.before.before.before.before.before in
-    let a = s.requires.0 in
-    let m = stands s.args.shown s.args.calendar.now s.args.readings.now a.fits in
-    let w = last-inside a.settled (method-0 a.settled s.args.shown.point.method refl s.requires.1) in
-    (omega (arith, m.origin, c.origin_of-origin.ensures), omega (arith, m.inside, m.few, c.in_calendar-q.ensures, start_is s.args.shown.c-1 s.args.shown.e-1), omega arith, omega (arith, w, c.in_calendar-q.ensures, start_is s.args.shown.c-1 s.args.shown.e-1), omega (arith, m.roomy, m.inside, c.origin_of-origin.ensures, c.in_calendar-q.ensures, start_is s.args.shown.c-1 s.args.shown.e-1))
+last_level-level-requires c = let a = c.requires.0 in
+    let m = stands c.args.shown c.args.calendar.now c.args.readings.now a.fits in
+    let w = last-inside a.settled (method-0 a.settled c.args.shown.point.method refl c.requires.1) in
+    (omega (arith, m.origin, c.origin_of-origin.ensures), omega (arith, m.inside, m.few, c.in_calendar-q.ensures, start_is c.args.shown.c-1 c.args.shown.e-1), omega arith, omega (arith, w, c.in_calendar-q.ensures, start_is c.args.shown.c-1 c.args.shown.e-1), omega (arith, m.roomy, m.inside, c.origin_of-origin.ensures, c.in_calendar-q.ensures, start_is c.args.shown.c-1 c.args.shown.e-1))
 
 pub returns : goal.returns
-returns c = let s = c.before.before.before.before.before.before.before.before.before.before.before.before.before.before in
-    let level = c.last_level-level in
-    let here = same-fills s.args.shown.e-1.count level.result s.args.levels-1.now c.fill_flat.new.0 c.fill_flat.ensures in
-    let lasts = subst_both (λ (b q : ℕ). Lasts (before_in s.args.readings.now b q (s.args.shown.e-1.notice + 1)) level.result) c.origin_of-origin.ensures (c.in_calendar-q.ensures ∙ sym (start_is s.args.shown.c-1 s.args.shown.e-1)) level.ensures in
+returns c = let level = c.last_level-level in
+    let here = same-fills c.args.shown.e-1.count level.result c.args.levels-1.now c.fill_flat.new.0 c.fill_flat.ensures in
+    let lasts = subst_both (λ (b q : ℕ). Lasts (before_in c.args.readings.now b q (c.args.shown.e-1.notice + 1)) level.result) c.origin_of-origin.ensures (c.in_calendar-q.ensures ∙ sym (start_is c.args.shown.c-1 c.args.shown.e-1)) level.ensures in
     record {
       small = λ k h. omega (arith, here.each k h, level.ensures.small);
-      levels = λ book settled k h. rw (here.each k h) (by_last settled k level.result (method-0 settled s.args.shown.point.method refl s.requires.1) lasts);
+      levels = λ book settled k h. rw (here.each k h) (by_last settled k level.result (method-0 settled c.args.shown.point.method refl c.requires.1) lasts);
       rest = here.rest;
     }

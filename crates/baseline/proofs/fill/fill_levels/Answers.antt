@@ -3,9 +3,7 @@ use mathlib.Core.Path.{sym, ◌∙◌}
 use Rattle.baseline.proofs.fill.fill_levels.Goals as goal
 
 pub fill_days-requires : goal.fill_days-requires
-fill_days-requires c = let s = c.before.before.before.before.before.before.before in
-    (s.requires.0, sym c.looks_back.ensures ∙ c.if-looks_back.true, s.requires.1)
+fill_days-requires c = (c.requires.0, sym c.looks_back.ensures ∙ c.if-looks_back.true, c.requires.1)
 
 pub fill_last-requires : goal.fill_last-requires
-fill_last-requires c = let s = c.before.before.before.before.before.before.before in
-    (s.requires.0, sym c.looks_back.ensures ∙ c.if-looks_back.false, s.requires.1)
+fill_last-requires c = (c.requires.0, sym c.looks_back.ensures ∙ c.if-looks_back.false, c.requires.1)

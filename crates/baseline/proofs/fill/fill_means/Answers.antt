@@ -18,8 +18,7 @@ pub reference_quarter-place-requires : goal.reference_quarter-place-requires
 reference_quarter-place-requires c = omega (arith, c.requires.3)
 
 pub mean_level-mean-requires : goal.mean_level-mean-requires
-mean_level-mean-requires c = let s = c.before.before.before.before.before.before.before in
-    (rw c.reference_quarter-place.ensures (s.requires.0 c.loop-k.k (omega arith)), s.requires.1)
+mean_level-mean-requires c = (rw c.reference_quarter-place.ensures (c.requires.0 c.loop-k.k (omega arith)), c.requires.1)
 
 pub overflow_add-levels : goal.overflow_add-levels
 overflow_add-levels c = omega (arith, c.mean_level-mean.ensures.small, c.requires.2)
@@ -29,16 +28,14 @@ bounds-levels-k c = let l = c.loop-k.invariant.1 in
     omega (arith, c.requires.4)
 
 pub loop-k-preserved : goal.loop-k-preserved
-loop-k-preserved c = let l = c.before.before.before in
-    let s = c.before.before.before.before.before.before.before.before in
-    let same = l.loop-k.invariant.1 in
+loop-k-preserved c = let same = c.loop-k.invariant.1 in
     let at = c.reference_quarter-place in (
       omega arith,
-      length-set l.loop-k.levels l.loop-k.k (c.mean_level-mean.result + s.args.add) ∙ same,
-      fills-more (λ (j : ℕ). Raises (start_runs s.args.readings.now s.args.origin (reference_quarter s.args.c s.args.e.day (s.args.e.first + j)) 0 1 (take s.args.x s.args.starts.now)) s.args.x s.args.add) s.args.levels.now l.loop-k.levels l.loop-k.k (c.mean_level-mean.result + s.args.add) (omega (arith, s.requires.4)) l.loop-k.invariant.2
-          (raises (start_runs s.args.readings.now s.args.origin (reference_quarter s.args.c s.args.e.day (s.args.e.first + l.loop-k.k)) 0 1 (take s.args.x s.args.starts.now)) s.args.x c.mean_level-mean.result s.args.add
-          (subst (λ (q : ℕ). Means (start_runs s.args.readings.now s.args.origin q 0 1 (take s.args.x s.args.starts.now)) s.args.x c.mean_level-mean.result) at.ensures c.mean_level-mean.ensures)
-          s.requires.2),
+      length-set c.loop-k.levels c.loop-k.k (c.mean_level-mean.result + c.args.add) ∙ same,
+      fills-more (λ (j : ℕ). Raises (start_runs c.args.readings.now c.args.origin (reference_quarter c.args.c c.args.e.day (c.args.e.first + j)) 0 1 (take c.args.x c.args.starts.now)) c.args.x c.args.add) c.args.levels.now c.loop-k.levels c.loop-k.k (c.mean_level-mean.result + c.args.add) (omega (arith, c.requires.4)) c.loop-k.invariant.2
+          (raises (start_runs c.args.readings.now c.args.origin (reference_quarter c.args.c c.args.e.day (c.args.e.first + c.loop-k.k)) 0 1 (take c.args.x c.args.starts.now)) c.args.x c.mean_level-mean.result c.args.add
+          (subst (λ (q : ℕ). Means (start_runs c.args.readings.now c.args.origin q 0 1 (take c.args.x c.args.starts.now)) c.args.x c.mean_level-mean.result) at.ensures c.mean_level-mean.ensures)
+          c.requires.2),
     )
 
 pub shape_of-levels : goal.shape_of-levels
@@ -46,7 +43,6 @@ shape_of-levels c = c.loop-k.invariant.1
 
 pub returns : goal.returns
 returns c =
-    let l = c.before in
-    let s = l.args in
-    let all : l.loop-k.k ≡ s.e.count = omega arith in
-    subst (λ (n : ℕ). FillsLevels (λ (j : ℕ). Raises (start_runs s.readings.now s.origin (reference_quarter s.c s.e.day (s.e.first + j)) 0 1 (take s.x s.starts.now)) s.x s.add) n s.levels.now l.loop-k.levels) all l.loop-k.invariant.2
+    let s = c.args in
+    let all : c.loop-k.k ≡ s.e.count = omega arith in
+    subst (λ (n : ℕ). FillsLevels (λ (j : ℕ). Raises (start_runs s.readings.now s.origin (reference_quarter s.c s.e.day (s.e.first + j)) 0 1 (take s.x s.starts.now)) s.x s.add) n s.levels.now c.loop-k.levels) all c.loop-k.invariant.2

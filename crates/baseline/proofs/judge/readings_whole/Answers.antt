@@ -15,24 +15,20 @@ pub origin_of-origin-requires : goal.origin_of-origin-requires
 origin_of-origin-requires c = (c.requires.ranged, c.requires.few)
 
 pub in_calendar-q-requires : goal.in_calendar-q-requires
-in_calendar-q-requires c = let s = c.before.before.before.before.before.before in
-    let m = stands s.args.shown s.args.calendar.now s.args.readings.now s.requires in
+in_calendar-q-requires c = let m = stands c.args.shown c.args.calendar.now c.args.readings.now c.requires in
     m.early
 
 pub overflow_add-origin : goal.overflow_add-origin
-overflow_add-origin c = let s = c.before.before.before.before.before.before.before in
-    let m = stands s.args.shown s.args.calendar.now s.args.readings.now s.requires in
-    omega (arith, m.origin, m.inside, m.few, c.origin_of-origin.ensures, c.in_calendar-q.ensures, start_is s.args.shown.c-1 s.args.shown.e-1)
+overflow_add-origin c = let m = stands c.args.shown c.args.calendar.now c.args.readings.now c.requires in
+    omega (arith, m.origin, m.inside, m.few, c.origin_of-origin.ensures, c.in_calendar-q.ensures, start_is c.args.shown.c-1 c.args.shown.e-1)
 
 pub tally_run-own-requires : goal.tally_run-own-requires
-tally_run-own-requires c = let s = c.before.before.before.before.before.before.before.before in
-    let m = stands s.args.shown s.args.calendar.now s.args.readings.now s.requires in
-    (omega (arith, m.roomy, m.inside, c.origin_of-origin.ensures, c.in_calendar-q.ensures, start_is s.args.shown.c-1 s.args.shown.e-1), m.many)
+tally_run-own-requires c = let m = stands c.args.shown c.args.calendar.now c.args.readings.now c.requires in
+    (omega (arith, m.roomy, m.inside, c.origin_of-origin.ensures, c.in_calendar-q.ensures, start_is c.args.shown.c-1 c.args.shown.e-1), m.many)
 
 pub method_whole-requires : goal.method_whole-requires
-method_whole-requires c = let s = c.before.before.before.before.before.before.before.before.before.before in
-    let m = stands s.args.shown s.args.calendar.now s.args.readings.now s.requires in
-    (omega (arith, m.origin, c.origin_of-origin.ensures), omega (arith, m.inside, m.few, c.in_calendar-q.ensures, start_is s.args.shown.c-1 s.args.shown.e-1), omega (arith, s.requires.soon), omega (arith, m.roomy, m.inside, c.origin_of-origin.ensures, c.in_calendar-q.ensures, start_is s.args.shown.c-1 s.args.shown.e-1))
+method_whole-requires c = let m = stands c.args.shown c.args.calendar.now c.args.readings.now c.requires in
+    (omega (arith, m.origin, c.origin_of-origin.ensures), omega (arith, m.inside, m.few, c.in_calendar-q.ensures, start_is c.args.shown.c-1 c.args.shown.e-1), omega (arith, c.requires.soon), omega (arith, m.roomy, m.inside, c.origin_of-origin.ensures, c.in_calendar-q.ensures, start_is c.args.shown.c-1 c.args.shown.e-1))
 
 pub returns : goal.returns
 returns c = λ b shows.

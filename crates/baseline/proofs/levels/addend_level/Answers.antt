@@ -19,8 +19,7 @@ use Rattle.baseline.proofs.levels.addend_level.Goals.{After-mean-less}
 use Rattle.baseline.proofs.levels.addend_level.Goals as goal
 
 pub mean-less-requires : goal.mean-less-requires
-mean-less-requires c = let s = c.before.before.before.before.before in
-    (shares-12x s.args.x s.requires.1 s.requires.0.few, omega (arith, c.tally_days-days.ensures.small, mul_comm s.args.x 12))
+mean-less-requires c = (shares-12x c.args.x c.requires.1 c.requires.0.few, omega (arith, c.tally_days-days.ensures.small, mul_comm c.args.x 12))
 
 twelve : Shares 12
 twelve = shares-12x 1 (omega arith) (omega arith)
@@ -28,26 +27,24 @@ twelve = shares-12x 1 (omega arith) (omega arith)
 -- neither mean is more than the greatest raised reading
 less-small : (c : After-mean-less) → c.tally_days-days.result.sum * share (12 * c.args.x) ≤ grains 4294967295
 less-small c =
-    let s = c.before.before.before.before.before.before in
-    mean-small (12 * s.args.x) c.tally_days-days.result.sum 4294967295 (shares-12x s.args.x s.requires.1 s.requires.0.few) (omega (arith, c.tally_days-days.ensures.small, mul_comm s.args.x 12))
+    mean-small (12 * c.args.x) c.tally_days-days.result.sum 4294967295 (shares-12x c.args.x c.requires.1 c.requires.0.few) (omega (arith, c.tally_days-days.ensures.small, mul_comm c.args.x 12))
 
 pub overflow_sub-result : goal.overflow_sub-result
 overflow_sub-result c = omega (arith, c.mean-less.ensures, less-small c.before, c.lift.ensures)
 
 pub returns : goal.returns
-returns c = let s = c.before.before.before.before.before.before.before in
-    let x = s.args.x in
+returns c = let x = c.args.x in
     let own = c.window-own in
     let days = c.tally_days-days in
-    let total = sum_z watts (start_runs s.args.readings.now s.args.origin s.args.place 24 12 (take s.args.x s.args.starts.now)) in
-    let mine = sum_z watts (window_in s.args.readings.now s.args.origin s.args.q) in
+    let total = sum_z watts (start_runs c.args.readings.now c.args.origin c.args.place 24 12 (take c.args.x c.args.starts.now)) in
+    let mine = sum_z watts (window_in c.args.readings.now c.args.origin c.args.q) in
     let less = less-small c.before in
     let answer : c.mean-mean.result.count + c.lift.result - c.mean-less.result.count ≡ own.result.sum * share 12 + grains (2 * raise) - days.result.sum * share (12 * x) = ap₂ ◌-◌ (ap₂ ◌+◌ c.mean-mean.ensures c.lift.ensures) c.mean-less.ensures in
     rw answer
     (record {
       level = λ h k. difference (grains raise) (grains (2 * raise)) (mine *ℤ pos (share 12)) (total *ℤ pos (share (12 * x))) (own.result.sum * share 12) (days.result.sum * share (12 * x))
           (mean-over 12 raise mine own.result.sum twelve (own.ensures.sum (own.ensures.whole ∙ h)))
-          (mean-over (12 * x) raise total days.result.sum (shares-12x x s.requires.1 s.requires.0.few) (subst (λ (n : ℕ). Over (raise * n) total days.result.sum) (mul_comm x 12) (days.ensures.sum (days.ensures.whole ∙ k))))
+          (mean-over (12 * x) raise total days.result.sum (shares-12x x c.requires.1 c.requires.0.few) (subst (λ (n : ℕ). Over (raise * n) total days.result.sum) (mul_comm x 12) (days.ensures.sum (days.ensures.whole ∙ k))))
           (omega arith);
       small = omega (arith, mean-small 12 own.result.sum 4294967295 twelve own.ensures.small);
     })

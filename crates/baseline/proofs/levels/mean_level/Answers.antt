@@ -13,16 +13,14 @@ use Rattle.wire.specs.ReadingsInner.{raise}
 use Rattle.baseline.proofs.levels.mean_level.Goals as goal
 
 pub mean-requires : goal.mean-requires
-mean-requires c = let s = c.before.before.before in
-    (shares-x s.args.x s.requires.1 s.requires.0.few, omega (arith, c.tally_days-t.ensures.small, mul-one s.args.x))
+mean-requires c = (shares-x c.args.x c.requires.1 c.requires.0.few, omega (arith, c.tally_days-t.ensures.small, mul-one c.args.x))
 
 pub returns : goal.returns
-returns c = let s = c.before.before.before.before in
-    let x = s.args.x in
+returns c = let x = c.args.x in
     let t = c.tally_days-t.ensures in
     let sum = c.tally_days-t.result.sum in
-    let total = sum_z watts (start_runs s.args.readings.now s.args.origin s.args.place 0 1 (take s.args.x s.args.starts.now)) in
-    let shares = shares-x x s.requires.1 s.requires.0.few in
+    let total = sum_z watts (start_runs c.args.readings.now c.args.origin c.args.place 0 1 (take c.args.x c.args.starts.now)) in
+    let shares = shares-x x c.requires.1 c.requires.0.few in
     record {
       level = λ h. rw c.mean.ensures (mean-over x raise total sum shares (subst (λ (n : ℕ). Over (raise * n) total sum) (mul-one x) (t.sum (t.whole ∙ h))));
       small = rw c.mean.ensures (mean-small x sum 4294967295 shares (omega (arith, t.small, mul-one x)));

@@ -24,14 +24,12 @@ bounds-starts-j c = omega (arith, c.loop-j.invariant.1, c.requires.1)
 
 pub loop-j-preserved : goal.loop-j-preserved
 loop-j-preserved c =
-    let l = c.before.before.before in
-    let s = c.before.before.before.before.before.before in
-    let keys = s.args.keys.now in
-    let long = l.loop-j.invariant.1 in (
+    let keys = c.args.keys.now in
+    let long = c.loop-j.invariant.1 in (
       omega arith,
-      length-set l.loop-j.starts l.loop-j.j c.day_start.result ∙ long,
-      ap (λ (n : ℕ). take (l.loop-j.j + 1) (set l.loop-j.starts l.loop-j.j n)) c.day_start.ensures
-          ∙ starts_more s.args.c keys l.loop-j.starts l.loop-j.j (omega (arith, s.requires.0)) (omega (arith, s.requires.1, long)) l.loop-j.invariant.2,
+      length-set c.loop-j.starts c.loop-j.j c.day_start.result ∙ long,
+      ap (λ (n : ℕ). take (c.loop-j.j + 1) (set c.loop-j.starts c.loop-j.j n)) c.day_start.ensures
+          ∙ starts_more c.args.c keys c.loop-j.starts c.loop-j.j (omega (arith, c.requires.0)) (omega (arith, c.requires.1, long)) c.loop-j.invariant.2,
     )
 
 pub shape_of-starts : goal.shape_of-starts
@@ -39,10 +37,8 @@ shape_of-starts c = c.loop-j.invariant.1
 
 pub returns : goal.returns
 returns c =
-    let l = c.before in
-    let s = c.before.before.before.before in
-    let all : l.loop-j.j ≡ s.args.x = omega arith in
+    let all : c.loop-j.j ≡ c.args.x = omega arith in
     record {
-      some = omega (arith, l.loop-j.invariant.1, s.requires.1);
-      days = subst (λ (n : ℕ). take n l.loop-j.starts ≡ map (day_start s.args.c) (days_in s.args.keys.now n)) all l.loop-j.invariant.2;
+      some = omega (arith, c.loop-j.invariant.1, c.requires.1);
+      days = subst (λ (n : ℕ). take n c.loop-j.starts ≡ map (day_start c.args.c) (days_in c.args.keys.now n)) all c.loop-j.invariant.2;
     }

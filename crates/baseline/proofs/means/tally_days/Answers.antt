@@ -31,22 +31,18 @@ tally_run-t-requires c = let h = c.requires.lies c.loop-j.j (omega arith) in
     (h.room, omega (arith, c.requires.short))
 
 pub overflow_add-sum : goal.overflow_add-sum
-overflow_add-sum c = let l = c.before.before.before.before.before in
-    let s = l.before.before.before in
-    omega (arith, l.loop-j.invariant.1.small, c.tally_run-t.ensures.small, product-few l.loop-j.j s.args.n (omega (arith, s.requires.few)) s.requires.short, s.requires.short)
+overflow_add-sum c = omega (arith, c.loop-j.invariant.1.small, c.tally_run-t.ensures.small, product-few c.loop-j.j c.args.n (omega (arith, c.requires.few)) c.requires.short, c.requires.short)
 
 pub loop-j-preserved : goal.loop-j-preserved
-loop-j-preserved c = let l = c.before.before.before.before.before in
-    let s = l.before.before.before in (
+loop-j-preserved c = (
       omega arith,
-      runs-more s.args.readings.now s.args.starts.now s.args.origin s.args.place s.args.back s.args.n l.loop-j.j (record { whole = l.loop-j.whole; sum = l.loop-j.sum }) c.tally_run-t.result
-          (omega (arith, s.requires.some))
-          l.loop-j.invariant.1
+      runs-more c.args.readings.now c.args.starts.now c.args.origin c.args.place c.args.back c.args.n c.loop-j.j (record { whole = c.loop-j.whole; sum = c.loop-j.sum }) c.tally_run-t.result
+          (omega (arith, c.requires.some))
+          c.loop-j.invariant.1
           c.tally_run-t.ensures,
     )
 
 pub returns : goal.returns
-returns c = let l = c.before in
-    let s = c.args in
-    let all : l.loop-j.j ≡ s.x = omega arith in
-    subst (λ (m : ℕ). Tallied (start_runs s.readings.now s.origin s.place s.back s.n (take m s.starts.now)) (m * s.n) (record { whole = l.loop-j.whole; sum = l.loop-j.sum })) all l.loop-j.invariant.1
+returns c = let s = c.args in
+    let all : c.loop-j.j ≡ s.x = omega arith in
+    subst (λ (m : ℕ). Tallied (start_runs s.readings.now s.origin s.place s.back s.n (take m s.starts.now)) (m * s.n) (record { whole = c.loop-j.whole; sum = c.loop-j.sum })) all c.loop-j.invariant.1

@@ -15,11 +15,10 @@ bounds-keys-i-in-loop-i c = let l = c.loop-i.invariant.1.same in
     omega arith
 
 pub loop-i-preserved : goal.loop-i-preserved
-loop-i-preserved c = let l = c.before.before.before.before in
-    let s = l.args in (
+loop-i-preserved c = let s = c.args in (
       search rules,
       rw (c.larger.ensures, c.smaller-carried.ensures)
-          (turn s.keys.now l.loop-i.keys s.n s.key l.loop-i.i l.loop-i.carried l.loop-i.invariant.1 (search rules) (search rules)),
+          (turn s.keys.now c.loop-i.keys s.n s.key c.loop-i.i c.loop-i.carried c.loop-i.invariant.1 (search rules) (search rules)),
     )
 
 pub bounds-keys-n : goal.bounds-keys-n
@@ -30,9 +29,8 @@ pub shape_of-keys : goal.shape_of-keys
 shape_of-keys c = let l = c.loop-i.invariant.1.same in simp length-set (omega arith)
 
 pub returns : goal.returns
-returns c = let l = c.before in
-    let s = l.args in
-    let e : l.loop-i.i ≡ s.n = omega arith in
-    finish s.keys.now l.loop-i.keys s.n s.key l.loop-i.carried
-    (subst (λ (i : ℕ). Inserting s.keys.now l.loop-i.keys s.n s.key i l.loop-i.carried) e l.loop-i.invariant.1)
+returns c = let s = c.args in
+    let e : c.loop-i.i ≡ s.n = omega arith in
+    finish s.keys.now c.loop-i.keys s.n s.key c.loop-i.carried
+    (subst (λ (i : ℕ). Inserting s.keys.now c.loop-i.keys s.n s.key i c.loop-i.carried) e c.loop-i.invariant.1)
     (search rules)

@@ -17,16 +17,14 @@ overflow_add-sum c = let t = c.loop-i.invariant.1.small in
     omega arith
 
 pub loop-i-preserved : goal.loop-i-preserved
-loop-i-preserved c = let l = c.before.before in
-    let s = l.args in
+loop-i-preserved c = let s = c.args in
     let r = c.raised_at-raised in (
       search rules,
-      rw (run_more s.readings.now s.at l.loop-i.i)
-          (tally-more (in_run s.readings.now s.at l.loop-i.i) l.loop-i.i (record { whole = l.loop-i.whole; sum = l.loop-i.sum }) _ r.result l.loop-i.invariant.1 (there _ r.result r.ensures.range r.ensures.is) (omega arith)),
+      rw (run_more s.readings.now s.at c.loop-i.i)
+          (tally-more (in_run s.readings.now s.at c.loop-i.i) c.loop-i.i (record { whole = c.loop-i.whole; sum = c.loop-i.sum }) _ r.result c.loop-i.invariant.1 (there _ r.result r.ensures.range r.ensures.is) (omega arith)),
     )
 
 pub returns : goal.returns
-returns c = let l = c.before in
-    let s = l.args in
-    let e : l.loop-i.i ≡ s.n = omega arith in
-    subst (λ (k : ℕ). Tallied (in_run s.readings.now s.at k) k (record { whole = l.loop-i.whole; sum = l.loop-i.sum })) e l.loop-i.invariant.1
+returns c = let s = c.args in
+    let e : c.loop-i.i ≡ s.n = omega arith in
+    subst (λ (k : ℕ). Tallied (in_run s.readings.now s.at k) k (record { whole = c.loop-i.whole; sum = c.loop-i.sum })) e c.loop-i.invariant.1

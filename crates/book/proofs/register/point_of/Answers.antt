@@ -5,7 +5,7 @@ use Rattle.book.proofs.register.point_of.Goals as goal
 
 pub returns : goal.returns
 returns c = λ i.
-    let method = c.before in
+    let method = c.before.before.before.before.before.before.before.before.before.before in
     let supply = method.before.before in
     let takers = supply.before.before in
     let byte = takers.before.before in

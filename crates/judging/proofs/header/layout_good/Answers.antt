@@ -11,12 +11,10 @@ use native.Mathlib.Omega.{arith}
 use Rattle.judging.proofs.header.layout_good.Goals as goal
 
 pub overflow_mul-readings : goal.overflow_mul-readings
-overflow_mul-readings c = let s = c.before.before.before.before in
-    omega (arith, quarters-few s.args.c s.requires.1, c.quarters_of.ensures)
+overflow_mul-readings c = omega (arith, quarters-few c.args.c c.requires.1, c.quarters_of.ensures)
 
 pub overflow_mul-readings-2 : goal.overflow_mul-readings-2
-overflow_mul-readings-2 c = let s = c.before.before.before.before in
-    omega (arith, readings-few s.args.c s.args.points s.requires.1 s.requires.2, ap (λ (q : ℕ). 4 * q * s.args.points) c.quarters_of.ensures)
+overflow_mul-readings-2 c = omega (arith, readings-few c.args.c c.args.points c.requires.1 c.requires.2, ap (λ (q : ℕ). 4 * q * c.args.points) c.quarters_of.ensures)
 
 pub returns : goal.returns
 returns c = let s = c.args in

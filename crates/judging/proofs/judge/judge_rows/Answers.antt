@@ -15,7 +15,7 @@ use Rattle.judging.proofs.judge.judge_rows.Goals.{After-days_of-days, After-judg
 use Rattle.judging.proofs.judge.judge_rows.Goals as goal
 
 days-small : (c : After-days_of-days) → c.days_of-days.result ≤ 64
-days-small c = let s = c.before.before.before.before in omega (arith, days-few s.args.c s.requires.0, c.days_of-days.ensures)
+days-small c = omega (arith, days-few c.args.c c.requires.0, c.days_of-days.ensures)
 
 -- what the search of the register found, of the days that there are
 points-found : (c : After-judge_register) → first (bad_point c.args.version (days_of c.args.c) c.args.register.now) 0 c.args.points ≡ found_at c.judge_register.result
@@ -40,16 +40,13 @@ unfolding rows_refusal
 returns-in-At c = rw (points-found c.before.before.before, c.row-1.given.1)
 
 pub overflow_mul-quarters : goal.overflow_mul-quarters
-overflow_mul-quarters c = let s = c.before.before.before.before.before.before.before.before in
-    omega (arith, readings-few s.args.c s.args.points s.requires.0 s.requires.1, mul_assoc 4 (quarters_of s.args.c) s.args.points, ap (λ (q : ℕ). q * s.args.points) c.quarters_of-quarters.ensures)
+overflow_mul-quarters c = omega (arith, readings-few c.args.c c.args.points c.requires.0 c.requires.1, mul_assoc 4 (quarters_of c.args.c) c.args.points, ap (λ (q : ℕ). q * c.args.points) c.quarters_of-quarters.ensures)
 
 pub judge_readings-requires : goal.judge_readings-requires
-judge_readings-requires c = let s = c.before.before.before.before.before.before.before.before in
-    omega (arith, s.requires.3, mul_assoc 4 (quarters_of s.args.c) s.args.points, ap (λ (q : ℕ). q * s.args.points) c.quarters_of-quarters.ensures)
+judge_readings-requires c = omega (arith, c.requires.3, mul_assoc 4 (quarters_of c.args.c) c.args.points, ap (λ (q : ℕ). q * c.args.points) c.quarters_of-quarters.ensures)
 
 pub nonzero_div-point : goal.nonzero_div-point
-nonzero_div-point c = let s = c.before.before.before.before.before.before.before.before.before.before.before.before in
-    omega (arith, quarters-some s.args.c s.requires.0, c.quarters_of-quarters.ensures)
+nonzero_div-point c = omega (arith, quarters-some c.args.c c.requires.0, c.quarters_of-quarters.ensures)
 
 pub returns-in-At-judge_readings : goal.returns-in-At-judge_readings
 unfolding rows_refusal

@@ -18,18 +18,15 @@ loop-day-init c = (search rules, refl)
 
 pub returns-then-calendar-day-gt3 : goal.returns-then-calendar-day-gt3
 unfolding calendar_good
-returns-then-calendar-day-gt3 c = let l = c.before.before.before in
-    let calendar = l.args.calendar.now in
-    rw (any-of (bad_day calendar) l.loop-day.day (length calendar) (search rules) (ap not (lt-leb (get_or calendar l.loop-day.day 0) 3 c.if-calendar-day-gt3.true)))
+returns-then-calendar-day-gt3 c = let calendar = c.args.calendar.now in
+    rw (any-of (bad_day calendar) c.loop-day.day (length calendar) (search rules) (ap not (lt-leb (get_or calendar c.loop-day.day 0) 3 c.if-calendar-day-gt3.true)))
 
 pub loop-day-preserved : goal.loop-day-preserved
-loop-day-preserved c = let l = c.before.before.before in
-    let calendar = l.args.calendar.now in
-    (search rules, any-more (bad_day calendar) l.loop-day.day (ap not (le-leb (get_or calendar l.loop-day.day 0) 3 c.if-calendar-day-gt3.false)) l.loop-day.invariant.1)
+loop-day-preserved c = let calendar = c.args.calendar.now in
+    (search rules, any-more (bad_day calendar) c.loop-day.day (ap not (le-leb (get_or calendar c.loop-day.day 0) 3 c.if-calendar-day-gt3.false)) c.loop-day.invariant.1)
 
 pub returns : goal.returns
 unfolding calendar_good
-returns c = let l = c.before in
-    let calendar = l.args.calendar.now in
-    let e : l.loop-day.day ≡ length calendar = omega arith in
-    ap not (sym l.loop-day.invariant.1 ∙ ap (any_below (bad_day calendar)) e)
+returns c = let calendar = c.args.calendar.now in
+    let e : c.loop-day.day ≡ length calendar = omega arith in
+    ap not (sym c.loop-day.invariant.1 ∙ ap (any_below (bad_day calendar)) e)

@@ -14,21 +14,18 @@ pub loop-i-init : goal.loop-i-init
 loop-i-init c = (search rules, rw (sub-zero c.args.n))
 
 pub returns-then-bad_engagement : goal.returns-then-bad_engagement
-returns-then-bad_engagement c = let l = c.before.before.before in
-    let s = l.args in
+returns-then-bad_engagement c = let s = c.args in
     sym
-    (l.loop-i.invariant.1
-    ∙ first-here (bad_engagement s.c s.points s.engagements.now) s.n l.loop-i.i (search rules) (sym c.bad_engagement.ensures ∙ c.if-bad_engagement.true))
+    (c.loop-i.invariant.1
+    ∙ first-here (bad_engagement s.c s.points s.engagements.now) s.n c.loop-i.i (search rules) (sym c.bad_engagement.ensures ∙ c.if-bad_engagement.true))
 
 pub loop-i-preserved : goal.loop-i-preserved
-loop-i-preserved c = let l = c.before.before.before in
-    let s = l.args in (
+loop-i-preserved c = let s = c.args in (
       search rules,
-      l.loop-i.invariant.1
-          ∙ first-later (bad_engagement s.c s.points s.engagements.now) s.n l.loop-i.i (search rules) (sym c.bad_engagement.ensures ∙ c.if-bad_engagement.false),
+      c.loop-i.invariant.1
+          ∙ first-later (bad_engagement s.c s.points s.engagements.now) s.n c.loop-i.i (search rules) (sym c.bad_engagement.ensures ∙ c.if-bad_engagement.false),
     )
 
 pub returns : goal.returns
-returns c = let l = c.before in
-    let s = l.args in
-    sym (l.loop-i.invariant.1 ∙ first-end (bad_engagement s.c s.points s.engagements.now) s.n l.loop-i.i c.loop-i-test.false)
+returns c = let s = c.args in
+    sym (c.loop-i.invariant.1 ∙ first-end (bad_engagement s.c s.points s.engagements.now) s.n c.loop-i.i c.loop-i-test.false)

@@ -15,18 +15,16 @@ unfolding any_below
 loop-i-init c = (search rules, refl)
 
 pub loop-i-preserved : goal.loop-i-preserved
-loop-i-preserved c = let l = c.before.before.before in
-    let s = l.args in
+loop-i-preserved c = let s = c.args in
     let raised = c.raised_at-raised in
     let bad : ℕ → Bool = λ k. bad_reading s.readings.now (s.at + k) in (
       search rules,
-      ap (λ b. b || c.outside-bad.result) l.loop-i.invariant.1
-          ∙ ap (λ b. any_below bad l.loop-i.i || b) (c.outside-bad.ensures ∙ outside-is _ raised.result raised.ensures.range raised.ensures.is)
-          ∙ sym (any_next bad l.loop-i.i),
+      ap (λ b. b || c.outside-bad.result) c.loop-i.invariant.1
+          ∙ ap (λ b. any_below bad c.loop-i.i || b) (c.outside-bad.ensures ∙ outside-is _ raised.result raised.ensures.range raised.ensures.is)
+          ∙ sym (any_next bad c.loop-i.i),
     )
 
 pub returns : goal.returns
-returns c = let l = c.before in
-    let s = l.args in
-    let e : l.loop-i.i ≡ s.n = omega arith in
-    l.loop-i.invariant.1 ∙ ap (any_below (λ k. bad_reading s.readings.now (s.at + k))) e
+returns c = let s = c.args in
+    let e : c.loop-i.i ≡ s.n = omega arith in
+    c.loop-i.invariant.1 ∙ ap (any_below (λ k. bad_reading s.readings.now (s.at + k))) e

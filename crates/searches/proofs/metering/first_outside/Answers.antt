@@ -11,25 +11,22 @@ pub loop-i-init : goal.loop-i-init
 loop-i-init c = (search rules, refl)
 
 pub returns-then-outside : goal.returns-then-outside
-returns-then-outside c = let l = c.before.before.before.before in
-    let s = l.args in
+returns-then-outside c = let s = c.args in
     let raised = c.raised_at-raised in
     sym
-    (l.loop-i.invariant.1
-    ∙ first-here (bad_reading s.readings.now) s.n l.loop-i.i (search rules)
+    (c.loop-i.invariant.1
+    ∙ first-here (bad_reading s.readings.now) s.n c.loop-i.i (search rules)
     (sym (outside-is _ raised.result raised.ensures.range raised.ensures.is) ∙ sym c.outside.ensures ∙ c.if-outside.true))
 
 pub loop-i-preserved : goal.loop-i-preserved
-loop-i-preserved c = let l = c.before.before.before.before in
-    let s = l.args in
+loop-i-preserved c = let s = c.args in
     let raised = c.raised_at-raised in (
       search rules,
-      l.loop-i.invariant.1
-          ∙ first-later (bad_reading s.readings.now) s.n l.loop-i.i (search rules)
+      c.loop-i.invariant.1
+          ∙ first-later (bad_reading s.readings.now) s.n c.loop-i.i (search rules)
           (sym (outside-is _ raised.result raised.ensures.range raised.ensures.is) ∙ sym c.outside.ensures ∙ c.if-outside.false),
     )
 
 pub returns : goal.returns
-returns c = let l = c.before in
-    let s = l.args in
-    sym (l.loop-i.invariant.1 ∙ first-end (bad_reading s.readings.now) s.n l.loop-i.i c.loop-i-test.false)
+returns c = let s = c.args in
+    sym (c.loop-i.invariant.1 ∙ first-end (bad_reading s.readings.now) s.n c.loop-i.i c.loop-i-test.false)

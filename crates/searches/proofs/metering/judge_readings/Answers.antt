@@ -13,19 +13,16 @@ pub loop-at-init : goal.loop-at-init
 loop-at-init c = (search rules, rw (sub-zero c.args.n))
 
 pub returns-then-any_outside : goal.returns-then-any_outside
-returns-then-any_outside c = let l = c.before.before.before.before in
-    c.first_outside.ensures ∙ sym l.loop-at.invariant.1
+returns-then-any_outside c = c.first_outside.ensures ∙ sym c.loop-at.invariant.1
 
 pub loop-at-preserved : goal.loop-at-preserved
-loop-at-preserved c = let l = c.before.before.before in
-    let s = l.args in
-    let at = l.loop-at.at in
+loop-at-preserved c = let s = c.args in
+    let at = c.loop-at.at in
     let bad = bad_reading s.readings.now in
     let rest : s.n - at ≡ 1024 + (s.n - (at + 1024)) = omega arith in (
       search rules,
-      l.loop-at.invariant.1 ∙ ap (first bad at) rest ∙ first-behind bad at 1024 (s.n - (at + 1024)) (sym c.any_outside.ensures ∙ c.if-any_outside.false),
+      c.loop-at.invariant.1 ∙ ap (first bad at) rest ∙ first-behind bad at 1024 (s.n - (at + 1024)) (sym c.any_outside.ensures ∙ c.if-any_outside.false),
     )
 
 pub returns : goal.returns
-returns c = let l = c.before.before in
-    c.first_outside-2.ensures ∙ sym l.loop-at.invariant.1
+returns c = c.first_outside-2.ensures ∙ sym c.loop-at.invariant.1

@@ -5,6 +5,4 @@ use Rattle.searches.specs.RegisterLaws.{none-shared}
 use Rattle.searches.proofs.register.differs_below.Goals as goal
 
 pub returns-then-top-access_at : goal.returns-then-top-access_at
-returns-then-top-access_at c = let t = c.before in
-    let s = t.before.before in
-    sym (none-shared s.args.register.now s.args.i s.args.top s.requires.1 (omega (arith, t.access_at.ensures, c.if-top-access_at.true)) s.args.i (omega arith))
+returns-then-top-access_at c = sym (none-shared c.args.register.now c.args.i c.args.top c.requires.1 (omega (arith, c.access_at.ensures, c.if-top-access_at.true)) c.args.i (omega arith))

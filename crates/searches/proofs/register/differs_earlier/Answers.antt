@@ -14,17 +14,14 @@ unfolding any_below
 loop-j-init c = (search rules, refl)
 
 pub returns-then-differ : goal.returns-then-differ
-returns-then-differ c = let l = c.before.before.before in
-    let s = l.args in
-    sym (any-of (differs s.register.now s.i) l.loop-j.j s.i (search rules) (sym c.differ.ensures ∙ c.if-differ.true))
+returns-then-differ c = let s = c.args in
+    sym (any-of (differs s.register.now s.i) c.loop-j.j s.i (search rules) (sym c.differ.ensures ∙ c.if-differ.true))
 
 pub loop-j-preserved : goal.loop-j-preserved
-loop-j-preserved c = let l = c.before.before.before in
-    let s = l.args in
-    (search rules, any-more (differs s.register.now s.i) l.loop-j.j (sym c.differ.ensures ∙ c.if-differ.false) l.loop-j.invariant.1)
+loop-j-preserved c = let s = c.args in
+    (search rules, any-more (differs s.register.now s.i) c.loop-j.j (sym c.differ.ensures ∙ c.if-differ.false) c.loop-j.invariant.1)
 
 pub returns : goal.returns
-returns c = let l = c.before in
-    let s = l.args in
-    let e : l.loop-j.j ≡ s.i = omega arith in
-    sym (ap (any_below (differs s.register.now s.i)) (sym e) ∙ l.loop-j.invariant.1)
+returns c = let s = c.args in
+    let e : c.loop-j.j ≡ s.i = omega arith in
+    sym (ap (any_below (differs s.register.now s.i)) (sym e) ∙ c.loop-j.invariant.1)

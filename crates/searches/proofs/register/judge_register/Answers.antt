@@ -13,24 +13,21 @@ pub loop-i-init : goal.loop-i-init
 loop-i-init c = (search rules, rw (sub-zero c.args.n), λ j h. absurd (omega arith))
 
 pub returns-then-bad_point : goal.returns-then-bad_point
-returns-then-bad_point c = let l = c.before.before.before in
-    let s = l.args in
+returns-then-bad_point c = let s = c.args in
     sym
-    (l.loop-i.invariant.1
-    ∙ first-here (bad_point s.version s.days s.register.now) s.n l.loop-i.i (search rules) (sym c.bad_point.ensures ∙ c.if-bad_point.true))
+    (c.loop-i.invariant.1
+    ∙ first-here (bad_point s.version s.days s.register.now) s.n c.loop-i.i (search rules) (sym c.bad_point.ensures ∙ c.if-bad_point.true))
 
 pub loop-i-preserved : goal.loop-i-preserved
-loop-i-preserved c = let l = c.before.before.before.before.before in
-    let s = l.args in
+loop-i-preserved c = let s = c.args in
     let access = c.access_at.ensures in
     let top = c.larger-top.ensures in (
       search rules,
-      l.loop-i.invariant.1
-          ∙ first-later (bad_point s.version s.days s.register.now) s.n l.loop-i.i (search rules) (sym c.bad_point.ensures ∙ c.if-bad_point.false),
-      below_more (λ (j : ℕ). access_in (register_row s.register.now j) ≤ c.larger-top.result) l.loop-i.i (λ j h. omega (arith, top, l.loop-i.invariant.2 j h)) (omega (arith, top, access)),
+      c.loop-i.invariant.1
+          ∙ first-later (bad_point s.version s.days s.register.now) s.n c.loop-i.i (search rules) (sym c.bad_point.ensures ∙ c.if-bad_point.false),
+      below_more (λ (j : ℕ). access_in (register_row s.register.now j) ≤ c.larger-top.result) c.loop-i.i (λ j h. omega (arith, top, c.loop-i.invariant.2 j h)) (omega (arith, top, access)),
     )
 
 pub returns : goal.returns
-returns c = let l = c.before in
-    let s = l.args in
-    sym (l.loop-i.invariant.1 ∙ first-end (bad_point s.version s.days s.register.now) s.n l.loop-i.i c.loop-i-test.false)
+returns c = let s = c.args in
+    sym (c.loop-i.invariant.1 ∙ first-end (bad_point s.version s.days s.register.now) s.n c.loop-i.i c.loop-i-test.false)
