@@ -1,33 +1,35 @@
 -- The three searches are the three refusals, in their order; the reading that was found is told by its point.
 use mathlib.Core.Path.{◌≡◌, sym, ap, ◌∙◌}
+use mathlib.Core.List.{List}
 use Prim.Native.Nat.{ℕ, ◌*◌, ◌≤◌}
 use native.Mathlib.Nat.{mul_assoc}
 use Rattle.integers.specs.First.{first}
 use Rattle.quarters.specs.Quarters.{days_of, quarters_of}
 use Rattle.quarters.specs.QuartersLaws.{days-few, quarters-some, readings-few}
 use Rattle.book.specs.Register.{bad_point}
-use Rattle.book.specs.Metering.{point_of_reading, first_bad_reading}
+use Rattle.book.specs.Metering.{bad_reading, point_of_reading, first_bad_reading}
 use Rattle.book.specs.Judged.{rows_refusal}
 use Rattle.searches.specs.FoundInner.{found_at}
+use Rattle.searches.specs.declared.Found.{Found}
+use Rattle.quarters.specs.declared.Calendar.{Calendar}
 use native.Mathlib.Omega.{arith}
 use borrow.Author.Rules.{rules}
-use Rattle.judging.proofs.judge.judge_rows.Goals.{After-days_of-days, After-judge_readings, After-judge_register}
+use Rattle.judging.proofs.judge.judge_rows.Goals.{After-days_of-days}
 use Rattle.judging.proofs.judge.judge_rows.Goals as goal
 
 days-small : (c : After-days_of-days) → c.days_of-days.result ≤ 64
 days-small c = omega (arith, days-few c.args.c c.requires.0, c.days_of-days.ensures)
 
 -- what the search of the register found, of the days that there are
-points-found : (c : After-judge_register) → first (bad_point c.args.version (days_of c.args.c) c.args.register.now) 0 c.args.points ≡ found_at c.judge_register.result
-points-found c =
-    let s = c.args in
-    ap (λ (d : ℕ). first (bad_point s.version d s.register.now) 0 s.points) (sym c.days_of-days.ensures) ∙ sym c.judge_register.ensures
+points-found : (version : ℕ) (c : Calendar) (register : List ℕ) (points days : ℕ) (r : Found) → days ≡ days_of c → found_at r ≡ first (bad_point version days register) 0 points
+    → first (bad_point version (days_of c) register) 0 points ≡ found_at r
+points-found version c register points days r d e = ap (λ (d : ℕ). first (bad_point version d register) 0 points) (sym d) ∙ sym e
 
-readings-found : (c : After-judge_readings) → first_bad_reading c.args.c c.args.readings.now c.args.points ≡ point_of_reading c.quarters_of-quarters.result (found_at c.judge_readings.result)
+-- and what that of the readings found
+readings-found : (c : Calendar) (readings : List ℕ) (points quarters : ℕ) (r : Found) → quarters ≡ quarters_of c → found_at r ≡ first (bad_reading readings) 0 (quarters * points)
+    → first_bad_reading c readings points ≡ point_of_reading quarters (found_at r)
 unfolding first_bad_reading
-readings-found c =
-    let s = c.args in
-    rw (← c.quarters_of-quarters.ensures) (ap (point_of_reading c.quarters_of-quarters.result) (sym c.judge_readings.ensures))
+readings-found c readings points quarters r q e = rw (← q) (ap (point_of_reading quarters) (sym e))
 
 pub overflow_cast-days : goal.overflow_cast-days
 overflow_cast-days c = omega (arith, days-small c)
@@ -37,7 +39,7 @@ judge_register-requires c = (search rules, days-small c)
 
 pub returns-in-At : goal.returns-in-At
 unfolding rows_refusal
-returns-in-At c = rw (points-found c.before.before.before, c.row-1.given.1)
+returns-in-At c = rw (points-found c.args.version c.args.c c.args.register.now c.args.points c.days_of-days.result c.judge_register.result c.days_of-days.ensures c.judge_register.ensures, c.in-At.is)
 
 pub overflow_mul-quarters : goal.overflow_mul-quarters
 overflow_mul-quarters c = omega (arith, readings-few c.args.c c.args.points c.requires.0 c.requires.1, mul_assoc 4 (quarters_of c.args.c) c.args.points, ap (λ (q : ℕ). q * c.args.points) c.quarters_of-quarters.ensures)
@@ -50,15 +52,15 @@ nonzero_div-point c = omega (arith, quarters-some c.args.c c.requires.0, c.quart
 
 pub returns-in-At-judge_readings : goal.returns-in-At-judge_readings
 unfolding rows_refusal
-returns-in-At-judge_readings c = rw (points-found c.before.before.before.before.before.before.before, c.enum_told-1.given.1, readings-found c.before.before.before, c.i-1.given.1)
+returns-in-At-judge_readings c = rw (points-found c.args.version c.args.c c.args.register.now c.args.points c.days_of-days.result c.judge_register.result c.days_of-days.ensures c.judge_register.ensures, c.in_default.is, readings-found c.args.c c.args.readings.now c.args.points c.quarters_of-quarters.result c.judge_readings.result c.quarters_of-quarters.ensures c.judge_readings.ensures, c.in-At-judge_readings.is)
 
 pub judge_engagements-requires : goal.judge_engagements-requires
 judge_engagements-requires c = (search rules, c.requires.0)
 
 pub returns-in-At-judge_engagements : goal.returns-in-At-judge_engagements
 unfolding rows_refusal
-returns-in-At-judge_engagements c = rw (points-found c.before.before.before.before.before.before.before.before.before.before, c.enum_told-1.given.1, readings-found c.before.before.before.before.before.before, c.enum_told-in_default-judge_readings-1.given.1, ← c.judge_engagements.ensures, c.row-in-At-judge_engagements-1.given.1)
+returns-in-At-judge_engagements c = rw (points-found c.args.version c.args.c c.args.register.now c.args.points c.days_of-days.result c.judge_register.result c.days_of-days.ensures c.judge_register.ensures, c.in_default.is, readings-found c.args.c c.args.readings.now c.args.points c.quarters_of-quarters.result c.judge_readings.result c.quarters_of-quarters.ensures c.judge_readings.ensures, c.in_default-judge_readings.is, ← c.judge_engagements.ensures, c.in-At-judge_engagements.is)
 
 pub returns : goal.returns
 unfolding rows_refusal
-returns c = rw (points-found c.before.before.before.before.before.before.before.before.before, c.enum_told-1.given.1, readings-found c.before.before.before.before.before, c.enum_told-in_default-judge_readings-1.given.1, ← c.judge_engagements.ensures, c.enum_told-in_default-judge_engagements-1.given.1)
+returns c = rw (points-found c.args.version c.args.c c.args.register.now c.args.points c.days_of-days.result c.judge_register.result c.days_of-days.ensures c.judge_register.ensures, c.in_default.is, readings-found c.args.c c.args.readings.now c.args.points c.quarters_of-quarters.result c.judge_readings.result c.quarters_of-quarters.ensures c.judge_readings.ensures, c.in_default-judge_readings.is, ← c.judge_engagements.ensures, c.in_default-judge_engagements.is)

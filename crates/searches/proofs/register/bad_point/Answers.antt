@@ -10,5 +10,5 @@ unfolding bad_point
 returns c = let s = c.args in
     let row = row-part 64 s.register.now s.i in
     let numbers = c.numbers_good.ensures ∙ ap (numbers_good s.days) row in
-    let bytes = c.bytes_Good.ensures ∙ ap (bytes_good s.version) row in
+    let bytes = c.bytes_good.ensures ∙ ap (bytes_good s.version) row in
     ap₂ (λ (g o : Bool). not g || o) (ap₂ ◌&&◌ numbers bytes) (ap₂ ◌||◌ c.not_above.ensures c.differs_below.ensures)
