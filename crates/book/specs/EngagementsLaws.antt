@@ -1,5 +1,5 @@
 -- What the engagements' code finds at a place is what the definitions say of the row there.
-use Rattle.std.specs.Prelude.{◌≡◌, refl, ℕ, zero, suc, ◌-◌}
+use Rattle.std.specs.Prelude.{◌≡◌, refl, ℕ, zero, suc}
 use Rattle.book.specs.Engagements.{direction_of}
 use Rattle.book.specs.declared.Direction.TheVariants.{Down}
 

@@ -1,5 +1,5 @@
 -- What the register's code finds at a place is what the definitions say of the row there.
-use Rattle.std.specs.Prelude.{◌≡◌, refl, ℕ, zero, suc, ◌-◌}
+use Rattle.std.specs.Prelude.{◌≡◌, refl, ℕ, zero, suc}
 use Rattle.book.specs.Register.{situation_of, takers_of, supply_of, method_of}
 use Rattle.book.specs.declared.Situation.TheVariants.{NetInjector}
 use Rattle.book.specs.declared.Supply.TheVariants.{Injection}

@@ -9,12 +9,11 @@ use Rattle.judging.proofs.header.layout_at.Goals as goal
 
 -- the numbers are small
 small : (c : After-quarters_of-quarters) → (c.days_of-days.result ≤ 64) × (c.quarters_of-quarters.result ≤ longest_calendar) × (4 * c.quarters_of-quarters.result * c.args.points ≤ most_reading_bytes)
-small c =
-    (
-      omega (arith, days-few c.args.c c.requires.0, c.days_of-days.ensures),
-      omega (arith, quarters-few c.args.c c.requires.0, c.quarters_of-quarters.ensures),
-      omega (arith, readings-few c.args.c c.args.points c.requires.0 c.requires.1, ap (λ (q : ℕ). 4 * q * c.args.points) c.quarters_of-quarters.ensures),
-    )
+small c = (
+  omega (arith, days-few c.args.c c.requires.0, c.days_of-days.ensures),
+  omega (arith, quarters-few c.args.c c.requires.0, c.quarters_of-quarters.ensures),
+  omega (arith, readings-few c.args.c c.args.points c.requires.0 c.requires.1, ap (λ (q : ℕ). 4 * q * c.args.points) c.quarters_of-quarters.ensures),
+)
 
 pub overflow_add-table : goal.overflow_add-table
 overflow_add-table c = omega (arith, small c)

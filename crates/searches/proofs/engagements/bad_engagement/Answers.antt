@@ -5,9 +5,6 @@ use Rattle.book.specs.HeaderLaws.{row-part}
 use Rattle.book.specs.Engagements.{place_good, terms_good, bad_engagement}
 use Rattle.searches.proofs.engagements.bad_engagement.Goals as goal
 
--- The row's own fields, or the row before it.
--- The row's own fields, or the row before it.
-
 pub returns : goal.returns
 unfolding bad_engagement
 returns c = let s = c.args in

@@ -1,14 +1,10 @@
 -- Rows passed are good: the first bad row is the first from the present one on.
 use mathlib.Core.Path.{sym, ◌∙◌}
-use Prim.Native.Nat.{◌-◌}
 use native.Mathlib.Nat.{sub-zero}
-use Rattle.integers.specs.First.{first}
 use Rattle.book.specs.Engagements.{bad_engagement}
 use borrow.Author.Rules.{rules}
 use Rattle.integers.specs.FirstLaws.{first-here, first-later, first-end}
 use Rattle.searches.proofs.engagements.judge_engagements.Goals as goal
-
--- Rows passed are good: the first bad row is the first from the present one on.
 
 pub loop-i-init : goal.loop-i-init
 loop-i-init c = (search rules, rw (sub-zero c.args.n))
@@ -21,10 +17,10 @@ returns-then-bad_engagement c = let s = c.args in
 
 pub loop-i-preserved : goal.loop-i-preserved
 loop-i-preserved c = let s = c.args in (
-      search rules,
-      c.loop-i.invariant.1
-          ∙ first-later (bad_engagement s.c s.points s.engagements.now) s.n c.loop-i.i (search rules) (sym c.bad_engagement.ensures ∙ c.if-bad_engagement.false),
-    )
+  search rules,
+  c.loop-i.invariant.1
+      ∙ first-later (bad_engagement s.c s.points s.engagements.now) s.n c.loop-i.i (search rules) (sym c.bad_engagement.ensures ∙ c.if-bad_engagement.false),
+)
 
 pub returns : goal.returns
 returns c = let s = c.args in

@@ -8,9 +8,6 @@ use Rattle.book.specs.Engagements.{rises, overlaps}
 use Rattle.searches.specs.EngagementsLaws.{order-at}
 use Rattle.searches.proofs.engagements.out_of_order.Goals as goal
 
--- The parts of 16 bytes are the row and the row before it.
--- The parts of 16 bytes are the row and the row before it.
-
 pub returns : goal.returns
 returns c = let s = c.args in
     let there = c.if-i-eq0.false in

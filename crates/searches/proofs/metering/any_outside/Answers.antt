@@ -1,7 +1,7 @@
 -- After i turns the flag tells whether one of the first i readings was out of range.
 use mathlib.Core.Path.{◌≡◌, refl, sym, ap, ◌∙◌}
 use mathlib.Core.Bool.{Bool, ◌||◌}
-use Prim.Native.Nat.{ℕ, ◌+◌, ◌-◌}
+use Prim.Native.Nat.{ℕ, ◌+◌}
 use native.Mathlib.Omega.{arith}
 use Rattle.integers.specs.First.{any_below}
 use Rattle.book.specs.Metering.{bad_reading}

@@ -1,6 +1,5 @@
 -- Readings passed are in range: the first bad one is the first from the present one on.
 use mathlib.Core.Path.{refl, sym, ◌∙◌}
-use Prim.Native.Nat.{◌-◌}
 use Rattle.book.specs.Metering.{bad_reading}
 use Rattle.searches.specs.MeteringLaws.{outside-is}
 use borrow.Author.Rules.{rules}

@@ -1,7 +1,5 @@
 -- No earlier row passed so far differs.
 use mathlib.Core.Path.{◌≡◌, refl, sym, ap, ◌∙◌}
-use mathlib.Core.Bool.{false}
-use Prim.Native.Nat.{◌-◌}
 use Rattle.integers.specs.First.{any_below}
 use Rattle.book.specs.Register.{differs}
 use borrow.Author.Rules.{rules}
