@@ -2,7 +2,6 @@
 use mathlib.Core.List.{flat_map}
 use Prim.Native.Nat.{◌+◌, ◌-◌}
 use native.Mathlib.Omega.{arith}
-use borrow.Author.Rules.{rules}
 use Rattle.message.specs.Bytes.{observation_bytes}
 use Rattle.writer.specs.ContentsInner.{observations_in}
 use Rattle.writer.specs.ContentsLaws.{observations-none, observations-step}
@@ -11,10 +10,6 @@ use Rattle.writer.proofs.writing.emit_observations.Goals as goal
 
 pub loop-left-init : goal.loop-left-init
 loop-left-init c = (c.requires.0, laying-none _ _ _ _ c.requires.1)
-
-shared-slice-read-emit-observation-2 :
-    goal.bounds-rows-next-in-loop-left
-shared-slice-read-emit-observation-2 c = search rules
 
 pub loop-left-preserved : goal.loop-left-preserved
 loop-left-preserved c =
