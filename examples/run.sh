@@ -3,7 +3,7 @@
 set -e
 cd "$(dirname "$0")/.."
 library=target/staticlib/libtoe_c.a
-rt staticlib toe_c
+tools/library.sh
 
 cc -O2 -I include examples/cold_store.c $library -o target/cold_store
 cc -shared -o target/staticlib/libtoe.so -Wl,--whole-archive $library -Wl,--no-whole-archive

@@ -1,4 +1,4 @@
-//! Links the static library that `rt staticlib toe_c` writes.
+//! Links the static library that `tools/library.sh` writes.
 
 fn main() {
     let folder = format!("{}/../../target/staticlib", env!("CARGO_MANIFEST_DIR"));
