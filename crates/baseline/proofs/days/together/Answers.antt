@@ -1,18 +1,18 @@
 -- The engagement's quarter-hours lie on both sides of the turn, or on one.
 use mathlib.Core.Path.{◌≡◌, refl, ap, ◌∙◌}
-use Prim.Native.Nat.{◌+◌}
+use Prim.Native.Nat.{ℕ, ◌+◌}
 use lib.Dec.{ltb}
 use borrow.Author.Tests.{ltb-true}
 use native.Mathlib.Omega.{arith}
 use Rattle.integers.specs.TestsLaws.{both}
+use Rattle.quarters.specs.declared.Calendar.{Calendar}
 use Rattle.baseline.specs.RunsInner.{turn, together}
 use Rattle.quarters.specs.Quarters.{quarters}
-use Rattle.baseline.proofs.days.together.Goals.{After-turn_of-turn}
 use Rattle.baseline.proofs.days.together.Goals as goal
 
 -- the turn is that of A's quarter-hours
-is : (c : After-turn_of-turn) → c.turn_of-turn.result ≡ turn (quarters c.args.c c.args.e.day)
-is c = c.turn_of-turn.ensures ∙ ap turn c.quarters.ensures
+is : (c : Calendar) (day n t : ℕ) → n ≡ quarters c day → t ≡ turn n → t ≡ turn (quarters c day)
+is c day n t e f = f ∙ ap turn e
 
 pub overflow_sub-result : goal.overflow_sub-result
 overflow_sub-result c = let e = c.args.e in
@@ -20,8 +20,8 @@ overflow_sub-result c = let e = c.args.e in
 
 pub returns-then-first-turn : goal.returns-then-first-turn
 unfolding together
-returns-then-first-turn c = let t = c.before.before.before in rw (← is t, c.if-first-turn.true) refl
+returns-then-first-turn c = rw (← is c.args.c c.args.e.day c.quarters.result c.turn_of-turn.result c.quarters.ensures c.turn_of-turn.ensures, c.if-first-turn.true) refl
 
 pub returns : goal.returns
 unfolding together
-returns c = let t = c.before.before.before in rw (← is t, c.if-first-turn.false) refl
+returns c = rw (← is c.args.c c.args.e.day c.quarters.result c.turn_of-turn.result c.quarters.ensures c.turn_of-turn.ensures, c.if-first-turn.false) refl

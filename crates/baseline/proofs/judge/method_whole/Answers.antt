@@ -9,12 +9,12 @@ use Rattle.baseline.proofs.judge.method_whole.Goals as goal
 
 pub returns-in-LastQuarter : goal.returns-in-LastQuarter
 unfolding needed_in complete
-returns-in-LastQuarter c = rw c.enum_told-1.given.1 (c.known_before.ensures ∙ sym (and-true (known (before_in c.args.readings.now c.args.origin c.args.q (c.args.notice + 1)))))
+returns-in-LastQuarter c = rw c.in-LastQuarter.is (c.known_before.ensures ∙ sym (and-true (known (before_in c.args.readings.now c.args.origin c.args.q (c.args.notice + 1)))))
 
 pub returns-in-HighXOfY : goal.returns-in-HighXOfY
 unfolding needed_in complete
-returns-in-HighXOfY c = rw c.enum_told-in-HighXOfY-1.given.1
+returns-in-HighXOfY c = rw c.in-HighXOfY.is
 
 pub returns-in-Adjusted : goal.returns-in-Adjusted
 unfolding needed_in
-returns-in-Adjusted c = rw c.enum_told-in-Adjusted-1.given.1 c.window.ensures.whole
+returns-in-Adjusted c = rw c.in-Adjusted.is c.window.ensures.whole

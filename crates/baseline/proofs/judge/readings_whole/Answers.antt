@@ -20,22 +20,22 @@ in_calendar-q-requires c = let m = stands c.args.shown c.args.calendar.now c.arg
 
 pub overflow_add-origin : goal.overflow_add-origin
 overflow_add-origin c = let m = stands c.args.shown c.args.calendar.now c.args.readings.now c.requires in
-    omega (arith, m.origin, m.inside, m.few, c.origin_of-origin.ensures, c.in_calendar-q.ensures, start_is c.args.shown.c-1 c.args.shown.e-1)
+    omega (arith, m.origin, m.inside, m.few, c.origin_of-origin.ensures, c.in_calendar-q.ensures, start_is c.args.shown.c c.args.shown.e)
 
 pub tally_run-own-requires : goal.tally_run-own-requires
 tally_run-own-requires c = let m = stands c.args.shown c.args.calendar.now c.args.readings.now c.requires in
-    (omega (arith, m.roomy, m.inside, c.origin_of-origin.ensures, c.in_calendar-q.ensures, start_is c.args.shown.c-1 c.args.shown.e-1), m.many)
+    (omega (arith, m.roomy, m.inside, c.origin_of-origin.ensures, c.in_calendar-q.ensures, start_is c.args.shown.c c.args.shown.e), m.many)
 
 pub method_whole-requires : goal.method_whole-requires
 method_whole-requires c = let m = stands c.args.shown c.args.calendar.now c.args.readings.now c.requires in
-    (omega (arith, m.origin, c.origin_of-origin.ensures), omega (arith, m.inside, m.few, c.in_calendar-q.ensures, start_is c.args.shown.c-1 c.args.shown.e-1), omega (arith, c.requires.soon), omega (arith, m.roomy, m.inside, c.origin_of-origin.ensures, c.in_calendar-q.ensures, start_is c.args.shown.c-1 c.args.shown.e-1))
+    (omega (arith, m.origin, c.origin_of-origin.ensures), omega (arith, m.inside, m.few, c.in_calendar-q.ensures, start_is c.args.shown.c c.args.shown.e), omega (arith, c.requires.soon), omega (arith, m.roomy, m.inside, c.origin_of-origin.ensures, c.in_calendar-q.ensures, start_is c.args.shown.c c.args.shown.e))
 
 pub returns : goal.returns
 returns c = λ b shows.
     let s = c.args in
     let origin = c.origin_of-origin.ensures in
-    let q = c.in_calendar-q.ensures ∙ sym (start_is s.shown.c-1 s.shown.e-1) in
+    let q = c.in_calendar-q.ensures ∙ sym (start_is s.shown.c s.shown.e) in
     ap₂ ◌&&◌
-    (c.tally_run-own.ensures.whole ∙ ap (λ (a : ℕ). complete (in_run s.readings.now a s.shown.e-1.count)) (ap₂ ◌+◌ origin q))
-    (c.method_whole.ensures ∙ ap₂ (λ (a k : ℕ). complete (needed_in s.shown.point-1.method s.readings.now a k s.shown.e-1.notice)) origin q)
+    (c.tally_run-own.ensures.whole ∙ ap (λ (a : ℕ). complete (in_run s.readings.now a s.shown.e.count)) (ap₂ ◌+◌ origin q))
+    (c.method_whole.ensures ∙ ap₂ (λ (a k : ℕ). complete (needed_in s.shown.point.method s.readings.now a k s.shown.e.notice)) origin q)
     ∙ sym (needed-is shows)

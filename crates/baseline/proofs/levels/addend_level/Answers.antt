@@ -15,7 +15,6 @@ use Rattle.grains.specs.GrainsLaws.{shares-12x, mean-over, mean-small}
 use native.Mathlib.Omega.{arith}
 use Rattle.grains.specs.GrainsInner.{Shares}
 use Rattle.wire.specs.ReadingsInner.{raise}
-use Rattle.baseline.proofs.levels.addend_level.Goals.{After-mean-less}
 use Rattle.baseline.proofs.levels.addend_level.Goals as goal
 
 pub mean-less-requires : goal.mean-less-requires
@@ -25,12 +24,11 @@ twelve : Shares 12
 twelve = shares-12x 1 (omega arith) (omega arith)
 
 -- neither mean is more than the greatest raised reading
-less-small : (c : After-mean-less) → c.tally_days-days.result.sum * share (12 * c.args.x) ≤ grains 4294967295
-less-small c =
-    mean-small (12 * c.args.x) c.tally_days-days.result.sum 4294967295 (shares-12x c.args.x c.requires.1 c.requires.0.few) (omega (arith, c.tally_days-days.ensures.small, mul_comm c.args.x 12))
+less-small : (x sum : ℕ) → 1 ≤ x → x ≤ 10 → sum ≤ 4294967295 * (x * 12) → sum * share (12 * x) ≤ grains 4294967295
+less-small x sum some few small = mean-small (12 * x) sum 4294967295 (shares-12x x some few) (omega (arith, small, mul_comm x 12))
 
 pub overflow_sub-result : goal.overflow_sub-result
-overflow_sub-result c = omega (arith, c.mean-less.ensures, less-small c.before, c.lift.ensures)
+overflow_sub-result c = omega (arith, c.mean-less.ensures, less-small c.args.x c.tally_days-days.result.sum c.requires.1 c.requires.0.few c.tally_days-days.ensures.small, c.lift.ensures)
 
 pub returns : goal.returns
 returns c = let x = c.args.x in
@@ -38,7 +36,7 @@ returns c = let x = c.args.x in
     let days = c.tally_days-days in
     let total = sum_z watts (start_runs c.args.readings.now c.args.origin c.args.place 24 12 (take c.args.x c.args.starts.now)) in
     let mine = sum_z watts (window_in c.args.readings.now c.args.origin c.args.q) in
-    let less = less-small c.before in
+    let less = less-small c.args.x c.tally_days-days.result.sum c.requires.1 c.requires.0.few c.tally_days-days.ensures.small in
     let answer : c.mean-mean.result.count + c.lift.result - c.mean-less.result.count ≡ own.result.sum * share 12 + grains (2 * raise) - days.result.sum * share (12 * x) = ap₂ ◌-◌ (ap₂ ◌+◌ c.mean-mean.ensures c.lift.ensures) c.mean-less.ensures in
     rw answer
     (record {

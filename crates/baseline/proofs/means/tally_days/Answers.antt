@@ -35,12 +35,12 @@ overflow_add-sum c = omega (arith, c.loop-j.invariant.1.small, c.tally_run-t.ens
 
 pub loop-j-preserved : goal.loop-j-preserved
 loop-j-preserved c = (
-      omega arith,
-      runs-more c.args.readings.now c.args.starts.now c.args.origin c.args.place c.args.back c.args.n c.loop-j.j (record { whole = c.loop-j.whole; sum = c.loop-j.sum }) c.tally_run-t.result
-          (omega (arith, c.requires.some))
-          c.loop-j.invariant.1
-          c.tally_run-t.ensures,
-    )
+  omega arith,
+  runs-more c.args.readings.now c.args.starts.now c.args.origin c.args.place c.args.back c.args.n c.loop-j.j (record { whole = c.loop-j.whole; sum = c.loop-j.sum }) c.tally_run-t.result
+      (omega (arith, c.requires.some))
+      c.loop-j.invariant.1
+      c.tally_run-t.ensures,
+)
 
 pub returns : goal.returns
 returns c = let s = c.args in

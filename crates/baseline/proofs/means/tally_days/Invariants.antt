@@ -6,7 +6,7 @@ use Rattle.baseline.specs.RunsInner.{start_runs}
 use Rattle.baseline.proofs.means.tally_days.Given as goal
 
 abbrev pub invariant-loop-j : goal.invariant-loop-j
-invariant-loop-j l = (l.j ≤ l.x) × Tallied (start_runs l.readings l.origin l.place l.back l.n (take l.j l.starts)) (l.j * l.n) (record { l.whole = l.whole; l.sum = l.sum })
+invariant-loop-j l = (l.j ≤ l.x) × Tallied (start_runs l.readings l.origin l.place l.back l.n (take l.j l.starts)) (l.j * l.n) (record { whole = l.whole; sum = l.sum })
 
 abbrev pub decreases-loop-j : goal.decreases-loop-j
 decreases-loop-j l = l.x - l.j

@@ -16,10 +16,10 @@ bounds-keys-i-in-loop-i c = let l = c.loop-i.invariant.1.same in
 
 pub loop-i-preserved : goal.loop-i-preserved
 loop-i-preserved c = let s = c.args in (
-      search rules,
-      rw (c.larger.ensures, c.smaller-carried.ensures)
-          (turn s.keys.now c.loop-i.keys s.n s.key c.loop-i.i c.loop-i.carried c.loop-i.invariant.1 (search rules) (search rules)),
-    )
+  search rules,
+  rw (c.larger.ensures, c.smaller-carried.ensures)
+      (turn s.keys.now c.loop-i.keys s.n s.key c.loop-i.i c.loop-i.carried c.loop-i.invariant.1 (search rules) (search rules)),
+)
 
 pub bounds-keys-n : goal.bounds-keys-n
 bounds-keys-n c = let l = c.loop-i.invariant.1.same in

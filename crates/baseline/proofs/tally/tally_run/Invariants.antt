@@ -4,7 +4,7 @@ use Rattle.baseline.specs.TallyInner.{in_run, Tallied}
 use Rattle.baseline.proofs.tally.tally_run.Given as goal
 
 abbrev pub invariant-loop-i : goal.invariant-loop-i
-invariant-loop-i l = (l.i ≤ l.n) × Tallied (in_run l.readings l.at l.i) l.i (record { l.whole = l.whole; l.sum = l.sum })
+invariant-loop-i l = (l.i ≤ l.n) × Tallied (in_run l.readings l.at l.i) l.i (record { whole = l.whole; sum = l.sum })
 
 abbrev pub decreases-loop-i : goal.decreases-loop-i
 decreases-loop-i l = l.n - l.i
