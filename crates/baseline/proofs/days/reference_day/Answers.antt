@@ -5,7 +5,7 @@ use mathlib.Core.List.{List}
 use Prim.Native.Nat.{ℕ, ◌+◌, ◌<◌}
 use lib.Dec.{eqb}
 use lib.ListN.{length, get_or}
-use borrow.Author.Tests.{not-true, not-false}
+use borrow.Author.Tests.{not-true}
 use Rattle.integers.specs.TestsLaws.{both}
 use Rattle.quarters.specs.Quarters.{is_clock_change, day_start}
 use Rattle.quarters.specs.QuartersLaws.{days-few}

@@ -1,7 +1,7 @@
 -- The level stands in the places passed, the rest is as it was.
 use mathlib.Core.Path.{◌≡◌, refl, ap, ◌∙◌}
 use mathlib.Core.List.{List, ◌++◌}
-use Prim.Native.Nat.{ℕ, ◌-◌, ◌≤◌}
+use Prim.Native.Nat.{ℕ, ◌≤◌}
 use lib.ListN.{length, set, drop, replicate, length-append, length-replicate, length-drop}
 use native.Mathlib.Omega.{arith}
 use Rattle.integers.specs.ListsLaws.{same_next}

@@ -1,6 +1,6 @@
 -- The places passed hold their quarter-hours' means and the addend.
 use mathlib.Core.Path.{◌≡◌, refl, subst, ◌∙◌}
-use Prim.Native.Nat.{ℕ, ◌+◌, ◌-◌}
+use Prim.Native.Nat.{ℕ, ◌+◌}
 use lib.ListN.{take, length-set}
 use Rattle.volumes.specs.Quarters.{reference_quarter}
 use Rattle.baseline.specs.LevelsInner.{Means}

@@ -1,6 +1,5 @@
 -- Method 0 looks at no days. What was ranked are the latest eligible days, as many as there are and y at most.
 use mathlib.Core.Path.{sym, ◌∙◌}
-use borrow.Author.Tests.{not-true, not-false}
 use Rattle.baseline.specs.NeedsLaws.{no-days, days-found}
 use Rattle.baseline.proofs.judge.too_few.Goals as goal
 

@@ -1,7 +1,7 @@
 -- One day's start more a turn.
 use mathlib.Core.Path.{◌≡◌, refl, ap, subst, ◌∙◌}
 use mathlib.Core.List.{map}
-use Prim.Native.Nat.{ℕ, ◌+◌, ◌-◌, ◌%◌, ◌<◌}
+use Prim.Native.Nat.{ℕ, ◌+◌, ◌%◌, ◌<◌}
 use native.Mathlib.Nat.{mod-lt}
 use lib.ListN.{take, get_or, set, length-set}
 use Rattle.quarters.specs.Quarters.{day_start}

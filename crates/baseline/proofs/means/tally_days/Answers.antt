@@ -1,7 +1,7 @@
 -- The tally of the days passed grows by one day a turn.
 use mathlib.Core.Path.{◌≡◌, subst}
 use mathlib.Core.List.{flat_map}
-use Prim.Native.Nat.{ℕ, ◌-◌, ◌*◌}
+use Prim.Native.Nat.{ℕ, ◌*◌}
 use native.Mathlib.Nat.{zero-mul}
 use lib.ListN.{take}
 use Rattle.baseline.specs.TallyInner.{Tallied}

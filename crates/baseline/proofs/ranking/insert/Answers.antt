@@ -1,6 +1,6 @@
 -- One pass: each place keeps the larger of what stands there and what is carried.
 use mathlib.Core.Path.{◌≡◌, subst}
-use Prim.Native.Nat.{ℕ, ◌-◌}
+use Prim.Native.Nat.{ℕ}
 use lib.ListN.{length-set}
 use Rattle.baseline.specs.RankingLaws.{Inserting, start, turn, finish}
 use borrow.Author.Rules.{rules}

@@ -1,6 +1,6 @@
 -- The days from A - 1 down to the present one have been scanned, and those that are eligible are ranked.
 use mathlib.Core.Path.{◌≡◌}
-use Prim.Native.Nat.{◌-◌, ◌≤◌}
+use Prim.Native.Nat.{◌≤◌}
 use lib.ListN.{length}
 use Rattle.book.specs.Book.{Book}
 use Rattle.baseline.specs.ShownInner.{Shows}

@@ -1,6 +1,6 @@
 -- The tally of the readings passed grows by one reading a turn.
 use mathlib.Core.Path.{◌≡◌, subst}
-use Prim.Native.Nat.{ℕ, ◌-◌}
+use Prim.Native.Nat.{ℕ}
 use Rattle.integers.specs.Ranges.{range}
 use Rattle.baseline.specs.TallyInner.{in_run, Tallied}
 use Rattle.baseline.specs.TallyLaws.{run_more, there, tally-none, tally-more}
