@@ -4,31 +4,32 @@
 // a moment (with its instant) and as a transaction ID.
 #![tactic(auto)]
 
-ghost use Rattle.std.specs.Prelude.{◌≤◌};
+ghost use Rattle.std.specs.Prelude.{◌≤◌, length, IfOk};
 ghost use Rattle.calendar.specs.DatesInner.{IsMonth};
 
 use calendar::{Clock, dates};
-use libc::{STDIN_FILENO, STDOUT_FILENO};
 use moments::{MomentRead, ids};
+use std::io;
+use std::io::Read;
 
-fn number(n: u64) {
-    io::print_decimal(STDOUT_FILENO, n);
+fn number(rt: &impl Print, n: u64) -> io::Result<()> {
+    rt.print(n)
 }
 
-fn field(n: u64) {
-    io::write_all(STDOUT_FILENO, b" ");
-    number(n);
+fn field(rt: &impl Print, n: u64) -> io::Result<()> {
+    rt.write_all(b" ")?;
+    number(rt, n)
 }
 
 // A month as 2021-06.
-fn month_name(year: u64, month: u64) {
-    number(year);
+fn month_name(rt: &impl Print, year: u64, month: u64) -> io::Result<()> {
+    number(rt, year)?;
     if month < 10 {
-        io::write_all(STDOUT_FILENO, b"-0");
+        rt.write_all(b"-0")?;
     } else {
-        io::write_all(STDOUT_FILENO, b"-");
+        rt.write_all(b"-")?;
     }
-    number(month);
+    number(rt, month)
 }
 
 // A day counted from 1, as dates are; a calendar has fewer than 255.
@@ -59,72 +60,86 @@ fn change(year: u64, month: u64) -> u64
     changes_on(dates::clock_of(next.year, next.month, days))
 }
 
-fn next_field(year: u64, month: u64)
+fn next_field(rt: &impl Print, year: u64, month: u64) -> io::Result<()>
     requires { IsMonth year month × (year ≤ 2099) }
 {
     let next = dates::next_month(year, month);
-    io::write_all(STDOUT_FILENO, b" ");
-    month_name(next.year, next.month);
-    field(dates::offset_hours(next.year, next.month, 1));
+    rt.write_all(b" ")?;
+    month_name(rt, next.year, next.month)?;
+    field(rt, dates::offset_hours(next.year, next.month, 1))
 }
 
-fn print_month(year: u64, month: u64)
+fn print_month(rt: &impl Print, year: u64, month: u64) -> io::Result<()>
     requires { IsMonth year month × (year ≤ 2099) }
 {
-    month_name(year, month);
-    field(dates::month_length(year, month));
-    field(dates::weekday(year, month, 1));
-    field(dates::last_sunday(year, month));
-    field(dates::offset_hours(year, month, 1));
-    next_field(year, month);
-    field(change(year, month));
-    io::write_all(STDOUT_FILENO, b"\n");
+    month_name(rt, year, month)?;
+    field(rt, dates::month_length(year, month))?;
+    field(rt, dates::weekday(year, month, 1))?;
+    field(rt, dates::last_sunday(year, month))?;
+    field(rt, dates::offset_hours(year, month, 1))?;
+    next_field(rt, year, month)?;
+    field(rt, change(year, month))?;
+    rt.write_all(b"\n")
 }
 
-fn print_months() {
-    let mut year = 2018;
-    while year <= 2099 {
-        let mut month = 1;
-        while month <= 12 {
-            print_month(year, month);
-            month += 1;
+fn print_months(rt: &impl Print) -> io::Result<()> {
+    for year in 2018..2100 {
+        for month in 1..13 {
+            print_month(rt, year, month)?;
         }
-        year += 1;
     }
+    Ok(())
 }
 
-fn print_judged(line: &[u8]) {
+fn print_judged(rt: &impl Print, line: &[u8]) -> io::Result<()> {
     match moments::read_moment(line) {
         MomentRead::Real(m) => {
-            io::write_all(STDOUT_FILENO, b"moment");
-            field(moments::instant(m));
+            rt.write_all(b"moment")?;
+            field(rt, moments::instant(m))?;
         }
         MomentRead::Malformed => {
-            io::write_all(STDOUT_FILENO, b"malformed");
+            rt.write_all(b"malformed")?;
         }
     }
     if ids::transaction_id(line) {
-        io::write_all(STDOUT_FILENO, b" id\n");
+        rt.write_all(b" id\n")
     } else {
-        io::write_all(STDOUT_FILENO, b" malformed\n");
+        rt.write_all(b" malformed\n")
     }
 }
 
-fn print_lines(text: &[u8]) {
+fn print_lines(rt: &impl Print, text: &[u8]) -> io::Result<()> {
     let mut start = 0;
     let mut end = 0;
     while end < text.len() {
         if text[end] == b'\n' {
-            print_judged(&text[start..end]);
+            print_judged(rt, &text[start..end])?;
             start = end + 1;
         }
         end += 1;
     }
+    Ok(())
 }
 
-fn main() {
-    print_months();
-    let mut buffer = io::large_buffer();
-    let got = io::read_full(STDIN_FILENO, &mut buffer);
-    print_lines(&buffer[..got]);
+// Reads until the buffer is full or the input ends; answers how many bytes.
+fn read_full(rt: &impl Input, buffer: &mut [u8]) -> io::Result<usize>
+    ensures { IfOk result (λ n. n ≤ length buffer.new) }
+{
+    let mut input = rt.reader();
+    let mut n = 0;
+    while n < buffer.len() {
+        let more = input.read(&mut buffer[n..])?;
+        if more == 0 {
+            break;
+        }
+        n += more;
+    }
+    Ok(n)
+}
+
+fn main(rt: HostRuntime) -> io::Result<()> {
+    print_months(&rt)?;
+    let mut buffer = [0u8; 65536];
+    let got = read_full(&rt, &mut buffer)?;
+    print_lines(&rt, &buffer[..got])
 }
