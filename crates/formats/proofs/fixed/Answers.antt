@@ -9,11 +9,6 @@ returns-in_default-fixed_at c =
     let a = c.args in
     rw c.in-At.is (fixed-none a.s.now c.in-At.p a.n (rw c.in-At.is at c.requires.0) c.in_default-fixed_at.ensures)
 
-pub overflow_add-result : goal.overflow_add-result
-overflow_add-result c =
-    let a = c.args in
-    omega (arith, fixed-room a.s.now c.in-At.p a.n (rw c.in-At.is at c.requires.0) c.in-Value.v c.in-Value.ensures)
-
 pub returns : goal.returns
 returns c =
     let a = c.args in

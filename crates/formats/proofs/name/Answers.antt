@@ -10,12 +10,6 @@ use Rattle.formats.specs.PlaceInner.{Parsed}
 use Rattle.formats.specs.PlaceLaws.{not_there, span-room, name-short, name-long, name-there}
 use Rattle.formats.proofs.name.Goals as goal
 
-pub name_end-e-requires : goal.name_end-e-requires
-name_end-e-requires c = rw c.in-At.is at c.requires
-
-pub overflow_sub-n : goal.overflow_sub-n
-overflow_sub-n c = omega (arith, c.name_end-e.ensures)
-
 pub returns-then-n-least : goal.returns-then-n-least
 returns-then-n-least c =
     let a = c.args in

@@ -9,9 +9,6 @@ use Rattle.formats.specs.Name.{name_byte}
 use Rattle.formats.specs.PlaceLaws.{span-short, span-stop, span-step}
 use Rattle.formats.proofs.name_end.Goals as goal
 
-pub loop-p-init : goal.loop-p-init
-loop-p-init c = (search rules, refl)
-
 pub returns-then-not-is_name_byte : goal.returns-then-not-is_name_byte
 returns-then-not-is_name_byte c =
     let l = c.loop-p in

@@ -40,14 +40,6 @@ returns-then-not-is_digit c =
     not_there (number_parse a.stop a.max) a.s.now a.at 0
     (number_step a.stop a.max a.s.now a.at (search rules) ∙ rw (sym c.is_digit.ensures ∙ c.if-not-is_digit.true))
 
-pub overflow_sub-acc : goal.overflow_sub-acc
-overflow_sub-acc c = (digit-is _ (sym c.is_digit.ensures ∙ c.if-not-is_digit.false)).lo
-
-pub overflow_cast-acc : goal.overflow_cast-acc
-overflow_cast-acc c =
-    let a = c.args in
-    omega (arith, digit-is (get_or a.s.now a.at 0) (sym c.is_digit.ensures ∙ c.if-not-is_digit.false))
-
 pub loop-p-init : goal.loop-p-init
 loop-p-init c =
     let a = c.args in
@@ -66,20 +58,11 @@ returns-then-not-is_digit-2 c =
     let l = c.loop-p in
     none a.s.now a.at a.stop a.max (step a.s.now a.at a.stop a.max l.p l.acc (search rules) l.invariant.2 ∙ rw (ne_eqb _ _ c.if-x-stop.false, (sym c.is_digit-in-loop-p.ensures ∙ c.if-not-is_digit-2.true)))
 
-pub overflow_sub-d : goal.overflow_sub-d
-overflow_sub-d c = (digit-is _ (sym c.is_digit-in-loop-p.ensures ∙ c.if-not-is_digit-2.false)).lo
-
-pub overflow_cast-d : goal.overflow_cast-d
-overflow_cast-d c = omega (arith, digit-is (get_or c.args.s.now c.loop-p.p 0) (sym c.is_digit-in-loop-p.ensures ∙ c.if-not-is_digit-2.false))
-
 pub returns-then-acc-eq0 : goal.returns-then-acc-eq0
 returns-then-acc-eq0 c =
     let a = c.args in
     let l = c.loop-p in
     none a.s.now a.at a.stop a.max (step a.s.now a.at a.stop a.max l.p l.acc (search rules) l.invariant.2 ∙ rw (ne_eqb _ _ c.if-x-stop.false, (sym c.is_digit-in-loop-p.ensures ∙ c.if-not-is_digit-2.false), le-ltb 0 l.acc (omega arith)))
-
-pub overflow_sub-max : goal.overflow_sub-max
-overflow_sub-max c = omega (arith, digit-is (get_or c.args.s.now c.loop-p.p 0) (sym c.is_digit-in-loop-p.ensures ∙ c.if-not-is_digit-2.false))
 
 pub returns-then-max-d : goal.returns-then-max-d
 returns-then-max-d c =
@@ -87,12 +70,6 @@ returns-then-max-d c =
     let l = c.loop-p in
     let d = digit-is (get_or a.s.now l.p 0) (sym c.is_digit-in-loop-p.ensures ∙ c.if-not-is_digit-2.false) in
     none a.s.now a.at a.stop a.max (step a.s.now a.at a.stop a.max l.p l.acc (search rules) l.invariant.2 ∙ rw (ne_eqb _ _ c.if-x-stop.false, (sym c.is_digit-in-loop-p.ensures ∙ c.if-not-is_digit-2.false), lt-ltb 0 l.acc (omega arith), lt-leb (l.acc * 10 + (get_or a.s.now l.p 0 - 48)) a.max (omega arith)))
-
-pub overflow_mul-acc : goal.overflow_mul-acc
-overflow_mul-acc c = omega (arith, digit-is (get_or c.args.s.now c.loop-p.p 0) (sym c.is_digit-in-loop-p.ensures ∙ c.if-not-is_digit-2.false))
-
-pub overflow_add-acc : goal.overflow_add-acc
-overflow_add-acc c = omega (arith, digit-is (get_or c.args.s.now c.loop-p.p 0) (sym c.is_digit-in-loop-p.ensures ∙ c.if-not-is_digit-2.false))
 
 pub loop-p-preserved : goal.loop-p-preserved
 loop-p-preserved c =

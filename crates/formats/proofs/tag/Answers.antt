@@ -10,11 +10,6 @@ returns-then-not-matches c =
     let a = c.args in
     rw c.in-At.is (tag-none a.t.now a.s.now c.in-At.p (sym c.matches.ensures ∙ c.if-not-matches.true))
 
-pub overflow_add-result : goal.overflow_add-result
-overflow_add-result c =
-    let a = c.args in
-    omega (arith, tag-room a.t.now a.s.now c.in-At.p (rw c.in-At.is at c.requires) (sym c.matches.ensures ∙ c.if-not-matches.false))
-
 pub returns : goal.returns
 returns c =
     let a = c.args in

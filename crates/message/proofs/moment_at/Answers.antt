@@ -8,11 +8,6 @@ use Rattle.formats.specs.ExactlyLaws.{exactly-there, exactly-none, exactly-short
 use native.Mathlib.Omega.{arith}
 use Rattle.message.proofs.moment_at.Goals as goal
 
-pub overflow_sub-s : goal.overflow_sub-s
-overflow_sub-s c =
-    let h = rw c.in-At.is at c.requires in
-    omega (arith, h)
-
 pub returns-then-s-p-lt29 : goal.returns-then-s-p-lt29
 returns-then-s-p-lt29 c =
     let a = c.args in

@@ -6,10 +6,6 @@ use Rattle.text.specs.WrittenLaws.{and_then}
 use native.Mathlib.Omega.{arith}
 use Rattle.moments.proofs.put_date.Goals as goal
 
-pub put_fixed-a-requires : goal.put_fixed-a-requires
-unfolding fixed
-put_fixed-a-requires c = omega arith
-
 pub put-b-requires : goal.put-b-requires
 unfolding fixed
 put-b-requires c = omega arith

@@ -6,14 +6,6 @@ use Rattle.text.specs.WrittenLaws.{and_then}
 use native.Mathlib.Omega.{arith}
 use Rattle.moments.proofs.put_time.Goals as goal
 
-pub put-a-requires : goal.put-a-requires
-unfolding fixed
-put-a-requires c = omega arith
-
-pub put_fixed-b-requires : goal.put_fixed-b-requires
-unfolding fixed
-put_fixed-b-requires c = omega arith
-
 pub put-c-requires : goal.put-c-requires
 unfolding fixed
 put-c-requires c = omega arith

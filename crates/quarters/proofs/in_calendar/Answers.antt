@@ -3,9 +3,6 @@ use Rattle.quarters.specs.QuartersLaws.{day-start-few}
 use native.Mathlib.Omega.{arith}
 use Rattle.quarters.proofs.in_calendar.Goals as goal
 
-pub day_start-requires : goal.day_start-requires
-day_start-requires c = omega (arith, c.requires)
-
 pub overflow_add-result : goal.overflow_add-result
 overflow_add-result c =
     omega (arith, c.day_start.ensures, day-start-few c.args.c c.args.day (omega (arith, c.requires)))

@@ -8,6 +8,3 @@ use Rattle.quarters.proofs.origin_of.Goals as goal
 pub overflow_mul-result : goal.overflow_mul-result
 overflow_mul-result c =
     omega (arith, origin-few c.args.c c.args.point c.requires.0 c.requires.1, ap (λ (q : ℕ). q * c.args.point) c.quarters_of.ensures)
-
-pub returns : goal.returns
-returns c = ap (λ (q : ℕ). q * c.args.point) c.quarters_of.ensures

@@ -5,6 +5,3 @@ use Rattle.quarters.proofs.quarters_of.Goals as goal
 
 pub day_start-requires : goal.day_start-requires
 day_start-requires c = omega (arith, days-few c.args.c c.requires, c.days_of.ensures)
-
-pub returns : goal.returns
-returns c = cc

@@ -4,16 +4,6 @@ use lib.ListN.{length}
 use Rattle.emitter.specs.LaidLaws.{laid-dry, laid-full, laid-nowhere, laid-live, room_for}
 use Rattle.emitter.proofs.laying.lay.Goals as goal
 
-pub returns-then-not-live : goal.returns-then-not-live
-returns-then-not-live c =
-    let a = c.args in
-    laid-dry a.live a.out.now a.m a.tag.now c.ahead-next.result (c.if-not-live.true) c.ahead-next.ensures
-
-pub returns-in_default : goal.returns-in_default
-returns-in_default c =
-    let a = c.args in
-    laid-full a.live a.out.now a.m a.tag.now (sym c.ahead-next.ensures ∙ c.in_default.is)
-
 pub returns-in_default-m : goal.returns-in_default-m
 returns-in_default-m c =
     let a = c.args in

@@ -10,28 +10,6 @@ use Rattle.writer.specs.StepsLaws.{six-directions, behind-none, behind-not-six, 
 use Rattle.writer.specs.RowsInner.{six_at, behind}
 use Rattle.writer.proofs.judging.in_rows.Goals as goal
 
-pub six_at-requires : goal.six_at-requires
-six_at-requires c = omega arith
-
-pub returns-then-not-six_at : goal.returns-then-not-six_at
-returns-then-not-six_at c =
-    let a = c.args in
-    sym (ap (λ (b : Bool). b && behind a.kind a.last a.rows.now 0 (length a.rows.now / 6 - 1)) (sym c.six_at.ensures ∙ c.if-not-six_at.true))
-
-pub loop-at-init : goal.loop-at-init
-loop-at-init c =
-    let a = c.args in
-    let six = sym c.six_at.ensures ∙ c.if-not-six_at.false in (
-      omega arith,
-      omega arith,
-      six,
-      ap (λ (b : Bool). b && behind a.kind a.last a.rows.now 0 (length a.rows.now / 6 - 1)) six
-          ∙ ap (λ (n : ℕ). behind a.kind a.last a.rows.now 0 (n / 6 - 1)) (sym (sub-zero (length a.rows.now))),
-    )
-
-pub six_at-requires-in-loop-at : goal.six_at-requires-in-loop-at
-six_at-requires-in-loop-at c = omega arith
-
 pub returns-then-not-six_at-2 : goal.returns-then-not-six_at-2
 returns-then-not-six_at-2 c =
     let a = c.args in

@@ -5,17 +5,6 @@ use Rattle.writer.specs.RunsLaws.{no-series}
 use native.Mathlib.Omega.{arith}
 use Rattle.writer.proofs.runs.count_series.Goals as goal
 
-pub loop-left-init : goal.loop-left-init
-loop-left-init c = (omega arith, omega arith, omega arith)
-
-pub directions_run-run-requires : goal.directions_run-run-requires
-directions_run-run-requires c = record { some = omega arith; within = omega arith }
-
-pub loop-left-preserved : goal.loop-left-preserved
-loop-left-preserved c =
-    let p = c.directions_run-run.ensures in
-    (omega (arith, p.within), omega (arith, p.some), omega (arith, ap length p.first))
-
 pub returns : goal.returns
 returns c =
     let l = c.loop-left in

@@ -7,9 +7,6 @@ use borrow.Author.Tests.{eq-eqb, ne_eqb}
 use native.Mathlib.Omega.{arith}
 use Rattle.writer.proofs.runs.directions_run.Goals as goal
 
-pub loop-run-init : goal.loop-run-init
-loop-run-init c = (omega arith, omega arith, one-first (λ x. x.1) c.args.rows.now c.args.at)
-
 pub returns-then-rows-next : goal.returns-then-rows-next
 returns-then-rows-next c =
     let a = c.args in
@@ -22,13 +19,6 @@ returns-then-rows-next-2 c =
     let l = c.loop-run in
     directions-run a.rows.now a.at a.n l.run l.invariant.0 l.invariant.1 l.invariant.2
     (λ d. rw (eq-eqb (get_or a.rows.now (a.at + 1) 0) (get_or a.rows.now (a.at + 6 * l.run + 1) 0) (sym c.if-rows-next.false), ne_eqb (get_or a.rows.now (a.at + 2) 0) (get_or a.rows.now (a.at + 6 * l.run + 2) 0) (λ e. c.if-rows-next-2.true (sym e))))
-
-pub loop-run-preserved : goal.loop-run-preserved
-loop-run-preserved c =
-    let a = c.args in
-    let l = c.loop-run in
-    let k : ℕ × ℕ = (get_or a.rows.now (a.at + 1) 0, get_or a.rows.now (a.at + 2) 0) in
-    (omega arith, omega arith, one_more (λ x. x.1) a.rows.now a.at k l.run l.invariant.2 (λ i. (c.if-rows-next.false i, c.if-rows-next-2.false i)))
 
 pub returns : goal.returns
 returns c =

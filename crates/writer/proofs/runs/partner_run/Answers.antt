@@ -7,20 +7,11 @@ use borrow.Author.Tests.{ne_eqb}
 use native.Mathlib.Omega.{arith}
 use Rattle.writer.proofs.runs.partner_run.Goals as goal
 
-pub loop-run-init : goal.loop-run-init
-loop-run-init c = (omega arith, omega arith, one-first (λ x. x) c.args.rows.now c.args.at)
-
 pub returns-then-rows-at : goal.returns-then-rows-at
 returns-then-rows-at c =
     let a = c.args in
     let l = c.loop-run in
     partner-run a.rows.now a.at a.n l.run l.invariant.0 l.invariant.1 l.invariant.2 (λ d. ne_eqb _ _ (λ e. c.if-rows-at.true (sym e)))
-
-pub loop-run-preserved : goal.loop-run-preserved
-loop-run-preserved c =
-    let a = c.args in
-    let l = c.loop-run in
-    (omega arith, omega arith, one_more (λ x. x) a.rows.now a.at (get_or a.rows.now a.at 0) l.run l.invariant.2 c.if-rows-at.false)
 
 pub returns : goal.returns
 returns c =

@@ -10,9 +10,6 @@ use Rattle.emitter.specs.PartsLaws.{partner-parts}
 use Rattle.emitter.specs.LaidLaws.{laid_then, laid-is, laid-stands}
 use Rattle.writer.proofs.writing.emit_partner.Goals as goal
 
-pub emit_partner_head-a-requires : goal.emit_partner_head-a-requires
-emit_partner_head-a-requires c = (writable-first c.requires.1 c.requires.0).supply
-
 pub emit_series_list-b-requires : goal.emit_series_list-b-requires
 emit_series_list-b-requires c = (c.requires.1, laid-stands c.emit_partner_head-a.ensures)
 

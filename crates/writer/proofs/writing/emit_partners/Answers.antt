@@ -12,15 +12,6 @@ use Rattle.writer.proofs.writing.emit_partners.Goals as goal
 pub loop-left-init : goal.loop-left-init
 loop-left-init c = (c.requires.0, laying-none _ _ _ _ c.requires.1)
 
-pub partner_run-run-requires : goal.partner_run-run-requires
-partner_run-run-requires c = record { some = omega arith; within = c.loop-left.invariant.0.within }
-
-pub emit_partner-a-requires : goal.emit_partner-a-requires
-emit_partner-a-requires c =
-    let r = c.partner_run-run in
-    let l = c.loop-left in
-    (r.ensures.some, writable-part l.invariant.0 l.next 0 r.result (omega arith) (omega (arith, r.ensures.within)))
-
 pub loop-left-preserved : goal.loop-left-preserved
 loop-left-preserved c =
     let l = c.loop-left in

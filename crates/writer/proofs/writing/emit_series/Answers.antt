@@ -10,11 +10,6 @@ use Rattle.emitter.specs.PartsLaws.{series-parts}
 use Rattle.emitter.specs.LaidLaws.{laid_then, laid-is, laid-stands}
 use Rattle.writer.proofs.writing.emit_series.Goals as goal
 
-pub emit_series_head-a-requires : goal.emit_series_head-a-requires
-emit_series_head-a-requires c =
-    let p = writable-first c.requires.1 c.requires.0 in
-    (p.supply, p.delivery, c.requires.1.period c.requires.0)
-
 pub emit_observations-b-requires : goal.emit_observations-b-requires
 emit_observations-b-requires c = (c.requires.1.within, laid-stands c.emit_series_head-a.ensures)
 

@@ -7,9 +7,3 @@ use Rattle.writer.proofs.writing.write.Goals as goal
 
 pub returns-in_default : goal.returns-in_default
 returns-in_default c = wrote-no-kind _ _ _ _ _ _ _ _ (sym c.kind_numbered-numbered.ensures ∙ ap kind_in c.in_default.is)
-
-pub returns : goal.returns
-returns c =
-    let n = c.kind_numbered-numbered in
-    let a = c.args in
-    rw (number-kind a.kind c.in-Of.known (sym n.ensures ∙ ap kind_in c.in-Of.is)) at c.write_kind.ensures

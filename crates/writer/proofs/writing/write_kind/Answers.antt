@@ -12,6 +12,3 @@ pub returns-then-not-in_form : goal.returns-then-not-in_form
 returns-then-not-in_form c =
     let a = c.args in
     wrote-malformed (kind_number a.kind) a.receiver a.year a.month a.rows.now a.id.now a.moment.now a.file.now a.kind (kind-numbered a.kind) (sym c.judge_rows.ensures ∙ c.if-not-judge_rows.false) (sym c.in_form.ensures ∙ c.if-not-in_form.true)
-
-pub write_file-requires : goal.write_file-requires
-write_file-requires c = (sym c.judge_rows.ensures ∙ c.if-not-judge_rows.false, sym c.in_form.ensures ∙ c.if-not-in_form.false)
