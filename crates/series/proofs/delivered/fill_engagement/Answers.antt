@@ -19,46 +19,34 @@ use Rattle.quarters.specs.QuartersInner.{longest_day}
 use Rattle.series.proofs.delivered.fill_engagement.Goals.{After-engagement_at-e, Start}
 use Rattle.series.proofs.delivered.fill_engagement.Goals as goal
 
--- the rows of a day have room
-room : (s : Start) → row_width * (engagement_at s.args.engagements.now s.args.i).count ≤ length (replicate (row_width * longest_day) (pos 0))
-room s = omega (arith, (engagement-placed s.requires.0 s.args.i s.requires.2).few, length-replicate (row_width * longest_day) (pos 0))
-
 pub settle_engagement_at-requires : goal.settle_engagement_at-requires
 settle_engagement_at-requires c =
-    let s = c.before.before.before.before.before in
-    (s.requires.0, s.requires.1, s.requires.2, s.requires.3, omega (arith, (engagement-placed s.requires.0 s.args.i s.requires.2).few), s.requires.5)
-
--- as many volumes as were read
-count : (c : After-engagement_at-e) → c.engagement_at-e.result.count ≡ (engagement_at c.args.engagements.now c.args.i).count
-count c = ap (λ (e : Engagement). e.count) c.engagement_at-e.ensures
+    (c.requires.0, c.requires.1, c.requires.2, c.requires.3, omega (arith, (engagement-placed c.requires.0 c.args.i c.requires.2).few), c.requires.5)
 
 pub store_volumes-requires : goal.store_volumes-requires
 store_volumes-requires c =
-    let g = c.before.before.before in
-    let f = g.before.before in
-    let s = f.before.before.before.before.before.before in
-    let a = s.args in
+    let room : row_width * (engagement_at c.args.engagements.now c.args.i).count ≤ length (replicate (row_width * longest_day) (pos 0)) = omega (arith, (engagement-placed c.requires.0 c.args.i c.requires.2).few, length-replicate (row_width * longest_day) (pos 0)) in
+    let count : c.engagement_at-e.result.count ≡ (engagement_at c.args.engagements.now c.args.i).count = ap (λ (e : Engagement). e.count) c.engagement_at-e.ensures in
+    let a = c.args in
     let e = engagement_at a.engagements.now a.i in
     let book = book_with a.book.now a.engagements.now in
-    (omega (arith, count g, s.requires.4), omega (arith, count g, room s, f.settle_engagement_at.auto.1.1.1.1.1.0, length-replicate (row_width * longest_day) (pos 0)), λ k h. ap dn (volume-is book e (replicate (row_width * longest_day) (pos 0)) f.settle_engagement_at.new.1.1.1.1.1.0 f.settle_engagement_at.ensures.1 (room s) k (omega (arith, h, count g))))
+    (omega (arith, count, c.requires.4), omega (arith, count, room, c.settle_engagement_at.auto.out, length-replicate (row_width * longest_day) (pos 0)), λ k h. ap dn (volume-is book e (replicate (row_width * longest_day) (pos 0)) c.settle_engagement_at.new.out c.settle_engagement_at.ensures.1 room (omega (arith, h, count))))
 
 pub overflow_add-result : goal.overflow_add-result
 overflow_add-result c =
-    let g = c.before.before.before.before.before.before in
-    let s = g.before.before.before.before.before.before.before.before in
-    omega (arith, count g, s.requires.4, s.well_formed)
+    let count : c.engagement_at-e.result.count ≡ (engagement_at c.args.engagements.now c.args.i).count = ap (λ (e : Engagement). e.count) c.engagement_at-e.ensures in
+    omega (arith, count, c.requires.4, c.well_formed)
 
 pub returns : goal.returns
 returns c =
-    let g = c.before.before.before.before.before.before in
-    let f = g.before.before in
-    let s = f.before.before.before.before.before.before in
-    let a = s.args in
+    let room : row_width * (engagement_at c.args.engagements.now c.args.i).count ≤ length (replicate (row_width * longest_day) (pos 0)) = omega (arith, (engagement-placed c.requires.0 c.args.i c.requires.2).few, length-replicate (row_width * longest_day) (pos 0)) in
+    let count : c.engagement_at-e.result.count ≡ (engagement_at c.args.engagements.now c.args.i).count = ap (λ (e : Engagement). e.count) c.engagement_at-e.ensures in
+    let a = c.args in
     let e = engagement_at a.engagements.now a.i in
     let book = book_with a.book.now a.engagements.now in
-    let rows = f.settle_engagement_at.new.1.1.1.1.1.0 in (
-      ap (λ (n : ℕ). a.at + n) (count g),
+    let rows = c.settle_engagement_at.new.out in (
+      ap (λ (n : ℕ). a.at + n) count,
       c.store_volumes.ensures
-          ∙ ap (λ (n : ℕ). sets a.volumes-1.now a.at (map (λ k. up (volume_in rows k)) (range 0 n))) (count g)
-          ∙ ap (sets a.volumes-1.now a.at) (volumes-are book e (replicate (row_width * longest_day) (pos 0)) rows f.settle_engagement_at.ensures.1 (room s)),
+          ∙ ap (λ (n : ℕ). sets a.volumes.now a.at (map (λ k. up (volume_in rows k)) (range 0 n))) count
+          ∙ ap (sets a.volumes.now a.at) (volumes-are book e (replicate (row_width * longest_day) (pos 0)) rows c.settle_engagement_at.ensures.1 room),
     )

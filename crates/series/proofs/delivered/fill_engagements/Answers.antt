@@ -18,28 +18,20 @@ use Rattle.series.proofs.delivered.fill_engagements.Goals as goal
 pub loop-i-init : goal.loop-i-init
 loop-i-init c = (search rules, omega (arith, count_none c.args.engagements.now), sym (parts_none _ _ _))
 
--- the volumes lent have room for one engagement's more
-room : (c : In-loop-i) → let s = c.before.before.before.before.before.before in
-    let l = c.loop-i in
-    l.at + (engagement_at s.args.engagements.now l.i).count ≤ length l.volumes-1
-room c =
-    let s = c.before.before.before.before.before.before in
-    let l = c.loop-i in
-    let a = s.args in
-    let engagements = a.engagements.now in
-    let same = ap length l.invariant.2 ∙ length-sets a.volumes-1.now 0 (parts_to (volumes_of (book_with a.book.now engagements)) engagements l.i) in
-    omega (arith, same, l.invariant.1, count-more engagements l.i (search rules), count_most engagements (l.i + 1), s.requires.3)
-
 pub fill_engagement-at-requires : goal.fill_engagement-at-requires
 fill_engagement-at-requires c =
-    let s = c.before.before.before.before.before.before.before in
-    (s.requires.0, s.requires.1, search rules, not-refused s.requires.0 s.requires.2 c.loop-i.i (search rules), room c.before, s.requires.4)
+    let room : let l = c.loop-i in
+    l.at + (engagement_at c.args.engagements.now l.i).count ≤ length l.volumes = let l = c.loop-i in
+    let a = c.args in
+    let engagements = a.engagements.now in
+    let same = ap length l.invariant.2 ∙ length-sets a.volumes.now 0 (parts_to (volumes_of (book_with a.book.now engagements)) engagements l.i) in
+    omega (arith, same, l.invariant.1, count-more engagements l.i (search rules), count_most engagements (l.i + 1), c.requires.3) in
+    (c.requires.0, c.requires.1, search rules, not-refused c.requires.0 c.requires.2 c.loop-i.i (search rules), room, c.requires.4)
 
 pub loop-i-preserved : goal.loop-i-preserved
 loop-i-preserved c =
-    let s = c.before.before.before.before.before.before.before.before.before.before in
     let l = c.loop-i in
-    let a = s.args in
+    let a = c.args in
     let book = book_with a.book.now a.engagements.now in
     let r = c.fill_engagement-at.ensures in
     let place : l.at ≡ 1 * row_count_to a.engagements.now l.i = omega (arith, l.invariant.1) in (
@@ -47,7 +39,7 @@ loop-i-preserved c =
       omega (arith, r.0, l.invariant.1, count-more a.engagements.now l.i (search rules)),
       r.1
           ∙ ap (λ (o : List ℕ). sets o l.at (volumes_of book (engagement_at a.engagements.now l.i))) l.invariant.2
-          ∙ parts_more (volumes_of book) a.engagements.now 1 (volumes-each book) a.volumes-1.now l.at l.i (search rules) place,
+          ∙ parts_more (volumes_of book) a.engagements.now 1 (volumes-each book) a.volumes.now l.at l.i (search rules) place,
     )
 
 pub shape_of-volumes : goal.shape_of-volumes
@@ -55,6 +47,5 @@ shape_of-volumes c = ap length c.loop-i.invariant.2 ∙ simp length-sets
 
 pub returns : goal.returns
 returns c =
-    let s = c.before.before.before.before.before.before in
     let l = c.loop-i in
-    l.invariant.2 ∙ ap (sets s.args.volumes-1.now 0) (volumes-all _ _ l.i (search rules))
+    l.invariant.2 ∙ ap (sets c.args.volumes.now 0) (volumes-all _ _ l.i (search rules))

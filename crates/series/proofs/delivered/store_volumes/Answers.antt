@@ -18,27 +18,22 @@ loop-k-init c = (search rules, refl)
 
 pub volume_at-requires : goal.volume_at-requires
 volume_at-requires c =
-    let s = c.before.before.before in
-    (omega (arith, s.requires.1), s.requires.2 c.loop-k.k (omega arith))
+    (omega (arith, c.requires.1), c.requires.2 c.loop-k.k (omega arith))
 
 pub bounds-volumes-at : goal.bounds-volumes-at
 bounds-volumes-at c =
-    let l = c.before.before in
-    let s = l.before.before in
-    omega (arith, s.requires.0, ap length l.loop-k.invariant.1 ∙ length-sets s.args.volumes.now s.args.at (map (λ j. up (volume_in s.args.rows.now j)) (range 0 l.loop-k.k)))
+    omega (arith, c.requires.0, ap length c.loop-k.invariant.1 ∙ length-sets c.args.volumes.now c.args.at (map (λ j. up (volume_in c.args.rows.now j)) (range 0 c.loop-k.k)))
 
 pub loop-k-preserved : goal.loop-k-preserved
 loop-k-preserved c =
-    let l = c.before.before in
-    let a = l.args in
-    (search rules, ap (λ (m : List ℕ). set m (a.at + l.loop-k.k) c.volume_at.result) l.loop-k.invariant.1 ∙ set_next (λ j. up (volume_in a.rows.now j)) a.volumes.now a.at l.loop-k.k c.volume_at.result c.volume_at.ensures)
+    let a = c.args in
+    (search rules, ap (λ (m : List ℕ). set m (a.at + c.loop-k.k) c.volume_at.result) c.loop-k.invariant.1 ∙ set_next (λ j. up (volume_in a.rows.now j)) a.volumes.now a.at c.loop-k.k c.volume_at.result c.volume_at.ensures)
 
 pub shape_of-volumes : goal.shape_of-volumes
 shape_of-volumes c = ap length c.loop-k.invariant.1 ∙ simp length-sets
 
 pub returns : goal.returns
 returns c =
-    let l = c.before in
-    let a = l.args in
-    let all : l.loop-k.k ≡ a.n = omega arith in
-    l.loop-k.invariant.1 ∙ ap (λ (k : ℕ). sets a.volumes.now a.at (map (λ j. up (volume_in a.rows.now j)) (range 0 k))) all
+    let a = c.args in
+    let all : c.loop-k.k ≡ a.n = omega arith in
+    c.loop-k.invariant.1 ∙ ap (λ (k : ℕ). sets a.volumes.now a.at (map (λ j. up (volume_in a.rows.now j)) (range 0 k))) all

@@ -9,14 +9,12 @@ use Rattle.series.specs.VolumesLaws.{unsigned, unsigned_is}
 use Rattle.series.proofs.delivered.volume_at.Goals as goal
 
 pub overflow_cast-result : goal.overflow_cast-result
-overflow_cast-result c = let s = c.before in
-    let z = get_or s.args.rows.now s.args.i (pos 0) in
+overflow_cast-result c = let z = get_or c.args.rows.now c.args.i (pos 0) in
     let back : to_z w64 (of_z w64 z) ≡ z = search rules in
     let fits : SFits w64 z = search rules in
-    rw back (unsigned z s.requires.1 fits)
+    rw back (unsigned z c.requires.1 fits)
 
 pub returns : goal.returns
-returns c = let s = c.before in
-    let z = get_or s.args.rows.now s.args.i (pos 0) in
+returns c = let z = get_or c.args.rows.now c.args.i (pos 0) in
     let back : to_z w64 (of_z w64 z) ≡ z = search rules in
-    rw back (unsigned_is z s.requires.1)
+    rw back (unsigned_is z c.requires.1)

@@ -19,75 +19,81 @@ use Rattle.series.specs.SumsLaws.{by-cong, added-length, rows_few, placed, volum
 use Rattle.series.proofs.sums.add_engagements.Goals.{After-cell_of-first, In-loop-i}
 use Rattle.series.proofs.sums.add_engagements.Goals as goal
 
--- an engagement of the section
-inside : (c : In-loop-i) → c.loop-i.i < engagement_count_in c.args.engagements.now
-inside c = search rules
-
--- what was read of it: its rows in the series, and the cell of its first position
-rows_are : (c : After-cell_of-first) → let a = c.args in
-    let i = c.loop-i.i in
-    (b : Book) → Parts a.c a.register.now a.engagements.now a.volumes.now b
-    → c.series_rows-own.result ≡ cond (is_engagement b a.role.kind a.role.receiver a.s (engagement_at a.engagements.now i)) (engagement_at a.engagements.now i).count 0
-rows_are c b p =
-    let a = c.args in
-    let read = c.engagement_at-e.ensures in
-    c.series_rows-own.ensures b (rw read (p.owner c.loop-i.i (inside c.before.before.before)))
-    ∙ ap (λ (e : Engagement). cond (is_engagement b a.role.kind a.role.receiver a.s e) e.count 0) read
-
-start_is : (c : After-cell_of-first) → let a = c.args in
-    c.cell_of-first.result + 1 ≡ start_position a.c (engagement_at a.engagements.now c.loop-i.i)
-start_is c = let a = c.args in
-    let e = c.engagement_at-e.result in
-    let from_one : c.cell_of-first.result + 1 ≡ start_position a.c e = omega (arith, c.cell_of-first.ensures, cell-position a.c e.day e.first) in
-    from_one ∙ ap (start_position a.c) c.engagement_at-e.ensures
-
 pub loop-i-init : goal.loop-i-init
-loop-i-init c = let s = c.before.before.before.before in
-    let a = s.args in
-    (search rules, omega (arith, count_none a.engagements.now), refl, λ b p. s.requires.2 ∙ by-cong (λ q. 0) (grains_to b a.role.kind a.role.receiver a.s 0) (month_quarters a.c) a.grains-1.now (λ q _ _. sym (grains-none p _ _ _ q)))
+loop-i-init c = let a = c.args in
+    (search rules, omega (arith, count_none a.engagements.now), refl, λ b p. c.requires.2 ∙ by-cong (λ q. 0) (grains_to b a.role.kind a.role.receiver a.s 0) (month_quarters a.c) a.grains.now (λ q _ _. sym (grains-none p _ _ _ q)))
 
 pub series_rows-own-requires : goal.series_rows-own-requires
-series_rows-own-requires c = let s = c.before.before.before.before.before.before.before in
-    rw c.engagement_at-e.ensures (s.requires.0.parts.registered c.loop-i.i (inside c.before))
+series_rows-own-requires c =
+    let inside : c.loop-i.i < engagement_count_in c.args.engagements.now = search rules in
+    rw c.engagement_at-e.ensures (c.requires.0.parts.registered c.loop-i.i inside)
 
 pub cell_of-first-requires : goal.cell_of-first-requires
-cell_of-first-requires c = let s = c.before.before.before.before.before.before.before.before in
-    let p = s.requires.0.parts in
+cell_of-first-requires c =
+    let inside : c.loop-i.i < engagement_count_in c.args.engagements.now = search rules in
+    let p = c.requires.0.parts in
     let r = rw p.when at p.sound.ranged in
-    let at = placed p c.loop-i.i (inside c.before.before) in
-    rw c.engagement_at-e.ensures (omega (arith, at.inside, days-few s.args.c r), at.settled)
+    let at = placed p c.loop-i.i inside
+    rw c.engagement_at-e.ensures (omega (arith, at.inside, days-few c.args.c r), at.settled)
 
 pub add_volumes-requires : goal.add_volumes-requires
-add_volumes-requires c = let w = c.before in
-    let s = w.before.before.before.before.before.before.before.before.before in
-    let a = s.args in
-    let l = w.loop-i in
-    let b = s.requires.0.book in
-    let p = s.requires.0.parts in
-    turn-adds p a.role.kind a.role.receiver a.s l.i l.at w.series_rows-own.result w.cell_of-first.result a.grains-1.now l.grains-1 (inside w.before.before.before) l.invariant.1 (rows_are w b p) (start_is w) s.requires.1 (l.invariant.3 b p)
+add_volumes-requires c =
+    let inside : c.loop-i.i < engagement_count_in c.args.engagements.now = search rules in
+    let rows_are : let a = c.args in
+    let i = c.loop-i.i in
+    (b : Book) → Parts a.c a.register.now a.engagements.now a.volumes.now b
+    → c.series_rows-own.result ≡ cond (is_engagement b a.role.kind a.role.receiver a.s (engagement_at a.engagements.now i)) (engagement_at a.engagements.now i).count 0 = let inside : c.loop-i.i < engagement_count_in c.args.engagements.now = search rules in
+    let a = c.args in
+    let read = c.engagement_at-e.ensures in
+    c.series_rows-own.ensures b (rw read (p.owner c.loop-i.i inside))
+    ∙ ap (λ (e : Engagement). cond (is_engagement b a.role.kind a.role.receiver a.s e) e.count 0) read in
+    let start_is : let a = c.args in
+    c.cell_of-first.result + 1 ≡ start_position a.c (engagement_at a.engagements.now c.loop-i.i) = let a = c.args in
+    let e = c.engagement_at-e.result in
+    let from_one : c.cell_of-first.result + 1 ≡ start_position a.c e = omega (arith, c.cell_of-first.ensures, cell-position a.c e.day e.first) in
+    from_one ∙ ap (start_position a.c) c.engagement_at-e.ensures in
+    let a = c.args in
+    let l = c.loop-i in
+    let b = c.requires.0.book in
+    let p = c.requires.0.parts in
+    turn-adds p a.role.kind a.role.receiver a.s l.i l.at c.series_rows-own.result c.cell_of-first.result a.grains.now l.grains inside l.invariant.1 (rows_are b p) start_is c.requires.1 (l.invariant.3 b p)
 
 pub overflow_add-at : goal.overflow_add-at
-overflow_add-at c = let w = c.before.before.before.before.before in
-    let s = w.before.before.before.before.before.before.before.before.before in
-    let l = w.loop-i in
-    let room = volumes-room s.requires.0.parts l.i (inside w.before.before.before) in
-    record { fits = omega (arith, l.invariant.1, room, ap (λ (e : Engagement). e.count) w.engagement_at-e.ensures) }
+overflow_add-at c =
+    let inside : c.loop-i.i < engagement_count_in c.args.engagements.now = search rules in
+    let l = c.loop-i in
+    let room = volumes-room c.requires.0.parts l.i inside
+    record { fits = omega (arith, l.invariant.1, room, ap (λ (e : Engagement). e.count) c.engagement_at-e.ensures) }
 
 pub overflow_add-i : goal.overflow_add-i
-overflow_add-i c = let w = c.before.before.before.before.before in
-    record { fits = omega (arith, inside w.before.before.before, rows_few w.requires.0.parts) }
+overflow_add-i c =
+    let inside : c.loop-i.i < engagement_count_in c.args.engagements.now = search rules in
+    record { fits = omega (arith, inside, rows_few c.requires.0.parts) }
 
 pub loop-i-preserved : goal.loop-i-preserved
-loop-i-preserved c = let w = c.before.before.before.before.before in
-    let s = w.before.before.before.before.before.before.before.before.before in
-    let a = s.args in
-    let l = w.loop-i in
+loop-i-preserved c =
+    let inside : c.loop-i.i < engagement_count_in c.args.engagements.now = search rules in
+    let rows_are : let a = c.args in
+    let i = c.loop-i.i in
+    (b : Book) → Parts a.c a.register.now a.engagements.now a.volumes.now b
+    → c.series_rows-own.result ≡ cond (is_engagement b a.role.kind a.role.receiver a.s (engagement_at a.engagements.now i)) (engagement_at a.engagements.now i).count 0 = let inside : c.loop-i.i < engagement_count_in c.args.engagements.now = search rules in
+    let a = c.args in
+    let read = c.engagement_at-e.ensures in
+    c.series_rows-own.ensures b (rw read (p.owner c.loop-i.i inside))
+    ∙ ap (λ (e : Engagement). cond (is_engagement b a.role.kind a.role.receiver a.s e) e.count 0) read in
+    let start_is : let a = c.args in
+    c.cell_of-first.result + 1 ≡ start_position a.c (engagement_at a.engagements.now c.loop-i.i) = let a = c.args in
+    let e = c.engagement_at-e.result in
+    let from_one : c.cell_of-first.result + 1 ≡ start_position a.c e = omega (arith, c.cell_of-first.ensures, cell-position a.c e.day e.first) in
+    from_one ∙ ap (start_position a.c) c.engagement_at-e.ensures in
+    let a = c.args in
+    let l = c.loop-i in
     let v = c.add_volumes.ensures in
-    let here = inside w.before.before.before in (
+    let here = inside in (
       omega (arith, here),
-      omega (arith, l.invariant.1, count-more a.engagements.now l.i here, ap (λ (e : Engagement). e.count) w.engagement_at-e.ensures),
-      ap length v ∙ added-length l.grains-1 w.cell_of-first.result _ w.series_rows-own.result ∙ l.invariant.2,
-      λ b p. v ∙ turn-sums p a.role.kind a.role.receiver a.s l.i l.at w.series_rows-own.result w.cell_of-first.result a.grains-1.now l.grains-1 here l.invariant.1 (rows_are w b p) (start_is w) s.requires.1 (l.invariant.3 b p),
+      omega (arith, l.invariant.1, count-more a.engagements.now l.i here, ap (λ (e : Engagement). e.count) c.engagement_at-e.ensures),
+      ap length v ∙ added-length l.grains c.cell_of-first.result _ c.series_rows-own.result ∙ l.invariant.2,
+      λ b p. v ∙ turn-sums p a.role.kind a.role.receiver a.s l.i l.at c.series_rows-own.result c.cell_of-first.result a.grains.now l.grains here l.invariant.1 (rows_are b p) start_is c.requires.1 (l.invariant.3 b p),
     )
 
 pub shape_of-grains : goal.shape_of-grains
@@ -95,6 +101,5 @@ shape_of-grains c = c.loop-i.invariant.2
 
 pub returns : goal.returns
 returns c = λ b p.
-    let l = c.before in
-    let a = l.args in
-    l.loop-i.invariant.3 b p ∙ by-cong _ _ (month_quarters a.c) a.grains-1.now (λ q _ _. grains-all p a.role.kind a.role.receiver a.s l.loop-i.i (search rules) q)
+    let a = c.args in
+    c.loop-i.invariant.3 b p ∙ by-cong _ _ (month_quarters a.c) a.grains.now (λ q _ _. grains-all p a.role.kind a.role.receiver a.s c.loop-i.i (search rules) q)

@@ -13,14 +13,11 @@ pub loop-i-init : goal.loop-i-init
 loop-i-init c = (search rules, refl, sym (by-none (λ p. 0) _))
 
 pub loop-i-preserved : goal.loop-i-preserved
-loop-i-preserved c = let l = c.before in
-    let s = l.before in
-    (search rules, length-set l.loop-i.cells l.loop-i.i 0 ∙ l.loop-i.invariant.1, ap (λ (g : List ℕ). set g l.loop-i.i 0) l.loop-i.invariant.2 ∙ by-more (λ p. 0) l.loop-i.i s.args.cells.now 0 (omega (arith, s.requires)) refl)
+loop-i-preserved c = (search rules, length-set c.loop-i.cells c.loop-i.i 0 ∙ c.loop-i.invariant.1, ap (λ (g : List ℕ). set g c.loop-i.i 0) c.loop-i.invariant.2 ∙ by-more (λ p. 0) c.loop-i.i c.args.cells.now 0 (omega (arith, c.requires)) refl)
 
 pub shape_of-cells : goal.shape_of-cells
 shape_of-cells c = c.loop-i.invariant.1
 
 pub returns : goal.returns
-returns c = let l = c.before in
-    let e : l.loop-i.i ≡ l.args.n = omega arith in
-    l.loop-i.invariant.2 ∙ ap (λ (k : ℕ). by_position (λ p. 0) k l.args.cells.now) e
+returns c = let e : c.loop-i.i ≡ c.args.n = omega arith in
+    c.loop-i.invariant.2 ∙ ap (λ (k : ℕ). by_position (λ p. 0) k c.args.cells.now) e

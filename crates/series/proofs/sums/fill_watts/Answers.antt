@@ -13,44 +13,34 @@ use Rattle.series.specs.SumsLaws.{by-none, by-rest, by-more, carried, carry-none
 use Rattle.series.proofs.sums.fill_watts.Goals.{In-loop-i}
 use Rattle.series.proofs.sums.fill_watts.Goals as goal
 
--- a position's grains are as they were when its turn comes
-cell : (c : In-loop-i) → get_or c.loop-i.cells c.loop-i.i 0 ≡ cell_at c.args.cells.now (c.loop-i.i + 1)
-cell c =
-    let l = c.before in
-    let s = l.before.before in
-    let first = s.args.cells.now in
-    ap (λ (t : List ℕ). get_or t l.loop-i.i 0) l.loop-i.invariant.3
-    ∙ by-rest (floor_at per_watt (cell_at first)) l.loop-i.i first (omega (arith, s.requires.0))
-    ∙ ap (cell_at first) (sym (add-one l.loop-i.i))
-
 pub loop-i-init : goal.loop-i-init
 loop-i-init c = (search rules, refl, carry-none _, sym (by-none _ _))
 
 pub bounds-cells-i : goal.bounds-cells-i
-bounds-cells-i c = let l = c.before.before in omega (arith, l.requires.0, l.loop-i.invariant.1)
+bounds-cells-i c = omega (arith, c.requires.0, c.loop-i.invariant.1)
 
 pub overflow_add-sum : goal.overflow_add-sum
-overflow_add-sum c = let l = c.before.before in
-    let s = l.before.before in
-    let at = ap (λ (t : List ℕ). get_or t l.loop-i.i 0) l.loop-i.invariant.3 ∙ by-rest (floor_at per_watt (cell_at s.args.cells.now)) l.loop-i.i s.args.cells.now (omega (arith, s.requires.0)) in
-    record { fits = omega (arith, at, l.loop-i.invariant.2, s.requires.1 l.loop-i.i (omega arith)) }
+overflow_add-sum c = let at = ap (λ (t : List ℕ). get_or t c.loop-i.i 0) c.loop-i.invariant.3 ∙ by-rest (floor_at per_watt (cell_at c.args.cells.now)) c.loop-i.i c.args.cells.now (omega (arith, c.requires.0)) in
+    record { fits = omega (arith, at, c.loop-i.invariant.2, c.requires.1 c.loop-i.i (omega arith)) }
 
 pub loop-i-preserved : goal.loop-i-preserved
-loop-i-preserved c = let l = c.before.before.before in
-    let s = l.before.before in
-    let first = s.args.cells.now in
-    let k = carried (cell_at first) l.loop-i.i l.loop-i.carry (get_or l.loop-i.cells l.loop-i.i 0) l.loop-i.invariant.2 (cell c.before.before) in (
+loop-i-preserved c =
+    let cell : get_or c.loop-i.cells c.loop-i.i 0 ≡ cell_at c.args.cells.now (c.loop-i.i + 1) = let first = c.args.cells.now in
+    ap (λ (t : List ℕ). get_or t c.loop-i.i 0) c.loop-i.invariant.3
+    ∙ by-rest (floor_at per_watt (cell_at first)) c.loop-i.i first (omega (arith, c.requires.0))
+    ∙ ap (cell_at first) (sym (add-one c.loop-i.i)) in
+    let first = c.args.cells.now in
+    let k = carried (cell_at first) c.loop-i.i c.loop-i.carry (get_or c.loop-i.cells c.loop-i.i 0) c.loop-i.invariant.2 cell (
       omega arith,
-      length-set l.loop-i.cells l.loop-i.i c.down_to_watts.result ∙ l.loop-i.invariant.1,
+      length-set c.loop-i.cells c.loop-i.i c.down_to_watts.result ∙ c.loop-i.invariant.1,
       k.left,
-      ap (λ (t : List ℕ). set t l.loop-i.i c.down_to_watts.result) l.loop-i.invariant.3 ∙ by-more (floor_at per_watt (cell_at first)) l.loop-i.i first c.down_to_watts.result (omega (arith, s.requires.0)) (c.down_to_watts.ensures ∙ k.whole),
+      ap (λ (t : List ℕ). set t c.loop-i.i c.down_to_watts.result) c.loop-i.invariant.3 ∙ by-more (floor_at per_watt (cell_at first)) c.loop-i.i first c.down_to_watts.result (omega (arith, c.requires.0)) (c.down_to_watts.ensures ∙ k.whole),
     )
 
 pub shape_of-cells : goal.shape_of-cells
 shape_of-cells c = c.loop-i.invariant.1
 
 pub returns : goal.returns
-returns c = let l = c.before in
-    let a = l.args in
-    let e : l.loop-i.i ≡ a.n = omega arith in
-    l.loop-i.invariant.3 ∙ ap (λ (k : ℕ). by_position (floor_at per_watt (cell_at a.cells.now)) k a.cells.now) e
+returns c = let a = c.args in
+    let e : c.loop-i.i ≡ a.n = omega arith in
+    c.loop-i.invariant.3 ∙ ap (λ (k : ℕ). by_position (floor_at per_watt (cell_at a.cells.now)) k a.cells.now) e

@@ -9,7 +9,5 @@ use Rattle.series.proofs.sums.is_point.Goals as goal
 pub returns : goal.returns
 unfolding is_point
 returns c =
-    let r = c.before.before.before.before in
-    let start = r.before.before in
-    let a = start.args in
-    ap₂ ◌&&◌ (r.takes.ensures ∙ start.requires.law a.role.kind) (ap₂ ◌&&◌ (ap (λ (n : ℕ). eqb n a.role.receiver) r.receiver_of.ensures) (ap₂ ◌&&◌ (ap (λ (n : ℕ). eqb n a.s.partner) c.partner_of.ensures) c.same_supply.ensures))
+    let a = c.args in
+    ap₂ ◌&&◌ (c.takes.ensures ∙ c.requires.law a.role.kind) (ap₂ ◌&&◌ (ap (λ (n : ℕ). eqb n a.role.receiver) c.receiver_of.ensures) (ap₂ ◌&&◌ (ap (λ (n : ℕ). eqb n a.s.partner) c.partner_of.ensures) c.same_supply.ensures))

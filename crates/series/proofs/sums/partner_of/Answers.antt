@@ -4,12 +4,12 @@ use Rattle.series.proofs.sums.partner_of.Goals as goal
 
 pub returns-in-Toe01 : goal.returns-in-Toe01
 unfolding partner_of
-returns-in-Toe01 c = rw c.enum_told-1.given.1
+returns-in-Toe01 c = rw c.in-Toe01.is
 
 pub returns-in-Toe02 : goal.returns-in-Toe02
 unfolding partner_of
-returns-in-Toe02 c = rw c.enum_told-in-Toe02-1.given.1
+returns-in-Toe02 c = rw c.in-Toe02.is
 
 pub returns-in-Toe03 : goal.returns-in-Toe03
 unfolding partner_of
-returns-in-Toe03 c = rw c.enum_told-in-Toe03-1.given.1
+returns-in-Toe03 c = rw c.in-Toe03.is

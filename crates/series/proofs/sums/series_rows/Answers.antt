@@ -10,10 +10,8 @@ is_engagement-requires c =
 
 pub returns-then-is_engagement : goal.returns-then-is_engagement
 returns-then-is_engagement c = λ b own.
-    let t = c.before.before in
-    rw (sym (t.is_engagement.ensures b (t.point_at-point.ensures ∙ sym own)) ∙ c.if-is_engagement.true)
+    rw (sym (c.is_engagement.ensures b (c.point_at-point.ensures ∙ sym own)) ∙ c.if-is_engagement.true)
 
 pub returns-else-is_engagement : goal.returns-else-is_engagement
 returns-else-is_engagement c = λ b own.
-    let t = c.before in
-    rw (sym (t.is_engagement.ensures b (t.point_at-point.ensures ∙ sym own)) ∙ c.if-is_engagement.false)
+    rw (sym (c.is_engagement.ensures b (c.point_at-point.ensures ∙ sym own)) ∙ c.if-is_engagement.false)

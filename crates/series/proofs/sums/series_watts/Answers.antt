@@ -16,39 +16,39 @@ use Rattle.series.specs.SumsLaws.{by_length, parts-of, carry-fits, watts-are}
 use Rattle.series.proofs.sums.series_watts.Goals.{After-month_quarters, Start}
 use Rattle.series.proofs.sums.series_watts.Goals as goal
 
--- the book's parts, and the positions of its month
-parts : (c : Start) → let bytes = c.args.book.now in
-    Parts (calendar_of bytes) (register_section bytes) (engagement_section bytes) c.args.volumes.now (book_of bytes)
-parts c = parts-of c.args.book.now c.args.volumes.now c.requires.0
-
-month : (c : After-month_quarters) → c.month_quarters.result ≡ month_quarters (book_of c.args.book.now).calendar
-month c =
-    let s = c.before.before.before.before.before.before.before.before.before.before in
-    c.month_quarters.ensures ∙ ap month_quarters (c.calendar_of-c.ensures ∙ sym (parts s).when)
-
 pub calendar_of-c-requires : goal.calendar_of-c-requires
-calendar_of-c-requires c = let s = c.before.before.before.before.before.before.before in
-    bytes-headed s.args.book.now (passing s.args.book.now s.requires.0.accepted).passed
+calendar_of-c-requires c = bytes-headed c.args.book.now (passing c.args.book.now c.requires.0.accepted).passed
 
 pub month_quarters-requires : goal.month_quarters-requires
-month_quarters-requires c = let s = c.before.before.before.before.before.before.before.before.before in
-    let p = parts s in
+month_quarters-requires c =
+    let parts : let bytes = c.args.book.now in
+    Parts (calendar_of bytes) (register_section bytes) (engagement_section bytes) c.args.volumes.now (book_of bytes) = parts-of c.args.book.now c.args.volumes.now c.requires.0 in
+    let p = parts in
     rw c.calendar_of-c.ensures (rw p.when at p.sound.ranged)
 
 pub fill_watts-requires : goal.fill_watts-requires
-fill_watts-requires c = let s = c.before.before.before.before.before.before.before.before.before.before in
-    let a = s.args in
+fill_watts-requires c =
+    let parts : let bytes = c.args.book.now in
+    Parts (calendar_of bytes) (register_section bytes) (engagement_section bytes) c.args.volumes.now (book_of bytes) = parts-of c.args.book.now c.args.volumes.now c.requires.0 in
+    let month : c.month_quarters.result ≡ month_quarters (book_of c.args.book.now).calendar = let parts : let bytes = c.args.book.now in
+    Parts (calendar_of bytes) (register_section bytes) (engagement_section bytes) c.args.volumes.now (book_of bytes) = parts-of c.args.book.now c.args.volumes.now c.requires.0 in
+    c.month_quarters.ensures ∙ ap month_quarters (c.calendar_of-c.ensures ∙ sym parts.when) in
+    let a = c.args in
     let f = c.fill_grains in
     let m = month_quarters (book_of a.book.now).calendar in
-    let n = month c in
-    (omega (arith, n, s.requires.1, ap length f.ensures, by_length (grains_at (book_of a.book.now) a.role.kind a.role.receiver a.s) m a.watts-1.now s.requires.1), λ k h. carry-fits (parts s) a.role.kind a.role.receiver a.s m a.watts-1.now _ f.ensures k (omega (arith, n)))
+    let n = month in
+    (omega (arith, n, c.requires.1, ap length f.ensures, by_length (grains_at (book_of a.book.now) a.role.kind a.role.receiver a.s) m a.watts.now c.requires.1), λ k h. carry-fits parts a.role.kind a.role.receiver a.s m a.watts.now _ f.ensures k (omega (arith, n)))
 
 pub returns : goal.returns
-returns c = let w = c.before.before.before in
-    let s = w.before.before.before.before.before.before.before.before.before.before in
-    let a = s.args in
-    let f = w.fill_grains in
-    let cells = f.new.1.1.1.1.0 in
+returns c =
+    let parts : let bytes = c.args.book.now in
+    Parts (calendar_of bytes) (register_section bytes) (engagement_section bytes) c.args.volumes.now (book_of bytes) = parts-of c.args.book.now c.args.volumes.now c.requires.0 in
+    let month : c.month_quarters.result ≡ month_quarters (book_of c.args.book.now).calendar = let parts : let bytes = c.args.book.now in
+    Parts (calendar_of bytes) (register_section bytes) (engagement_section bytes) c.args.volumes.now (book_of bytes) = parts-of c.args.book.now c.args.volumes.now c.requires.0 in
+    c.month_quarters.ensures ∙ ap month_quarters (c.calendar_of-c.ensures ∙ sym parts.when) in
+    let a = c.args in
+    let f = c.fill_grains in
+    let cells = f.new.grains in
     c.fill_watts.ensures
-    ∙ ap (λ (n : ℕ). by_position (floor_at per_watt (cell_at cells)) n cells) (month w)
-    ∙ watts-are (parts s) a.role.kind a.role.receiver a.s (month_quarters (book_of a.book.now).calendar) a.watts-1.now cells f.ensures
+    ∙ ap (λ (n : ℕ). by_position (floor_at per_watt (cell_at cells)) n cells) month
+    ∙ watts-are parts a.role.kind a.role.receiver a.s (month_quarters (book_of a.book.now).calendar) a.watts.now cells f.ensures

@@ -5,13 +5,13 @@ use Rattle.series.specs.SumsLaws.{individual-is, takes-neither, takes-refused}
 use Rattle.series.proofs.sums.takes.Goals as goal
 
 pub returns-in-Aggregated : goal.returns-in-Aggregated
-returns-in-Aggregated c = rw c.enum_told-1.given.1 c.is_aggregated-aggregated.ensures
+returns-in-Aggregated c = rw c.in-Aggregated.is c.is_aggregated-aggregated.ensures
 
 pub returns-in-Individual : goal.returns-in-Individual
-returns-in-Individual c = rw c.enum_told-in-Individual-1.given.1 (ap not c.is_aggregated-aggregated.ensures ∙ sym (individual-is c.args.kind))
+returns-in-Individual c = rw c.in-Individual.is (ap not c.is_aggregated-aggregated.ensures ∙ sym (individual-is c.args.kind))
 
 pub returns-in-Neither : goal.returns-in-Neither
-returns-in-Neither c = rw c.enum_told-in-Neither-1.given.1 (sym (takes-neither c.args.kind))
+returns-in-Neither c = rw c.in-Neither.is (sym (takes-neither c.args.kind))
 
 pub returns-in-Refused : goal.returns-in-Refused
-returns-in-Refused c = rw c.enum_told-in-Refused-1.given.1 (sym (takes-refused c.args.kind))
+returns-in-Refused c = rw c.in-Refused.is (sym (takes-refused c.args.kind))

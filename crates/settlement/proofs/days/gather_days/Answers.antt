@@ -12,30 +12,27 @@ use Rattle.settlement.proofs.days.gather_days.Goals as goal
 pub loop-i-init : goal.loop-i-init
 loop-i-init c = (search rules, refl, gathers-none _ _)
 
--- its point has a number
-inside : (g : After-engagement_at-e) → g.engagement_at-e.result.point < length g.loop-i.engaged
-inside g = let l = g.before.before in
-    omega (arith, ap (λ (e : Engagement). e.point) g.engagement_at-e.ensures, l.requires.point l.loop-i.i (search rules), l.loop-i.invariant.1)
-
 pub bounds-engaged-p : goal.bounds-engaged-p
-bounds-engaged-p c = inside c.before.before
+bounds-engaged-p c =
+    let inside : c.engagement_at-e.result.point < length c.loop-i.engaged = omega (arith, ap (λ (e : Engagement). e.point) c.engagement_at-e.ensures, c.requires.point c.loop-i.i (search rules), c.loop-i.invariant.1) in
+    inside
 
 pub with_day-requires : goal.with_day-requires
 with_day-requires c =
-    let g = c.before.before.before in
-    let l = g.before.before in
-    omega (arith, ap (λ (e : Engagement). e.day) g.engagement_at-e.ensures, l.requires.day l.loop-i.i (search rules))
+    omega (arith, ap (λ (e : Engagement). e.day) c.engagement_at-e.ensures, c.requires.day c.loop-i.i (search rules))
 
 pub bounds-engaged-p-in-loop-i : goal.bounds-engaged-p-in-loop-i
-bounds-engaged-p-in-loop-i c = inside c.before.before.before.before
+bounds-engaged-p-in-loop-i c =
+    let inside : c.engagement_at-e.result.point < length c.loop-i.engaged = omega (arith, ap (λ (e : Engagement). e.point) c.engagement_at-e.ensures, c.requires.point c.loop-i.i (search rules), c.loop-i.invariant.1) in
+    inside
 
 pub loop-i-preserved : goal.loop-i-preserved
 loop-i-preserved c =
-    let g = c.before.before.before.before in
-    let l = g.loop-i in (
+    let inside : c.engagement_at-e.result.point < length c.loop-i.engaged = omega (arith, ap (λ (e : Engagement). e.point) c.engagement_at-e.ensures, c.requires.point c.loop-i.i (search rules), c.loop-i.invariant.1) in
+    let l = c.loop-i in (
       search rules,
-      length-set l.engaged g.engagement_at-e.result.point c.with_day.result ∙ l.invariant.1,
-      gathers-more _ _ _ l.i g.engagement_at-e.result c.with_day.result (search rules) g.engagement_at-e.ensures l.invariant.1 (omega (arith, inside g, l.invariant.1)) c.with_day.ensures l.invariant.2,
+      length-set l.engaged c.engagement_at-e.result.point c.with_day.result ∙ l.invariant.1,
+      gathers-more _ _ _ l.i c.engagement_at-e.result c.with_day.result (search rules) c.engagement_at-e.ensures l.invariant.1 (omega (arith, inside, l.invariant.1)) c.with_day.ensures l.invariant.2,
     )
 
 pub shape_of-engaged : goal.shape_of-engaged

@@ -10,8 +10,7 @@ use Rattle.settlement.proofs.judge.judge_engagement_at.Goals as goal
 
 pub shown_at-shown-requires : goal.shown_at-shown-requires
 shown_at-shown-requires c =
-    let s = c.before.before.before in
-    (s.requires.0, s.requires.1, s.requires.2, s.requires.3.long)
+    (c.requires.0, c.requires.1, c.requires.2, c.requires.3.long)
 
 pub section-calendar-requires : goal.section-calendar-requires
 section-calendar-requires c = (c.requires.0.passed, search rules)
@@ -19,19 +18,15 @@ section-calendar-requires c = (c.requires.0.passed, search rules)
 pub section-readings-requires : goal.section-readings-requires
 section-readings-requires c = (c.requires.0.passed, search rules)
 
-here : (s : Start) → Drawn s.args.book.now s.args.engagements.now s.args.engaged.now s.args.i
-here s = drawn s.requires.0 s.requires.3 s.args.i s.requires.2
-
 pub judge_engagement-requires : goal.judge_engagement-requires
 judge_engagement-requires c =
-    let a = c.before.before in
-    rw (a.shown_at-shown.ensures, c.section-calendar.ensures, c.section-readings.ensures) (here a.before.before.before.before).fits
+    let here : Drawn c.args.book.now c.args.engagements.now c.args.engaged.now c.args.i = drawn c.requires.0 c.requires.3 c.args.i c.requires.2 in
+    rw (c.shown_at-shown.ensures, c.section-calendar.ensures, c.section-readings.ensures) here.fits
 
 pub returns : goal.returns
 unfolding shown_in
 returns c =
-    let a = c.before.before.before in
-    let s = a.before.before.before.before in
-    let book = book_with s.args.book.now s.args.engagements.now in
-    c.judge_engagement.ensures book (rw (a.shown_at-shown.ensures, c.section-calendar.ensures, c.section-readings.ensures) (here s).shows)
-    ∙ ap (λ (shown : Shown). refusal_number book shown.e) a.shown_at-shown.ensures
+    let here : Drawn c.args.book.now c.args.engagements.now c.args.engaged.now c.args.i = drawn c.requires.0 c.requires.3 c.args.i c.requires.2 in
+    let book = book_with c.args.book.now c.args.engagements.now in
+    c.judge_engagement.ensures book (rw (c.shown_at-shown.ensures, c.section-calendar.ensures, c.section-readings.ensures) here.shows)
+    ∙ ap (λ (shown : Shown). refusal_number book shown.e) c.shown_at-shown.ensures

@@ -14,29 +14,38 @@ use Rattle.settlement.proofs.judge.judge_engagements.Goals as goal
 pub loop-i-init : goal.loop-i-init
 loop-i-init c = (search rules, refusal-all _)
 
--- what is known of the present engagement, by what it lacks
-judged : (c : After-judge_engagement_at-lack) → let s = c.before.before.before.before.before.before in
-    let i = c.loop-i.i in
-    let book = book_with s.args.book.now s.args.engagements.now in settlement_refusal book ≡ row_refusal i (number_of c.judge_engagement_at-lack.result) (refusal_at book (i + 1))
-judged c = let s = c.before.before.before.before.before.before in
-    let l = c.loop-i in
-    let book = book_with s.args.book.now s.args.engagements.now in
-    l.invariant.1
-    ∙ refusal-row s.requires.0 l.i (search rules)
-    ∙ ap (λ (o : Option ℕ). row_refusal l.i o (refusal_at book (l.i + 1))) (sym c.judge_engagement_at-lack.ensures)
-
 pub returns-in-Reading : goal.returns-in-Reading
 unfolding row_refusal
-returns-in-Reading c = sym (judged c.before.before ∙ rw c.enum_told-in-Reading-1.given.1)
+returns-in-Reading c =
+    let judged : let i = c.loop-i.i in
+    let book = book_with c.args.book.now c.args.engagements.now in settlement_refusal book ≡ row_refusal i (number_of c.judge_engagement_at-lack.result) (refusal_at book (i + 1)) = let l = c.loop-i in
+    let book = book_with c.args.book.now c.args.engagements.now in
+    l.invariant.1
+    ∙ refusal-row c.requires.0 l.i (search rules)
+    ∙ ap (λ (o : Option ℕ). row_refusal l.i o (refusal_at book (l.i + 1))) (sym c.judge_engagement_at-lack.ensures) in
+    sym (judged ∙ rw c.in-Reading.is)
 
 pub returns-in-Days : goal.returns-in-Days
 unfolding row_refusal
-returns-in-Days c = sym (judged c.before.before ∙ rw c.enum_told-in-Days-1.given.1)
+returns-in-Days c =
+    let judged : let i = c.loop-i.i in
+    let book = book_with c.args.book.now c.args.engagements.now in settlement_refusal book ≡ row_refusal i (number_of c.judge_engagement_at-lack.result) (refusal_at book (i + 1)) = let l = c.loop-i in
+    let book = book_with c.args.book.now c.args.engagements.now in
+    l.invariant.1
+    ∙ refusal-row c.requires.0 l.i (search rules)
+    ∙ ap (λ (o : Option ℕ). row_refusal l.i o (refusal_at book (l.i + 1))) (sym c.judge_engagement_at-lack.ensures) in
+    sym (judged ∙ rw c.in-Days.is)
 
 pub loop-i-preserved : goal.loop-i-preserved
 unfolding row_refusal
-loop-i-preserved c = (search rules, judged c.before.before ∙ rw c.enum_told-1.given.1)
+loop-i-preserved c =
+    let judged : let i = c.loop-i.i in
+    let book = book_with c.args.book.now c.args.engagements.now in settlement_refusal book ≡ row_refusal i (number_of c.judge_engagement_at-lack.result) (refusal_at book (i + 1)) = let l = c.loop-i in
+    let book = book_with c.args.book.now c.args.engagements.now in
+    l.invariant.1
+    ∙ refusal-row c.requires.0 l.i (search rules)
+    ∙ ap (λ (o : Option ℕ). row_refusal l.i o (refusal_at book (l.i + 1))) (sym c.judge_engagement_at-lack.ensures) in
+    (search rules, judged ∙ rw c.in-Nothing.is)
 
 pub returns : goal.returns
-returns c = let l = c.before in
-    sym (l.loop-i.invariant.1 ∙ refusal-last c.requires.0 l.loop-i.i (search rules))
+returns c = sym (c.loop-i.invariant.1 ∙ refusal-last c.requires.0 c.loop-i.i (search rules))

@@ -15,38 +15,37 @@ use Rattle.settlement.proofs.judge.judge_settlement.Goals.{After-section-engagem
 use Rattle.settlement.proofs.judge.judge_settlement.Goals as goal
 
 pub returns-in-Refused : goal.returns-in-Refused
-returns-in-Refused c = let k = c.before.before.before in
-    book-refused k.args.book.now _ (ap refusal_in (sym c.verdict-1.given.1) ∙ k.verdict_of-verdict.ensures ∙ k.judge_book.ensures)
-
--- the book passes refusals 1 to 7
-passed : (c : In_default) → refusal_of c.args.book.now ≡ none
-passed c = let k = c.before.before in
-    sym k.judge_book.ensures ∙ sym k.verdict_of-verdict.ensures ∙ ap refusal_in c.enum_told-1.given.1
+returns-in-Refused c = book-refused c.args.book.now _ (ap refusal_in (sym c.in-Refused.is) ∙ c.verdict_of-verdict.ensures ∙ c.judge_book.ensures)
 
 pub section-engagements-requires : goal.section-engagements-requires
-section-engagements-requires c = (passed c, search rules)
-
--- it can be settled with its own engagements
-own : (c : After-section-engagements) → Opened c.args.book.now c.section-engagements.result.now
-own c = rw c.section-engagements.ensures (opened c.args.book.now (passed c.before))
+section-engagements-requires c =
+    let passed : refusal_of c.args.book.now ≡ none = sym c.judge_book.ensures ∙ sym c.verdict_of-verdict.ensures ∙ ap refusal_in c.in_default.is in
+    (passed, search rules)
 
 pub gather_days-requires : goal.gather_days-requires
-gather_days-requires c = gatherable (own c.before)
+gather_days-requires c =
+    let own : Opened c.args.book.now c.section-engagements.result.now = let passed : refusal_of c.args.book.now ≡ none = sym c.judge_book.ensures ∙ sym c.verdict_of-verdict.ensures ∙ ap refusal_in c.in_default.is in
+    rw c.section-engagements.ensures (opened c.args.book.now passed) in
+    gatherable own
 
 pub calendar_of-requires : goal.calendar_of-requires
-calendar_of-requires c = let e = c.before.before.before.before in bytes-headed e.args.book.now (passed e)
+calendar_of-requires c =
+    let passed : refusal_of c.args.book.now ≡ none = sym c.judge_book.ensures ∙ sym c.verdict_of-verdict.ensures ∙ ap refusal_in c.in_default.is in
+    bytes-headed c.args.book.now passed
 
 pub judge_engagements-requires : goal.judge_engagements-requires
 judge_engagements-requires c =
+    let own : Opened c.args.book.now c.section-engagements.result.now = let passed : refusal_of c.args.book.now ≡ none = sym c.judge_book.ensures ∙ sym c.verdict_of-verdict.ensures ∙ ap refusal_in c.in_default.is in
+    rw c.section-engagements.ensures (opened c.args.book.now passed) in
     let g = c.gather_days in
-    (own c.before.before.before.before.before, c.calendar_of.ensures, gathered _ _ g.auto.1.0 g.ensures)
+    (own, c.calendar_of.ensures, gathered _ _ g.auto.engaged g.ensures)
 
 pub returns : goal.returns
 returns c =
-    let k = c.before.before.before.before.before.before in
-    let bytes = k.args.book.now in
-    let h = passed k.before in
+    let passed : refusal_of c.args.book.now ≡ none = sym c.judge_book.ensures ∙ sym c.verdict_of-verdict.ensures ∙ ap refusal_in c.in_default.is in
+    let bytes = c.args.book.now in
+    let h = passed in
     c.judge_engagements.ensures
-    ∙ ap (λ (l : List ℕ). settlement_refusal (book_with bytes l)) k.section-engagements.ensures
+    ∙ ap (λ (l : List ℕ). settlement_refusal (book_with bytes l)) c.section-engagements.ensures
     ∙ ap settlement_refusal (same-book bytes h)
     ∙ book-passed bytes h

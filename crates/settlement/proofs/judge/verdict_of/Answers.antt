@@ -2,10 +2,10 @@
 use Rattle.settlement.proofs.judge.verdict_of.Goals as goal
 
 pub returns-in-Register : goal.returns-in-Register
-returns-in-Register c = rw c.judged-1.given.1
+returns-in-Register c = rw c.in-Register.is
 
 pub returns-in-Readings : goal.returns-in-Readings
-returns-in-Readings c = rw c.judged-in-Readings-1.given.1
+returns-in-Readings c = rw c.in-Readings.is
 
 pub returns-in-Engagements : goal.returns-in-Engagements
-returns-in-Engagements c = rw c.judged-in-Engagements-1.given.1
+returns-in-Engagements c = rw c.in-Engagements.is

@@ -12,11 +12,11 @@ pub returns-in-Up : goal.returns-in-Up
 unfolding signed
 returns-in-Up c =
     let back : to_z w64 (of_z w64 c.difference.result) ≡ c.difference.result = search rules in
-    rw c.enum_told-1.given.1 (back ∙ c.difference.ensures)
+    rw c.in-Up.is (back ∙ c.difference.ensures)
 
 pub returns-in-Down : goal.returns-in-Down
 unfolding signed
 returns-in-Down c =
     let back : to_z w64 (of_z w64 c.difference-in-Down.result) ≡ c.difference-in-Down.result = search rules in
     let a = c.args in
-    rw c.enum_told-in-Down-1.given.1 (back ∙ c.difference-in-Down.ensures ∙ sym (turned (pos a.a) (pos a.b)))
+    rw c.in-Down.is (back ∙ c.difference-in-Down.ensures ∙ sym (turned (pos a.a) (pos a.b)))

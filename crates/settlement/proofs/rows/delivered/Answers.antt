@@ -9,10 +9,10 @@ pub returns-in-Up : goal.returns-in-Up
 unfolding signed
 returns-in-Up c =
     let a = c.args in
-    rw (c.enum_told-1.given.1, limited-is, above-up a.level a.raised) (omega arith, omega arith)
+    rw (c.in-Up.is, limited-is, above-up a.level a.raised) (omega arith, omega arith)
 
 pub returns-in-Down : goal.returns-in-Down
 unfolding signed
 returns-in-Down c =
     let a = c.args in
-    rw (c.enum_told-in-Down-1.given.1, limited-is, above_down a.level a.raised) (omega arith, omega arith)
+    rw (c.in-Down.is, limited-is, above_down a.level a.raised) (omega arith, omega arith)

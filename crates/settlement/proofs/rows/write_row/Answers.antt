@@ -17,17 +17,14 @@ use Rattle.settlement.specs.StoresLaws.{five-sets}
 use Rattle.settlement.proofs.rows.write_row.Goals.{After-delivered-volume, After-source_volume-source}
 use Rattle.settlement.proofs.rows.write_row.Goals as goal
 
--- what the source party gets is no more than the volume
-source-small : (c : After-source_volume-source) → c.source_volume-source.result < 9223372036854775808
-source-small c =
-    let a = c.args in
-    omega (arith, c.source_volume-source.ensures, source-most a.version a.direction (baseline_of a.level) (grains_z (watts_of a.raised)) c.delivered-volume.result, c.delivered-volume.ensures.1)
-
 pub bounds-out-at-2 : goal.bounds-out-at-2
 bounds-out-at-2 c = simp length-set (omega arith)
 
 pub correction-requires : goal.correction-requires
-correction-requires c = (source-small c.before.before.before, search rules)
+correction-requires c =
+    let source-small : c.source_volume-source.result < 9223372036854775808 = let a = c.args in
+    omega (arith, c.source_volume-source.ensures, source-most a.version a.direction (baseline_of a.level) (grains_z (watts_of a.raised)) c.delivered-volume.result, c.delivered-volume.ensures.1) in
+    (source-small, search rules)
 
 pub bounds-out-at-3 : goal.bounds-out-at-3
 bounds-out-at-3 c = simp length-set (omega arith)
@@ -36,30 +33,27 @@ pub bounds-out-at-4 : goal.bounds-out-at-4
 bounds-out-at-4 c = simp length-set (omega arith)
 
 pub correction-requires-3 : goal.correction-requires-3
-correction-requires-3 c = (search rules, source-small c.before.before.before.before.before)
+correction-requires-3 c =
+    let source-small : c.source_volume-source.result < 9223372036854775808 = let a = c.args in
+    omega (arith, c.source_volume-source.ensures, source-most a.version a.direction (baseline_of a.level) (grains_z (watts_of a.raised)) c.delivered-volume.result, c.delivered-volume.ensures.1) in
+    (search rules, source-small)
 
 pub bounds-out-at-5 : goal.bounds-out-at-5
 bounds-out-at-5 c = simp length-set (omega arith)
 
--- the volume is the one delivered by the point's direction
-volume-is : (c : After-delivered-volume) → c.delivered-volume.result ≡ delivered_by c.args.direction c.args.point (baseline_of c.args.level) (grains_z (watts_of c.args.raised))
-volume-is c =
-    let a = c.args in
+pub returns : goal.returns
+unfolding row_from
+returns c =
+    let volume-is : c.delivered-volume.result ≡ delivered_by c.args.direction c.args.point (baseline_of c.args.level) (grains_z (watts_of c.args.raised)) = let a = c.args in
     let z = baseline_of a.level in
     let r = grains_z (watts_of a.raised) in
     c.delivered-volume.ensures.0
     ∙ ap (limited (signed a.direction (z -ℤ r))) c.largest-most.ensures
-    ∙ sym (delivered-by a.direction a.point z r)
-
-pub returns : goal.returns
-unfolding row_from
-returns c =
-    let v = c.before.before.before.before.before.before in
-    let d = v.before in
-    let a = d.args in
+    ∙ sym (delivered-by a.direction a.point z r) in
+    let a = c.args in
     let z = baseline_of a.level in
     let r = grains_z (watts_of a.raised) in
-    let volume = d.delivered-volume.result in
+    let volume = c.delivered-volume.result in
     let level = c.baseline_of in
     let whole = c.difference in
     let source = c.correction in
@@ -68,7 +62,7 @@ returns c =
     let shares = shares_whole a.version a.direction z r volume in
     let one : to_z w64 (of_z w64 level.result) ≡ z = (search rules) ∙ level.ensures in
     let two : to_z w64 (of_z w64 whole.result) ≡ pos volume = (search rules) ∙ whole.ensures ∙ +ℤ_idr (pos volume) in
-    let three : to_z w64 (of_z w64 source.result) ≡ signed a.direction (pos (source_by a.version a.direction z r volume)) = (search rules) ∙ source.ensures ∙ ap (signed a.direction) (+ℤ_idr (pos v.source_volume-source.result) ∙ ap pos v.source_volume-source.ensures) in
+    let three : to_z w64 (of_z w64 source.result) ≡ signed a.direction (pos (source_by a.version a.direction z r volume)) = (search rules) ∙ source.ensures ∙ ap (signed a.direction) (+ℤ_idr (pos c.source_volume-source.result) ∙ ap pos c.source_volume-source.ensures) in
     let four : to_z w64 (of_z w64 fsp.result) ≡ signed a.direction (pos (grains a.requested) -ℤ pos volume) = (search rules) ∙ fsp.ensures ∙ ap (λ n. signed a.direction (pos n -ℤ pos volume)) c.from_watts-asked.ensures in
-    let five : to_z w64 (of_z w64 rest.result) ≡ signed a.direction (pos (injection_by a.version a.direction z r volume)) = (search rules) ∙ rest.ensures ∙ ap (λ n. signed a.direction (pos volume -ℤ pos n)) v.source_volume-source.ensures ∙ ap (signed a.direction) (rest_of volume _ _ shares) in
-    rw (one, two, three, four, five, ← volume-is d) (five-sets a.out.now a.at _ _ _ _ _)
+    let five : to_z w64 (of_z w64 rest.result) ≡ signed a.direction (pos (injection_by a.version a.direction z r volume)) = (search rules) ∙ rest.ensures ∙ ap (λ n. signed a.direction (pos volume -ℤ pos n)) c.source_volume-source.ensures ∙ ap (signed a.direction) (rest_of volume _ _ shares) in
+    rw (one, two, three, four, five, ← volume-is) (five-sets a.out.now a.at _ _ _ _ _)

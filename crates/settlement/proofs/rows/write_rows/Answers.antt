@@ -16,12 +16,8 @@ use Rattle.settlement.specs.RowsInner.{rows_from}
 use Rattle.settlement.specs.RaisedLaws.{known_at, raised-watts}
 use Rattle.settlement.specs.RowsLaws.{from-length}
 use Rattle.settlement.specs.StoresLaws.{sets-next}
+use Rattle.settlement.proofs.rows.write_rows.Invariants.{RowsFilled}
 use Rattle.settlement.proofs.rows.write_rows.Goals as goal
-
--- the rows passed are stored
-pub record RowsFilled (out₀ : List ℤ) (at : ℕ) (f : ℕ → List ℤ) (count : ℕ) (out : List ℤ) (k : ℕ) : Type 0 where
-  pub inside : k ≤ count
-  pub list : out ≡ sets out₀ at (flat_map f (range 0 k))
 
 filled-length : {out₀ : List ℤ} {at : ℕ} {f : ℕ → List ℤ} {count : ℕ} {out : List ℤ} {k : ℕ} → RowsFilled out₀ at f count out k → length out ≡ length out₀
 filled-length {out₀} {at} {f} {count} {out} {k} h = ap length h.list ∙ length-sets out₀ at (flat_map f (range 0 k))
@@ -39,21 +35,18 @@ raised_at-raised-requires c = omega arith
 
 pub write_row-requires : goal.write_row-requires
 write_row-requires c =
-    let l = c.before.before.before.before in
-    (omega (arith, filled-length l.loop-k.invariant), l.requires.2.each l.loop-k.k (omega arith))
+    (omega (arith, filled-length c.loop-k.invariant), c.requires.2.each c.loop-k.k (omega arith))
 
 pub loop-k-preserved : goal.loop-k-preserved
 unfolding quarter_hours
 loop-k-preserved c =
-    let l = c.before.before.before.before.before.before in
-    let s = l.before.before.before.before in
-    let a = s.args in
-    let k = l.loop-k.k in
+    let a = c.args in
+    let k = c.loop-k.k in
     let there : known (reading_at a.readings.now (a.first + k)) ≡ true =
-    known_at (λ i. reading_at a.readings.now (a.first + i)) 0 a.e.count k s.requires.4 (omega arith) (omega arith) in
+    known_at (λ i. reading_at a.readings.now (a.first + i)) 0 a.e.count k c.requires.4 (omega arith) (omega arith) in
     filled_next
     (λ i. from-length _ _ _ _ _ _)
-    l.loop-k.invariant
+    c.loop-k.invariant
     (omega arith)
     (rw (← raised-watts c.raised_at-raised.ensures there) c.write_row.ensures)
 

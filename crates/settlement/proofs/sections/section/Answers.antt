@@ -4,9 +4,8 @@ use Rattle.settlement.proofs.sections.section.Goals as goal
 
 pub section-requires : goal.section-requires
 section-requires c =
-    let s = c.before in
-    let bytes = s.args.book.now in
-    (bytes-long bytes s.requires.0, s.requires.1, section-inside bytes s.requires.0 s.args.k s.requires.1)
+    let bytes = c.args.book.now in
+    (bytes-long bytes c.requires.0, c.requires.1, section-inside bytes c.requires.0 c.args.k c.requires.1)
 
 pub returns : goal.returns
 returns c = c.section.ensures

@@ -26,43 +26,34 @@ section-register-requires c = (c.requires.0.passed, search rules)
 
 pub point_at-point-requires : goal.point_at-point-requires
 point_at-point-requires c =
-    let s = c.before.before.before.before.before.before.before.before in
-    rw (c.section-register.ensures, c.engagement_at-e.ensures) (registered s.requires.0 s.args.i s.requires.2)
+    rw (c.section-register.ensures, c.engagement_at-e.ensures) (registered c.requires.0 c.args.i c.requires.2)
 
 pub bounds-engaged-e : goal.bounds-engaged-e
 bounds-engaged-e c =
-    let g = c.before.before.before.before in
-    let s = g.before.before.before.before.before.before.before in
-    let p : Placing (calendar_of s.args.book.now) g.engagement_at-e.result = rw g.engagement_at-e.ensures (engagement-placed s.requires.0 s.args.i s.requires.2) in
-    omega (arith, s.requires.3)
+    let p : Placing (calendar_of c.args.book.now) c.engagement_at-e.result = rw c.engagement_at-e.ensures (engagement-placed c.requires.0 c.args.i c.requires.2) in
+    omega (arith, c.requires.3)
 
 pub category-category-requires : goal.category-category-requires
 category-category-requires c =
-    let g = c.before.before.before.before.before.before in
-    let s = g.before.before.before.before.before.before.before in
-    rw (g.section-calendar.ensures, g.engagement_at-e.ensures) (categorised s.requires.0 s.args.i s.requires.2)
+    rw (c.section-calendar.ensures, c.engagement_at-e.ensures) (categorised c.requires.0 c.args.i c.requires.2)
 
 pub x_of-x-requires : goal.x_of-x-requires
 x_of-x-requires c =
-    let g = c.before.before.before.before.before.before.before in
-    rw (c.category-category.ensures, g.section-table.ensures, g.section-calendar.ensures, g.engagement_at-e.ensures) (category-in g.requires.0 _)
+    rw (c.category-category.ensures, c.section-table.ensures, c.section-calendar.ensures, c.engagement_at-e.ensures) (category-in c.requires.0 _)
 
 pub y_of-y-requires : goal.y_of-y-requires
 y_of-y-requires c =
-    let g = c.before.before.before.before.before.before.before.before in
-    rw (c.category-category.ensures, g.section-table.ensures, g.section-calendar.ensures, g.engagement_at-e.ensures) (category-in g.requires.0 _)
+    rw (c.category-category.ensures, c.section-table.ensures, c.section-calendar.ensures, c.engagement_at-e.ensures) (category-in c.requires.0 _)
 
 pub returns : goal.returns
 unfolding shown_in
 returns c =
-    let g = c.before.before.before.before.before.before.before.before.before in
-    let s = g.before.before.before.before.before.before.before in
-    let calendar = g.section-calendar.ensures in
-    let table = g.section-table.ensures in
-    let e = g.engagement_at-e.ensures in
+    let calendar = c.section-calendar.ensures in
+    let table = c.section-table.ensures in
+    let e = c.engagement_at-e.ensures in
     let category = c.category-category.ensures ∙ ap₂ (λ (l : List ℕ) (f : Engagement). category_at l f.day) calendar e in
-    let point = c.point_at-point.ensures ∙ ap₂ (λ (l : List ℕ) (f : Engagement). point_at l f.point) g.section-register.ensures e in
-    let closed = ap₂ bit_or (ap (λ (p : Point). p.mask) point) (ap (λ (f : Engagement). get_or s.args.engaged.now f.point 0) e) in
+    let point = c.point_at-point.ensures ∙ ap₂ (λ (l : List ℕ) (f : Engagement). point_at l f.point) c.section-register.ensures e in
+    let closed = ap₂ bit_or (ap (λ (p : Point). p.mask) point) (ap (λ (f : Engagement). get_or c.args.engaged.now f.point 0) e) in
     let x = c.x_of-x.ensures ∙ ap₂ x_at table category in
     let y = c.y_of-y.ensures ∙ ap₂ y_at table category in
-    λ i. record { c = s.requires.1 i; e = e i; point = point i; closed = closed i; x = x i; y = y i }
+    λ i. record { c = c.requires.1 i; e = e i; point = point i; closed = closed i; x = x i; y = y i }

@@ -12,12 +12,10 @@ loop-i-init c = (search rules, sym (count_none _), search rules)
 
 pub loop-i-preserved : goal.loop-i-preserved
 loop-i-preserved c =
-    let l = c.before.before.before in
-    let a = l.args in
+    let a = c.args in
     let e = c.engagement_at-e in
-    (search rules, ap (λ (g : Engagement). l.loop-i.count + g.count) e.ensures ∙ ap (λ (n : ℕ). n + (engagement_at a.engagements.now l.loop-i.i).count) l.loop-i.invariant.1 ∙ sym (count-more a.engagements.now l.loop-i.i (search rules)), search rules)
+    (search rules, ap (λ (g : Engagement). c.loop-i.count + g.count) e.ensures ∙ ap (λ (n : ℕ). n + (engagement_at a.engagements.now c.loop-i.i).count) c.loop-i.invariant.1 ∙ sym (count-more a.engagements.now c.loop-i.i (search rules)), search rules)
 
 pub returns : goal.returns
 returns c =
-    let l = c.before in
-    (l.loop-i.invariant.1 ∙ count-all l.args.engagements.now l.loop-i.i (search rules), search rules)
+    (c.loop-i.invariant.1 ∙ count-all c.args.engagements.now c.loop-i.i (search rules), search rules)

@@ -15,37 +15,36 @@ use borrow.Author.Rules.{rules}
 use Rattle.settlement.proofs.settle.fill_book.Goals.{After-section-engagements, Start}
 use Rattle.settlement.proofs.settle.fill_book.Goals as goal
 
--- the book passes refusals 1 to 7
-passed : (c : Start) → refusal_of c.args.book.now ≡ none
-passed c = (passing c.args.book.now c.requires.0).passed
-
 pub section-engagements-requires : goal.section-engagements-requires
-section-engagements-requires c = (passed c.before, search rules)
-
--- it can be settled with its own engagements
-own : (c : After-section-engagements) → Opened c.args.book.now c.section-engagements.result.now
-own c = rw c.section-engagements.ensures (opened c.args.book.now (passed c.before.before))
+section-engagements-requires c =
+    let passed : refusal_of c.args.book.now ≡ none = (passing c.args.book.now c.requires.0).passed in
+    (passed, search rules)
 
 pub gather_days-requires : goal.gather_days-requires
-gather_days-requires c = gatherable (own c.before)
+gather_days-requires c =
+    let own : Opened c.args.book.now c.section-engagements.result.now = let passed : refusal_of c.args.book.now ≡ none = (passing c.args.book.now c.requires.0).passed in
+    rw c.section-engagements.ensures (opened c.args.book.now passed) in
+    gatherable own
 
 pub calendar_of-requires : goal.calendar_of-requires
-calendar_of-requires c = let s = c.before.before.before.before.before in bytes-headed s.args.book.now (passed s)
+calendar_of-requires c =
+    let passed : refusal_of c.args.book.now ≡ none = (passing c.args.book.now c.requires.0).passed in
+    bytes-headed c.args.book.now passed
 
 pub settle_engagements-requires : goal.settle_engagements-requires
 settle_engagements-requires c =
-    let k = c.before.before.before.before.before.before in
-    let s = k.before.before in
-    let bytes = s.args.book.now in
-    let e = k.section-engagements.ensures in
+    let passed : refusal_of c.args.book.now ≡ none = (passing c.args.book.now c.requires.0).passed in
+    let own : Opened c.args.book.now c.section-engagements.result.now = let passed : refusal_of c.args.book.now ≡ none = (passing c.args.book.now c.requires.0).passed in
+    rw c.section-engagements.ensures (opened c.args.book.now passed) in
+    let bytes = c.args.book.now in
+    let e = c.section-engagements.ensures in
     let g = c.gather_days in
-    (own k, c.calendar_of.ensures, rw e (own-settled bytes s.requires.0), rw (e, count-book bytes (passed s)) s.requires.1, gathered _ _ g.auto.1.0 g.ensures)
+    (own, c.calendar_of.ensures, rw e (own-settled bytes c.requires.0), rw (e, count-book bytes passed) c.requires.1, gathered _ _ g.auto.engaged g.ensures)
 
 pub returns : goal.returns
 returns c =
-    let k = c.before.before.before.before.before.before.before.before in
-    let s = k.before.before in
-    let bytes = s.args.book.now in
+    let passed : refusal_of c.args.book.now ≡ none = (passing c.args.book.now c.requires.0).passed in
+    let bytes = c.args.book.now in
     c.settle_engagements.ensures
-    ∙ ap (λ (l : List ℕ). sets s.args.out-1.now 0 (rows (book_with bytes l))) k.section-engagements.ensures
-    ∙ ap (λ (b : Book). sets s.args.out-1.now 0 (rows b)) (same-book bytes (passed s))
+    ∙ ap (λ (l : List ℕ). sets c.args.out.now 0 (rows (book_with bytes l))) c.section-engagements.ensures
+    ∙ ap (λ (b : Book). sets c.args.out.now 0 (rows b)) (same-book bytes passed)

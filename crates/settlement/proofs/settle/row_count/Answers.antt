@@ -5,9 +5,8 @@ use Rattle.settlement.specs.SectionsLaws.{rows_few, count-book}
 use Rattle.settlement.proofs.settle.row_count.Goals as goal
 
 pub count_rows-requires : goal.count_rows-requires
-count_rows-requires c = let s = c.before.before in rw c.section.ensures (rows_few s.args.book.now s.requires)
+count_rows-requires c = rw c.section.ensures (rows_few c.args.book.now c.requires)
 
 pub returns : goal.returns
 returns c =
-    let s = c.before.before.before in
-    (c.count_rows.ensures.0 ∙ ap row_count_in c.section.ensures ∙ count-book s.args.book.now s.requires, c.count_rows.ensures.1)
+    (c.count_rows.ensures.0 ∙ ap row_count_in c.section.ensures ∙ count-book c.args.book.now c.requires, c.count_rows.ensures.1)

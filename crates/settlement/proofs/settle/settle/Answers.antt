@@ -10,27 +10,25 @@ use Rattle.settlement.proofs.settle.settle.Goals as goal
 
 pub returns-in-Refused : goal.returns-in-Refused
 returns-in-Refused c =
-    let k = c.before.before.before in
-    let s = k.before.before in
-    call-refused s.args.book.now s.args.rows-1.now _ (ap refusal_in (sym c.verdict-1.given.1) ∙ k.judge_settlement-verdict.ensures)
-
--- the book is accepted
-passed : (c : In_default) → book_refusal c.args.book.now ≡ none
-passed c = sym c.judge_settlement-verdict.ensures ∙ ap refusal_in c.enum_told-1.given.1
+    call-refused c.args.book.now c.args.rows.now _ (ap refusal_in (sym c.in-Refused.is) ∙ c.judge_settlement-verdict.ensures)
 
 pub row_count-count-requires : goal.row_count-count-requires
-row_count-count-requires c = (passing c.args.book.now (passed c)).passed
+row_count-count-requires c =
+    let passed : book_refusal c.args.book.now ≡ none = sym c.judge_settlement-verdict.ensures ∙ ap refusal_in c.in_default.is in
+    (passing c.args.book.now passed).passed
 
 pub returns-then-rows-count : goal.returns-then-rows-count
 returns-then-rows-count c =
-    let s = c.before.before.before.before.before.before in
-    call-short s.args.book.now s.args.rows-1.now (passed c.before.before) (rw (← c.row_count-count.ensures.0) c.if-rows-count.true)
+    let passed : book_refusal c.args.book.now ≡ none = sym c.judge_settlement-verdict.ensures ∙ ap refusal_in c.in_default.is in
+    call-short c.args.book.now c.args.rows.now passed (rw (← c.row_count-count.ensures.0) c.if-rows-count.true)
 
 pub fill_book-requires : goal.fill_book-requires
-fill_book-requires c = (passed c.before.before.before, rw (← c.row_count-count.ensures.0) c.if-rows-count.false)
+fill_book-requires c =
+    let passed : book_refusal c.args.book.now ≡ none = sym c.judge_settlement-verdict.ensures ∙ ap refusal_in c.in_default.is in
+    (passed, rw (← c.row_count-count.ensures.0) c.if-rows-count.false)
 
 pub returns : goal.returns
 returns c =
-    let s = c.before.before.before.before.before.before.before.before.before in
+    let passed : book_refusal c.args.book.now ≡ none = sym c.judge_settlement-verdict.ensures ∙ ap refusal_in c.in_default.is in
     let n = c.row_count-count.ensures.0 in
-    call-filled s.args.book.now s.args.rows-1.now _ _ (passed c.before.before.before.before.before) (rw (← n) c.if-rows-count.false) n c.fill_book.ensures
+    call-filled c.args.book.now c.args.rows.now _ _ passed (rw (← n) c.if-rows-count.false) n c.fill_book.ensures

@@ -15,11 +15,10 @@ use Rattle.settlement.proofs.settle.settle_engagement_at.Goals as goal
 
 pub shown_at-shown-requires : goal.shown_at-shown-requires
 shown_at-shown-requires c =
-    let s = c.before.before.before in
-    (s.requires.0, s.requires.1, s.requires.2, s.requires.5.long)
+    (c.requires.0, c.requires.1, c.requires.2, c.requires.5.long)
 
 pub version_of-version-requires : goal.version_of-version-requires
-version_of-version-requires c = let s = c.before.before.before.before in bytes-long s.args.book.now s.requires.0.passed
+version_of-version-requires c = bytes-long c.args.book.now c.requires.0.passed
 
 pub section-calendar-requires : goal.section-calendar-requires
 section-calendar-requires c = (c.requires.0.passed, search rules)
@@ -27,30 +26,23 @@ section-calendar-requires c = (c.requires.0.passed, search rules)
 pub section-readings-requires : goal.section-readings-requires
 section-readings-requires c = (c.requires.0.passed, search rules)
 
--- there is room for its rows
-room : (c : After-shown_at-shown) → c.args.at + row_width * c.shown_at-shown.result.e.count ≤ length c.args.out-1.now
-unfolding shown_in
-room c = rw c.shown_at-shown.ensures c.requires.4
-
 pub settle_engagement-requires : goal.settle_engagement-requires
+unfolding shown_in
 settle_engagement-requires c =
-    let a = c.before.before.before.before in
-    let s = a.before.before.before.before in
-    (rw (a.shown_at-shown.ensures, c.section-calendar.ensures, c.section-readings.ensures) (accepts s.requires.0 s.requires.5 s.args.i s.requires.2 s.requires.3), room a)
+    let room : c.args.at + row_width * c.shown_at-shown.result.e.count ≤ length c.args.out.now = rw c.shown_at-shown.ensures c.requires.4 in
+    (rw (c.shown_at-shown.ensures, c.section-calendar.ensures, c.section-readings.ensures) (accepts c.requires.0 c.requires.5 c.args.i c.requires.2 c.requires.3), room)
 
 pub overflow_add-result : goal.overflow_add-result
+unfolding shown_in
 overflow_add-result c =
-    let a = c.before.before.before.before.before.before.before in
-    omega (arith, room a, a.well_formed)
+    let room : c.args.at + row_width * c.shown_at-shown.result.e.count ≤ length c.args.out.now = rw c.shown_at-shown.ensures c.requires.4 in
+    omega (arith, room, c.well_formed)
 
 pub returns : goal.returns
 unfolding shown_in book_with
 returns c =
-    let f = c.before.before in
-    let a = f.before.before.before.before.before in
-    let s = a.before.before.before.before in
-    let book = book_with s.args.book.now s.args.engagements.now in (
-      ap (λ (shown : Shown). s.args.at + row_width * shown.e.count) a.shown_at-shown.ensures,
-      f.settle_engagement.ensures book (sym f.version_of-version.ensures) (rw (a.shown_at-shown.ensures, f.section-calendar.ensures, f.section-readings.ensures) (settled s.requires.0 s.requires.5 s.args.i s.requires.2 s.requires.3))
-          ∙ ap (λ (shown : Shown). sets s.args.out-1.now s.args.at (rows_of book shown.e)) a.shown_at-shown.ensures,
+    let book = book_with c.args.book.now c.args.engagements.now in (
+      ap (λ (shown : Shown). c.args.at + row_width * shown.e.count) c.shown_at-shown.ensures,
+      c.settle_engagement.ensures book (sym c.version_of-version.ensures) (rw (c.shown_at-shown.ensures, c.section-calendar.ensures, c.section-readings.ensures) (settled c.requires.0 c.requires.5 c.args.i c.requires.2 c.requires.3))
+          ∙ ap (λ (shown : Shown). sets c.args.out.now c.args.at (rows_of book shown.e)) c.shown_at-shown.ensures,
     )

@@ -19,34 +19,26 @@ use Rattle.settlement.proofs.settle.settle_engagements.Goals as goal
 pub loop-i-init : goal.loop-i-init
 loop-i-init c = (search rules, omega (arith, count_none c.args.engagements.now), sym (parts_none _ _ _))
 
--- the rows lent have room for one engagement's more
-room : (c : In-loop-i) → let s = c.before.before.before.before.before in
-    let l = c.loop-i in
-    l.at + row_width * (engagement_at s.args.engagements.now l.i).count ≤ length l.out-1
-room c =
-    let s = c.before.before.before.before.before in
-    let l = c.loop-i in
-    let engagements = s.args.engagements.now in
-    let same = ap length l.invariant.2 ∙ length-sets s.args.out-1.now 0 (parts_to (rows_of (book_with s.args.book.now s.args.engagements.now)) engagements l.i) in
-    omega (arith, same, l.invariant.1, count-more engagements l.i (search rules), count_most engagements (l.i + 1), s.requires.3)
-
 pub settle_engagement_at-at-requires : goal.settle_engagement_at-at-requires
 settle_engagement_at-at-requires c =
-    let s = c.before.before.before.before.before.before in
-    (s.requires.0, s.requires.1, search rules, not-refused s.requires.0 s.requires.2 c.loop-i.i (search rules), room c.before, s.requires.4)
+    let room : let l = c.loop-i in
+    l.at + row_width * (engagement_at c.args.engagements.now l.i).count ≤ length l.out = let l = c.loop-i in
+    let engagements = c.args.engagements.now in
+    let same = ap length l.invariant.2 ∙ length-sets c.args.out.now 0 (parts_to (rows_of (book_with c.args.book.now c.args.engagements.now)) engagements l.i) in
+    omega (arith, same, l.invariant.1, count-more engagements l.i (search rules), count_most engagements (l.i + 1), c.requires.3) in
+    (c.requires.0, c.requires.1, search rules, not-refused c.requires.0 c.requires.2 c.loop-i.i (search rules), room, c.requires.4)
 
 pub loop-i-preserved : goal.loop-i-preserved
 loop-i-preserved c =
-    let s = c.before.before.before.before.before.before.before.before in
     let l = c.loop-i in
-    let book = book_with s.args.book.now s.args.engagements.now in
+    let book = book_with c.args.book.now c.args.engagements.now in
     let r = c.settle_engagement_at-at.ensures in
-    let more = count-more s.args.engagements.now l.i (search rules) in (
+    let more = count-more c.args.engagements.now l.i (search rules) in (
       search rules,
       omega (arith, r.0, l.invariant.1, more),
       r.1
-          ∙ ap (λ (o : List ℤ). sets o l.at (rows_of book (engagement_at s.args.engagements.now l.i))) l.invariant.2
-          ∙ parts_more (rows_of book) s.args.engagements.now row_width (rows_of-length book) s.args.out-1.now l.at l.i (search rules) l.invariant.1,
+          ∙ ap (λ (o : List ℤ). sets o l.at (rows_of book (engagement_at c.args.engagements.now l.i))) l.invariant.2
+          ∙ parts_more (rows_of book) c.args.engagements.now row_width (rows_of-length book) c.args.out.now l.at l.i (search rules) l.invariant.1,
     )
 
 pub shape_of-out : goal.shape_of-out
@@ -54,6 +46,5 @@ shape_of-out c = ap length c.loop-i.invariant.2 ∙ simp length-sets
 
 pub returns : goal.returns
 returns c =
-    let s = c.before.before.before.before.before in
     let l = c.loop-i in
-    l.invariant.2 ∙ ap (sets s.args.out-1.now 0) (rows-all _ _ l.i (search rules))
+    l.invariant.2 ∙ ap (sets c.args.out.now 0) (rows-all _ _ l.i (search rules))

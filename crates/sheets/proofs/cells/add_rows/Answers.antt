@@ -17,58 +17,57 @@ pub loop-k-init : goal.loop-k-init
 unfolding gets_of range
 loop-k-init c = (search rules, refl)
 
--- the cells stay as many, and those of the rows are among them
-long : (c : At-loop-k) → length c.loop-k.sums-1 ≡ length c.args.sums-1.now
-long c = let a = c.args.sums-1.now in
-    ap length c.loop-k.invariant.1 ∙ length-adds a c.args.at (gets_of c.args.version c.args.party c.args.point c.args.rows.now c.loop-k.k)
-
-room : (c : At-loop-k) → c.args.at + c.args.count ≤ length c.loop-k.sums-1
-room c = let a = c.args in omega (arith, long c, c.requires.2.room, gets-length a.version a.party a.point a.rows.now a.count)
-
 pub share-correction-requires : goal.share-correction-requires
 share-correction-requires c =
-    let l = c.before.before.before.before in
-    let rows = l.args.rows.now in
-    let k = l.loop-k.k in
+    let rows = c.args.rows.now in
+    let k = c.loop-k.k in
     let x : to_z w64 (of_z w64 (source_in rows k)) ≡ source_in rows k = search rules in
     let y : to_z w64 (of_z w64 (fsp_in rows k)) ≡ fsp_in rows k = search rules in
     let z : to_z w64 (of_z w64 (injection_in rows k)) ≡ injection_in rows k = search rules in
-    let small = l.requires.1 in
-    let h : k < l.args.count = omega arith in
-    rw (x, y, z) (small.source-1 k h, small.fsp-1 k h, small.injection-1 k h)
-
--- what the party gets of row k
-got : (c : After-share-correction) → let l = c.before.before.before.before.before in
-    let a = l.args in
-    to_z w64 (of_z w64 c.share-correction.result) ≡ gets_at a.version a.party a.point a.rows.now l.loop-k.k
-got c =
-    let l = c.before.before.before.before.before in
-    let a = l.args in
-    let x : to_z w64 (of_z w64 (source_in a.rows.now l.loop-k.k)) ≡ source_in a.rows.now l.loop-k.k = search rules in
-    let y : to_z w64 (of_z w64 (fsp_in a.rows.now l.loop-k.k)) ≡ fsp_in a.rows.now l.loop-k.k = search rules in
-    let z : to_z w64 (of_z w64 (injection_in a.rows.now l.loop-k.k)) ≡ injection_in a.rows.now l.loop-k.k = search rules in
-    let w : to_z w64 (of_z w64 c.share-correction.result) ≡ c.share-correction.result = search rules in
-    w ∙ c.share-correction.ensures ∙ rw (x, y, z)
+    let small = c.requires.1 in
+    let h : k < c.args.count = omega arith in
+    rw (x, y, z) (small.source k h, small.fsp k h, small.injection k h)
 
 pub overflow_add-at : goal.overflow_add-at
-overflow_add-at c = let l = c.before.before.before.before.before.before in omega (arith, room l, l.well_formed)
+overflow_add-at c =
+    let room : c.args.at + c.args.count ≤ length c.loop-k.sums = let long : length c.loop-k.sums ≡ length c.args.sums.now = let a = c.args.sums.now in
+    ap length c.loop-k.invariant.1 ∙ length-adds a c.args.at (gets_of c.args.version c.args.party c.args.point c.args.rows.now c.loop-k.k) in
+    let a = c.args in omega (arith, long, c.requires.2.room, gets-length a.version a.party a.point a.rows.now a.count) in
+    omega (arith, room, c.well_formed)
 
 pub add_at-requires : goal.add_at-requires
 add_at-requires c =
-    let l = c.before.before.before.before.before.before in
-    let a = l.args in
-    let fits = gets-fits a.version a.party a.point a.rows.now a.sums-1.now a.at a.count l.loop-k.k l.requires.2 (omega arith) in
-    (omega (arith, room l), rw (got c.before, l.loop-k.invariant.1) fits)
+    let room : c.args.at + c.args.count ≤ length c.loop-k.sums = let long : length c.loop-k.sums ≡ length c.args.sums.now = let a = c.args.sums.now in
+    ap length c.loop-k.invariant.1 ∙ length-adds a c.args.at (gets_of c.args.version c.args.party c.args.point c.args.rows.now c.loop-k.k) in
+    let a = c.args in omega (arith, long, c.requires.2.room, gets-length a.version a.party a.point a.rows.now a.count) in
+    let got : let a = c.args in
+    to_z w64 (of_z w64 c.share-correction.result) ≡ gets_at a.version a.party a.point a.rows.now c.loop-k.k = let a = c.args in
+    let x : to_z w64 (of_z w64 (source_in a.rows.now c.loop-k.k)) ≡ source_in a.rows.now c.loop-k.k = search rules in
+    let y : to_z w64 (of_z w64 (fsp_in a.rows.now c.loop-k.k)) ≡ fsp_in a.rows.now c.loop-k.k = search rules in
+    let z : to_z w64 (of_z w64 (injection_in a.rows.now c.loop-k.k)) ≡ injection_in a.rows.now c.loop-k.k = search rules in
+    let w : to_z w64 (of_z w64 c.share-correction.result) ≡ c.share-correction.result = search rules in
+    w ∙ c.share-correction.ensures ∙ rw (x, y, z) in
+    let a = c.args in
+    let fits = gets-fits a.version a.party a.point a.rows.now a.sums.now a.at a.count c.loop-k.k c.requires.2 (omega arith) in
+    (omega (arith, room), rw (got, c.loop-k.invariant.1) fits)
 
 pub loop-k-preserved : goal.loop-k-preserved
 loop-k-preserved c =
-    let g = c.before.before.before in
-    let l = g.before.before.before.before.before in
-    let a = l.args in
-    (search rules, c.add_at.ensures ∙ rw (got g, l.loop-k.invariant.1) (gets-next a.version a.party a.point a.rows.now a.sums-1.now a.at l.loop-k.k))
+    let got : let a = c.args in
+    to_z w64 (of_z w64 c.share-correction.result) ≡ gets_at a.version a.party a.point a.rows.now c.loop-k.k = let a = c.args in
+    let x : to_z w64 (of_z w64 (source_in a.rows.now c.loop-k.k)) ≡ source_in a.rows.now c.loop-k.k = search rules in
+    let y : to_z w64 (of_z w64 (fsp_in a.rows.now c.loop-k.k)) ≡ fsp_in a.rows.now c.loop-k.k = search rules in
+    let z : to_z w64 (of_z w64 (injection_in a.rows.now c.loop-k.k)) ≡ injection_in a.rows.now c.loop-k.k = search rules in
+    let w : to_z w64 (of_z w64 c.share-correction.result) ≡ c.share-correction.result = search rules in
+    w ∙ c.share-correction.ensures ∙ rw (x, y, z) in
+    let a = c.args in
+    (search rules, c.add_at.ensures ∙ rw (got, c.loop-k.invariant.1) (gets-next a.version a.party a.point a.rows.now a.sums.now a.at c.loop-k.k))
 
 pub shape_of-sums : goal.shape_of-sums
-shape_of-sums c = long c.before
+shape_of-sums c =
+    let long : length c.loop-k.sums ≡ length c.args.sums.now = let a = c.args.sums.now in
+    ap length c.loop-k.invariant.1 ∙ length-adds a c.args.at (gets_of c.args.version c.args.party c.args.point c.args.rows.now c.loop-k.k) in
+    long
 
 pub returns : goal.returns
 returns c = let all : c.loop-k.k ≡ c.args.count = omega arith in rw (← all) c.loop-k.invariant.1

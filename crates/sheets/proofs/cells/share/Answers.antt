@@ -14,47 +14,47 @@ use Rattle.sheets.specs.SharesLaws.{pick, pick-bounded, gets-two, gets-three}
 use Rattle.sheets.proofs.cells.share.Goals.{After-amount, After-amount-2, After-amount-3}
 use Rattle.sheets.proofs.cells.share.Goals as goal
 
--- what the columns of every version give, and that it adds up
-source_is : (c : After-amount) → let a = c.args in c.amount.result ≡ pick a.point.sourceparty a.party a.source
-source_is c =
-    let a = c.args in
-    let x : to_z w64 (of_z w64 a.source) ≡ a.source = search rules in
-    c.amount.ensures ∙ ap (pick a.point.sourceparty a.party) x
-
-fsp-is : (c : After-amount-2) → let a = c.args in c.amount-2.result ≡ pick a.point.fspparty a.party a.fsp
-fsp-is c =
-    let a = c.args in
-    let x : to_z w64 (of_z w64 a.fsp) ≡ a.fsp = search rules in
-    c.amount-2.ensures ∙ ap (pick a.point.fspparty a.party) x
-
-two-small : (c : After-amount-2) → Bounded (correction_most + correction_most) (c.amount.result +ℤ c.amount-2.result)
-two-small c =
-    let s = c.before.before in
-    let a = s.args in
-    rw (source_is c.before, fsp-is c)
-    (bounded-add (pick-bounded a.point.sourceparty a.party s.requires.0) (pick-bounded a.point.fspparty a.party s.requires.1))
-
 pub overflow_add-two : goal.overflow_add-two
 overflow_add-two c =
-    let f : SFits w64 (c.amount.result +ℤ c.amount-2.result) = bounded-fits (two-small c) (omega arith) in
+    let two-small : Bounded (correction_most + correction_most) (c.amount.result +ℤ c.amount-2.result) = let source_is : let a = c.args in c.amount.result ≡ pick a.point.sourceparty a.party a.source = let a = c.args in
+    let x : to_z w64 (of_z w64 a.source) ≡ a.source = search rules in
+    c.amount.ensures ∙ ap (pick a.point.sourceparty a.party) x in
+    let fsp-is : let a = c.args in c.amount-2.result ≡ pick a.point.fspparty a.party a.fsp = let a = c.args in
+    let x : to_z w64 (of_z w64 a.fsp) ≡ a.fsp = search rules in
+    c.amount-2.ensures ∙ ap (pick a.point.fspparty a.party) x in
+    let a = c.args in
+    rw (source_is, fsp-is)
+    (bounded-add (pick-bounded a.point.sourceparty a.party c.requires.0) (pick-bounded a.point.fspparty a.party c.requires.1)) in
+    let f : SFits w64 (c.amount.result +ℤ c.amount-2.result) = bounded-fits two-small (omega arith) in
     let x : to_z w64 (of_z w64 c.amount.result) ≡ c.amount.result = search rules in
     let y : to_z w64 (of_z w64 c.amount-2.result) ≡ c.amount-2.result = search rules in
     rw (x, y) f
 
--- the sum as the next lines find it
-two_is : (c : After-amount-2) → let a = c.args in
-    to_z w64 (of_z w64 (to_z w64 (of_z w64 c.amount.result) +ℤ to_z w64 (of_z w64 c.amount-2.result))) ≡ pick a.point.sourceparty a.party a.source +ℤ pick a.point.fspparty a.party a.fsp
-two_is c =
-    let f : SFits w64 (c.amount.result +ℤ c.amount-2.result) = bounded-fits (two-small c) (omega arith) in
+pub returns-then-not-splits : goal.returns-then-not-splits
+returns-then-not-splits c =
+    let two_is : let a = c.args in
+    to_z w64 (of_z w64 (to_z w64 (of_z w64 c.amount.result) +ℤ to_z w64 (of_z w64 c.amount-2.result))) ≡ pick a.point.sourceparty a.party a.source +ℤ pick a.point.fspparty a.party a.fsp = let source_is : let a = c.args in c.amount.result ≡ pick a.point.sourceparty a.party a.source = let a = c.args in
+    let x : to_z w64 (of_z w64 a.source) ≡ a.source = search rules in
+    c.amount.ensures ∙ ap (pick a.point.sourceparty a.party) x in
+    let fsp-is : let a = c.args in c.amount-2.result ≡ pick a.point.fspparty a.party a.fsp = let a = c.args in
+    let x : to_z w64 (of_z w64 a.fsp) ≡ a.fsp = search rules in
+    c.amount-2.ensures ∙ ap (pick a.point.fspparty a.party) x in
+    let two-small : Bounded (correction_most + correction_most) (c.amount.result +ℤ c.amount-2.result) = let source_is : let a = c.args in c.amount.result ≡ pick a.point.sourceparty a.party a.source = let a = c.args in
+    let x : to_z w64 (of_z w64 a.source) ≡ a.source = search rules in
+    c.amount.ensures ∙ ap (pick a.point.sourceparty a.party) x in
+    let fsp-is : let a = c.args in c.amount-2.result ≡ pick a.point.fspparty a.party a.fsp = let a = c.args in
+    let x : to_z w64 (of_z w64 a.fsp) ≡ a.fsp = search rules in
+    c.amount-2.ensures ∙ ap (pick a.point.fspparty a.party) x in
+    let a = c.args in
+    rw (source_is, fsp-is)
+    (bounded-add (pick-bounded a.point.sourceparty a.party c.requires.0) (pick-bounded a.point.fspparty a.party c.requires.1)) in
+    let f : SFits w64 (c.amount.result +ℤ c.amount-2.result) = bounded-fits two-small (omega arith) in
     let x : to_z w64 (of_z w64 c.amount.result) ≡ c.amount.result = search rules in
     let y : to_z w64 (of_z w64 c.amount-2.result) ≡ c.amount-2.result = search rules in
     let z : to_z w64 (of_z w64 (c.amount.result +ℤ c.amount-2.result)) ≡ c.amount.result +ℤ c.amount-2.result = search rules in
-    rw (x, y, z) (ap₂ ◌+ℤ◌ (source_is c.before) (fsp-is c))
-
-pub returns-then-not-splits : goal.returns-then-not-splits
-returns-then-not-splits c =
+    rw (x, y, z) (ap₂ ◌+ℤ◌ source_is fsp-is) in
     let a = c.args in
-    two_is c.before.before ∙ sym (gets-two a.version a.party a.point a.source a.fsp a.injection (sym c.splits.ensures ∙ c.if-not-splits.true))
+    two_is ∙ sym (gets-two a.version a.party a.point a.source a.fsp a.injection (sym c.splits.ensures ∙ c.if-not-splits.true))
 
 -- what the injection column gives, and that all three add up
 injection-is : (c : After-amount-3) → let a = c.args in c.amount-3.result ≡ pick a.point.injectionparty a.party a.injection
@@ -66,22 +66,63 @@ injection-is c =
 three-fit : (c : After-amount-3) → let a = c.args in
     SFits w64 (pick a.point.sourceparty a.party a.source +ℤ pick a.point.fspparty a.party a.fsp +ℤ c.amount-3.result)
 three-fit c =
-    let s = c.before.before.before.before.before in
-    let a = s.args in
+    let a = c.args in
     rw (injection-is c)
-    (bounded-fits (bounded-add (bounded-add (pick-bounded a.point.sourceparty a.party s.requires.0) (pick-bounded a.point.fspparty a.party s.requires.1)) (pick-bounded a.point.injectionparty a.party s.requires.2)) (omega arith))
+    (bounded-fits (bounded-add (bounded-add (pick-bounded a.point.sourceparty a.party c.requires.0) (pick-bounded a.point.fspparty a.party c.requires.1)) (pick-bounded a.point.injectionparty a.party c.requires.2)) (omega arith))
 
 pub overflow_add-result : goal.overflow_add-result
 overflow_add-result c =
+    let two_is : let a = c.args in
+    to_z w64 (of_z w64 (to_z w64 (of_z w64 c.amount.result) +ℤ to_z w64 (of_z w64 c.amount-2.result))) ≡ pick a.point.sourceparty a.party a.source +ℤ pick a.point.fspparty a.party a.fsp = let source_is : let a = c.args in c.amount.result ≡ pick a.point.sourceparty a.party a.source = let a = c.args in
+    let x : to_z w64 (of_z w64 a.source) ≡ a.source = search rules in
+    c.amount.ensures ∙ ap (pick a.point.sourceparty a.party) x in
+    let fsp-is : let a = c.args in c.amount-2.result ≡ pick a.point.fspparty a.party a.fsp = let a = c.args in
+    let x : to_z w64 (of_z w64 a.fsp) ≡ a.fsp = search rules in
+    c.amount-2.ensures ∙ ap (pick a.point.fspparty a.party) x in
+    let two-small : Bounded (correction_most + correction_most) (c.amount.result +ℤ c.amount-2.result) = let source_is : let a = c.args in c.amount.result ≡ pick a.point.sourceparty a.party a.source = let a = c.args in
+    let x : to_z w64 (of_z w64 a.source) ≡ a.source = search rules in
+    c.amount.ensures ∙ ap (pick a.point.sourceparty a.party) x in
+    let fsp-is : let a = c.args in c.amount-2.result ≡ pick a.point.fspparty a.party a.fsp = let a = c.args in
+    let x : to_z w64 (of_z w64 a.fsp) ≡ a.fsp = search rules in
+    c.amount-2.ensures ∙ ap (pick a.point.fspparty a.party) x in
+    let a = c.args in
+    rw (source_is, fsp-is)
+    (bounded-add (pick-bounded a.point.sourceparty a.party c.requires.0) (pick-bounded a.point.fspparty a.party c.requires.1)) in
+    let f : SFits w64 (c.amount.result +ℤ c.amount-2.result) = bounded-fits two-small (omega arith) in
+    let x : to_z w64 (of_z w64 c.amount.result) ≡ c.amount.result = search rules in
+    let y : to_z w64 (of_z w64 c.amount-2.result) ≡ c.amount-2.result = search rules in
+    let z : to_z w64 (of_z w64 (c.amount.result +ℤ c.amount-2.result)) ≡ c.amount.result +ℤ c.amount-2.result = search rules in
+    rw (x, y, z) (ap₂ ◌+ℤ◌ source_is fsp-is) in
     let z : to_z w64 (of_z w64 c.amount-3.result) ≡ c.amount-3.result = search rules in
-    rw (two_is c.before.before.before, z) (three-fit c)
+    rw (two_is, z) (three-fit c)
 
 pub returns : goal.returns
 returns c =
+    let two_is : let a = c.args in
+    to_z w64 (of_z w64 (to_z w64 (of_z w64 c.amount.result) +ℤ to_z w64 (of_z w64 c.amount-2.result))) ≡ pick a.point.sourceparty a.party a.source +ℤ pick a.point.fspparty a.party a.fsp = let source_is : let a = c.args in c.amount.result ≡ pick a.point.sourceparty a.party a.source = let a = c.args in
+    let x : to_z w64 (of_z w64 a.source) ≡ a.source = search rules in
+    c.amount.ensures ∙ ap (pick a.point.sourceparty a.party) x in
+    let fsp-is : let a = c.args in c.amount-2.result ≡ pick a.point.fspparty a.party a.fsp = let a = c.args in
+    let x : to_z w64 (of_z w64 a.fsp) ≡ a.fsp = search rules in
+    c.amount-2.ensures ∙ ap (pick a.point.fspparty a.party) x in
+    let two-small : Bounded (correction_most + correction_most) (c.amount.result +ℤ c.amount-2.result) = let source_is : let a = c.args in c.amount.result ≡ pick a.point.sourceparty a.party a.source = let a = c.args in
+    let x : to_z w64 (of_z w64 a.source) ≡ a.source = search rules in
+    c.amount.ensures ∙ ap (pick a.point.sourceparty a.party) x in
+    let fsp-is : let a = c.args in c.amount-2.result ≡ pick a.point.fspparty a.party a.fsp = let a = c.args in
+    let x : to_z w64 (of_z w64 a.fsp) ≡ a.fsp = search rules in
+    c.amount-2.ensures ∙ ap (pick a.point.fspparty a.party) x in
+    let a = c.args in
+    rw (source_is, fsp-is)
+    (bounded-add (pick-bounded a.point.sourceparty a.party c.requires.0) (pick-bounded a.point.fspparty a.party c.requires.1)) in
+    let f : SFits w64 (c.amount.result +ℤ c.amount-2.result) = bounded-fits two-small (omega arith) in
+    let x : to_z w64 (of_z w64 c.amount.result) ≡ c.amount.result = search rules in
+    let y : to_z w64 (of_z w64 c.amount-2.result) ≡ c.amount-2.result = search rules in
+    let z : to_z w64 (of_z w64 (c.amount.result +ℤ c.amount-2.result)) ≡ c.amount.result +ℤ c.amount-2.result = search rules in
+    rw (x, y, z) (ap₂ ◌+ℤ◌ source_is fsp-is) in
     let a = c.args in
     let f : SFits w64 (pick a.point.sourceparty a.party a.source +ℤ pick a.point.fspparty a.party a.fsp +ℤ c.amount-3.result) = three-fit c in
     let x : to_z w64 (of_z w64 (pick a.point.sourceparty a.party a.source +ℤ pick a.point.fspparty a.party a.fsp +ℤ c.amount-3.result)) ≡ pick a.point.sourceparty a.party a.source +ℤ pick a.point.fspparty a.party a.fsp +ℤ c.amount-3.result = search rules in
     let z : to_z w64 (of_z w64 c.amount-3.result) ≡ c.amount-3.result = search rules in
-    rw (two_is c.before.before.before, z, x)
+    rw (two_is, z, x)
     (ap (λ (y : ℤ). pick a.point.sourceparty a.party a.source +ℤ pick a.point.fspparty a.party a.fsp +ℤ y) (injection-is c)
     ∙ sym (gets-three a.version a.party a.point a.source a.fsp a.injection (sym c.splits.ensures ∙ c.if-not-splits.false)))

@@ -23,37 +23,29 @@ clear-requires c = omega (arith, c.month_quarters-cells.ensures, c.requires.3)
 
 pub loop-i-init : goal.loop-i-init
 loop-i-init c =
-    let s = c.before.before.before.before.before.before.before in
-    (search rules, cells-begun s.requires.0 s.requires.1 s.args.party c.month_quarters-cells.result s.args.sums-1.now c.clear.new.0 c.month_quarters-cells.ensures c.clear.ensures, search rules)
+    (search rules, cells-begun c.requires.0 c.requires.1 c.args.party c.month_quarters-cells.result c.args.sums.now c.clear.new.sums c.month_quarters-cells.ensures c.clear.ensures, search rules)
 
 pub add_engagement-requires : goal.add_engagement-requires
 add_engagement-requires c =
-    let l = c.before.before in
-    let s = l.before.before.before.before.before.before.before.before in
-    let old = l.clear.new.0 in
-    (s.requires.0, s.requires.1, search rules, not-refused s.requires.0 s.requires.2 l.loop-i.i (search rules), rw l.loop-i.invariant.1 (engagement-addable s.requires.0 l.loop-i.i (search rules) s.requires.1 s.args.party (drop (month_quarters s.args.c) old)), s.requires.4)
+    let old = c.clear.new.sums in
+    (c.requires.0, c.requires.1, search rules, not-refused c.requires.0 c.requires.2 c.loop-i.i (search rules), rw c.loop-i.invariant.1 (engagement-addable c.requires.0 c.loop-i.i (search rules) c.requires.1 c.args.party (drop (month_quarters c.args.c) old)), c.requires.4)
 
 pub loop-i-preserved : goal.loop-i-preserved
 loop-i-preserved c =
-    let l = c.before.before.before.before in
-    let s = l.before.before.before.before.before.before.before.before in
-    let a = s.args in
+    let a = c.args in
     let book = book_with a.book.now a.engagements.now in
-    let e = engagement_at a.engagements.now l.loop-i.i in
-    let old = l.clear.new.0 in (
+    let e = engagement_at a.engagements.now c.loop-i.i in
+    let old = c.clear.new.sums in (
       search rules,
       c.add_engagement.ensures
-          ∙ ap (λ (m : List ℤ). adds m (first_cell a.c e) (corrections_for book a.party e)) l.loop-i.invariant.1
-          ∙ engagement-more s.requires.0 l.loop-i.i (search rules) s.requires.1 a.party (drop (month_quarters a.c) old),
-      c.add_engagement.auto.1.1.1.1.1.1.0 ∙ l.loop-i.invariant.2,
+          ∙ ap (λ (m : List ℤ). adds m (first_cell a.c e) (corrections_for book a.party e)) c.loop-i.invariant.1
+          ∙ engagement-more c.requires.0 c.loop-i.i (search rules) c.requires.1 a.party (drop (month_quarters a.c) old),
+      c.add_engagement.auto.sums ∙ c.loop-i.invariant.2,
     )
 
 pub shape_of-sums : goal.shape_of-sums
-shape_of-sums c = c.loop-i.invariant.2 ∙ c.clear.auto.0
+shape_of-sums c = c.loop-i.invariant.2 ∙ c.clear.auto.sums
 
 pub returns : goal.returns
 returns c =
-    let l = c.before in
-    let s = l.before.before.before.before.before.before.before.before in
-    let m = l.before.before.before.before in
-    cells-ended s.requires.0 s.requires.1 s.args.party m.month_quarters-cells.result s.args.sums-1.now l.clear.new.0 m.month_quarters-cells.ensures l.clear.ensures l.loop-i.i (omega arith) l.loop-i.invariant.1
+    cells-ended c.requires.0 c.requires.1 c.args.party c.month_quarters-cells.result c.args.sums.now c.clear.new.sums c.month_quarters-cells.ensures c.clear.ensures c.loop-i.i (omega arith) c.loop-i.invariant.1

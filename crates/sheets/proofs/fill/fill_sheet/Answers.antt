@@ -16,40 +16,38 @@ use borrow.Author.Rules.{rules}
 use Rattle.sheets.proofs.fill.fill_sheet.Goals.{After-section-engagements, Start}
 use Rattle.sheets.proofs.fill.fill_sheet.Goals as goal
 
--- the book passes refusals 1 to 7
-passed : (c : Start) → refusal_of c.args.book.now ≡ none
-passed c = (passing c.args.book.now c.requires.0).passed
-
 pub section-engagements-requires : goal.section-engagements-requires
-section-engagements-requires c = (passed c.before, search rules)
-
--- it can be settled with its own engagements
-own : (c : After-section-engagements) → Opened c.args.book.now c.section-engagements.result.now
-own c = rw c.section-engagements.ensures (opened c.args.book.now (passed c.before.before))
+section-engagements-requires c =
+    let passed : refusal_of c.args.book.now ≡ none = (passing c.args.book.now c.requires.0).passed in
+    (passed, search rules)
 
 pub gather_days-requires : goal.gather_days-requires
-gather_days-requires c = gatherable (own c.before)
+gather_days-requires c =
+    let own : Opened c.args.book.now c.section-engagements.result.now = let passed : refusal_of c.args.book.now ≡ none = (passing c.args.book.now c.requires.0).passed in
+    rw c.section-engagements.ensures (opened c.args.book.now passed) in
+    gatherable own
 
 pub calendar_of-requires : goal.calendar_of-requires
-calendar_of-requires c = let s = c.before.before.before.before.before in bytes-headed s.args.book.now (passed s)
+calendar_of-requires c =
+    let passed : refusal_of c.args.book.now ≡ none = (passing c.args.book.now c.requires.0).passed in
+    bytes-headed c.args.book.now passed
 
 pub fill_cells-requires : goal.fill_cells-requires
 unfolding book_of
 fill_cells-requires c =
-    let f = c.before.before.before.before.before.before in
-    let s = f.before.before in
+    let own : Opened c.args.book.now c.section-engagements.result.now = let passed : refusal_of c.args.book.now ≡ none = (passing c.args.book.now c.requires.0).passed in
+    rw c.section-engagements.ensures (opened c.args.book.now passed) in
     let k = c.calendar_of.ensures in
     let g = c.gather_days in
-    (own f, k, rw f.section-engagements.ensures (own-settled s.args.book.now s.requires.0), rw k s.requires.1, gathered _ _ g.auto.1.0 g.ensures)
+    (own, k, rw c.section-engagements.ensures (own-settled c.args.book.now c.requires.0), rw k c.requires.1, gathered _ _ g.auto.engaged g.ensures)
 
 pub returns : goal.returns
 unfolding book_of
 returns c =
-    let f = c.before.before.before.before.before.before.before.before in
-    let s = f.before.before in
-    let bytes = s.args.book.now in
+    let passed : refusal_of c.args.book.now ≡ none = (passing c.args.book.now c.requires.0).passed in
+    let bytes = c.args.book.now in
     let k = c.calendar_of.ensures in
-    let e = f.section-engagements.ensures in
+    let e = c.section-engagements.ensures in
     c.fill_cells.ensures
-    ∙ (λ i. sheet (book_with bytes (e i)) s.args.party ++ drop (month_quarters (k i)) s.args.sums-1.now)
-    ∙ ap (λ (b : Book). sheet b s.args.party ++ drop (month_quarters (calendar_of bytes)) s.args.sums-1.now) (same-book bytes (passed s))
+    ∙ (λ i. sheet (book_with bytes (e i)) c.args.party ++ drop (month_quarters (k i)) c.args.sums.now)
+    ∙ ap (λ (b : Book). sheet b c.args.party ++ drop (month_quarters (calendar_of bytes)) c.args.sums.now) (same-book bytes passed)

@@ -12,9 +12,8 @@ calendar_of-requires c = bytes-headed c.args.book.now c.requires
 
 pub month_quarters-requires : goal.month_quarters-requires
 month_quarters-requires c =
-    let s = c.before.before in
-    let bytes = s.args.book.now in
-    rw c.calendar_of.ensures (headed bytes (passes bytes s.requires).header).ranged
+    let bytes = c.args.book.now in
+    rw c.calendar_of.ensures (headed bytes (passes bytes c.requires).header).ranged
 
 pub returns : goal.returns
 unfolding book_of

@@ -15,7 +15,6 @@ returns-then-point-party-2 c = let a = c.args in
 
 pub returns : goal.returns
 returns c =
-    let f = c.before.before in
-    let a = f.args in
+    let a = c.args in
     ap (λ (b : Bool). b && eqb a.point.injectionparty a.party) c.splits.ensures
-    ∙ sym (column-else a.version a.party a.point f.if-point-party.false f.if-point-party-2.false)
+    ∙ sym (column-else a.version a.party a.point c.if-point-party.false c.if-point-party-2.false)

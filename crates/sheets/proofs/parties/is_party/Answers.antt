@@ -16,28 +16,23 @@ use Rattle.sheets.proofs.parties.is_party.Goals as goal
 pub loop-i-init : goal.loop-i-init
 loop-i-init c = (search rules, no-party c.args.version c.args.register.now c.args.party)
 
--- what is said of row i
-row : (c : After-in_columns) → let l = c.before.before.before in
-    let a = l.args in
-    c.in_columns.result ≡ stands a.party (parties_of a.version (point_at a.register.now l.loop-i.i))
-row c =
-    c.in_columns.ensures
-    ∙ ap (λ (p : Point). stands c.args.party (parties_of c.args.version p)) c.point_at-point.ensures
-
 pub returns-then-in_columns : goal.returns-then-in_columns
 returns-then-in_columns c =
-    let l = c.before.before.before.before in
-    let a = l.args in
-    sym (party-here a.version a.register.now a.party l.loop-i.i (omega arith) (sym (row c.before) ∙ c.if-in_columns.true))
+    let row : let a = c.args in
+    c.in_columns.result ≡ stands a.party (parties_of a.version (point_at a.register.now c.loop-i.i)) = c.in_columns.ensures
+    ∙ ap (λ (p : Point). stands c.args.party (parties_of c.args.version p)) c.point_at-point.ensures in
+    let a = c.args in
+    sym (party-here a.version a.register.now a.party c.loop-i.i (omega arith) (sym row ∙ c.if-in_columns.true))
 
 pub loop-i-preserved : goal.loop-i-preserved
 loop-i-preserved c =
-    let l = c.before.before.before.before in
-    let a = l.args in
-    (search rules, party-next a.version a.register.now a.party l.loop-i.i l.loop-i.invariant.1 (sym (row c.before) ∙ c.if-in_columns.false))
+    let row : let a = c.args in
+    c.in_columns.result ≡ stands a.party (parties_of a.version (point_at a.register.now c.loop-i.i)) = c.in_columns.ensures
+    ∙ ap (λ (p : Point). stands c.args.party (parties_of c.args.version p)) c.point_at-point.ensures in
+    let a = c.args in
+    (search rules, party-next a.version a.register.now a.party c.loop-i.i c.loop-i.invariant.1 (sym row ∙ c.if-in_columns.false))
 
 pub returns : goal.returns
 returns c =
-    let l = c.before in
-    let all : l.loop-i.i ≡ point_count_in l.args.register.now = omega arith in
-    rw (← all) (sym l.loop-i.invariant.1)
+    let all : c.loop-i.i ≡ point_count_in c.args.register.now = omega arith in
+    rw (← all) (sym c.loop-i.invariant.1)
