@@ -30,7 +30,7 @@ store_volumes-requires c =
     let a = c.args in
     let e = engagement_at a.engagements.now a.i in
     let book = book_with a.book.now a.engagements.now in
-    (omega (arith, count, c.requires.4), omega (arith, count, room, c.settle_engagement_at.auto.out, length-replicate (row_width * longest_day) (pos 0)), λ k h. ap dn (volume-is book e (replicate (row_width * longest_day) (pos 0)) c.settle_engagement_at.new.out c.settle_engagement_at.ensures.1 room (omega (arith, h, count))))
+    (omega (arith, count, c.requires.4), omega (arith, count, room, c.settle_engagement_at.auto.out, length-replicate (row_width * longest_day) (pos 0)), λ k h. ap dn (volume-is book e (replicate (row_width * longest_day) (pos 0)) c.settle_engagement_at.new.out c.settle_engagement_at.ensures.1 room k (omega (arith, h, count))))
 
 pub overflow_add-result : goal.overflow_add-result
 overflow_add-result c =

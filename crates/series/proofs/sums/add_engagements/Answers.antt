@@ -33,7 +33,7 @@ cell_of-first-requires c =
     let inside : c.loop-i.i < engagement_count_in c.args.engagements.now = search rules in
     let p = c.requires.0.parts in
     let r = rw p.when at p.sound.ranged in
-    let at = placed p c.loop-i.i inside
+    let at = placed p c.loop-i.i inside in
     rw c.engagement_at-e.ensures (omega (arith, at.inside, days-few c.args.c r), at.settled)
 
 pub add_volumes-requires : goal.add_volumes-requires
@@ -62,7 +62,7 @@ pub overflow_add-at : goal.overflow_add-at
 overflow_add-at c =
     let inside : c.loop-i.i < engagement_count_in c.args.engagements.now = search rules in
     let l = c.loop-i in
-    let room = volumes-room c.requires.0.parts l.i inside
+    let room = volumes-room c.requires.0.parts l.i inside in
     record { fits = omega (arith, l.invariant.1, room, ap (λ (e : Engagement). e.count) c.engagement_at-e.ensures) }
 
 pub overflow_add-i : goal.overflow_add-i

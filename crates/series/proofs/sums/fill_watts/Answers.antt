@@ -30,7 +30,7 @@ loop-i-preserved c =
     ∙ by-rest (floor_at per_watt (cell_at first)) c.loop-i.i first (omega (arith, c.requires.0))
     ∙ ap (cell_at first) (sym (add-one c.loop-i.i)) in
     let first = c.args.cells.now in
-    let k = carried (cell_at first) c.loop-i.i c.loop-i.carry (get_or c.loop-i.cells c.loop-i.i 0) c.loop-i.invariant.2 cell (
+    let k = carried (cell_at first) c.loop-i.i c.loop-i.carry (get_or c.loop-i.cells c.loop-i.i 0) c.loop-i.invariant.2 cell in (
       omega arith,
       length-set c.loop-i.cells c.loop-i.i c.down_to_watts.result ∙ c.loop-i.invariant.1,
       k.left,

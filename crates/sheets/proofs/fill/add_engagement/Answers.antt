@@ -58,4 +58,4 @@ returns c =
     ∙ engagement-gets c.requires.0 c.args.i c.requires.2 (replicate (row_width * longest_day) (pos 0)) (omega (arith, length-replicate (row_width * longest_day) (pos 0))) c.engagement_at-e.ensures c.point_at-point.ensures c.section-register.ensures c.settle_engagement_at.ensures.1 c.args.party in
     let cell : let a = c.args in
     c.cell_of-at.result ≡ first_cell a.c (engagement_at a.engagements.now a.i) = c.cell_of-at.ensures ∙ ap (first_cell c.args.c) c.engagement_at-e.ensures in
-    c.add_rows.ensures ∙ ap₂ (adds c.args.sums.now) cell
+    c.add_rows.ensures ∙ ap₂ (adds c.args.sums.now) cell gets
