@@ -39,21 +39,15 @@ cell_of-first-requires c =
 pub add_volumes-requires : goal.add_volumes-requires
 add_volumes-requires c =
     let inside : c.loop-i.i < engagement_count_in c.args.engagements.now = search rules in
-    let rows_are : let a = c.args in
-    let i = c.loop-i.i in
-    (b : Book) → Parts a.c a.register.now a.engagements.now a.volumes.now b
-    → c.series_rows-own.result ≡ cond (is_engagement b a.role.kind a.role.receiver a.s (engagement_at a.engagements.now i)) (engagement_at a.engagements.now i).count 0 = let inside : c.loop-i.i < engagement_count_in c.args.engagements.now = search rules in
-    let a = c.args in
-    let read = c.engagement_at-e.ensures in
-    c.series_rows-own.ensures b (rw read (p.owner c.loop-i.i inside))
-    ∙ ap (λ (e : Engagement). cond (is_engagement b a.role.kind a.role.receiver a.s e) e.count 0) read in
-    let start_is : let a = c.args in
-    c.cell_of-first.result + 1 ≡ start_position a.c (engagement_at a.engagements.now c.loop-i.i) = let a = c.args in
-    let e = c.engagement_at-e.result in
-    let from_one : c.cell_of-first.result + 1 ≡ start_position a.c e = omega (arith, c.cell_of-first.ensures, cell-position a.c e.day e.first) in
-    from_one ∙ ap (start_position a.c) c.engagement_at-e.ensures in
     let a = c.args in
     let l = c.loop-i in
+    let e = engagement_at a.engagements.now l.i in
+    let read = c.engagement_at-e.ensures in
+    let rows_are : (b : Book) → Parts a.c a.register.now a.engagements.now a.volumes.now b → c.series_rows-own.result ≡ cond (is_engagement b a.role.kind a.role.receiver a.s e) e.count 0 =
+    λ b p. c.series_rows-own.ensures b (rw read (p.owner l.i inside)) ∙ ap (λ (f : Engagement). cond (is_engagement b a.role.kind a.role.receiver a.s f) f.count 0) read in
+    let from_one : c.cell_of-first.result + 1 ≡ start_position a.c c.engagement_at-e.result =
+    omega (arith, c.cell_of-first.ensures, cell-position a.c c.engagement_at-e.result.day c.engagement_at-e.result.first) in
+    let start_is : c.cell_of-first.result + 1 ≡ start_position a.c e = from_one ∙ ap (start_position a.c) read in
     let b = c.requires.0.book in
     let p = c.requires.0.parts in
     turn-adds p a.role.kind a.role.receiver a.s l.i l.at c.series_rows-own.result c.cell_of-first.result a.grains.now l.grains inside l.invariant.1 (rows_are b p) start_is c.requires.1 (l.invariant.3 b p)
@@ -73,21 +67,15 @@ overflow_add-i c =
 pub loop-i-preserved : goal.loop-i-preserved
 loop-i-preserved c =
     let inside : c.loop-i.i < engagement_count_in c.args.engagements.now = search rules in
-    let rows_are : let a = c.args in
-    let i = c.loop-i.i in
-    (b : Book) → Parts a.c a.register.now a.engagements.now a.volumes.now b
-    → c.series_rows-own.result ≡ cond (is_engagement b a.role.kind a.role.receiver a.s (engagement_at a.engagements.now i)) (engagement_at a.engagements.now i).count 0 = let inside : c.loop-i.i < engagement_count_in c.args.engagements.now = search rules in
-    let a = c.args in
-    let read = c.engagement_at-e.ensures in
-    c.series_rows-own.ensures b (rw read (p.owner c.loop-i.i inside))
-    ∙ ap (λ (e : Engagement). cond (is_engagement b a.role.kind a.role.receiver a.s e) e.count 0) read in
-    let start_is : let a = c.args in
-    c.cell_of-first.result + 1 ≡ start_position a.c (engagement_at a.engagements.now c.loop-i.i) = let a = c.args in
-    let e = c.engagement_at-e.result in
-    let from_one : c.cell_of-first.result + 1 ≡ start_position a.c e = omega (arith, c.cell_of-first.ensures, cell-position a.c e.day e.first) in
-    from_one ∙ ap (start_position a.c) c.engagement_at-e.ensures in
     let a = c.args in
     let l = c.loop-i in
+    let e = engagement_at a.engagements.now l.i in
+    let read = c.engagement_at-e.ensures in
+    let rows_are : (b : Book) → Parts a.c a.register.now a.engagements.now a.volumes.now b → c.series_rows-own.result ≡ cond (is_engagement b a.role.kind a.role.receiver a.s e) e.count 0 =
+    λ b p. c.series_rows-own.ensures b (rw read (p.owner l.i inside)) ∙ ap (λ (f : Engagement). cond (is_engagement b a.role.kind a.role.receiver a.s f) f.count 0) read in
+    let from_one : c.cell_of-first.result + 1 ≡ start_position a.c c.engagement_at-e.result =
+    omega (arith, c.cell_of-first.ensures, cell-position a.c c.engagement_at-e.result.day c.engagement_at-e.result.first) in
+    let start_is : c.cell_of-first.result + 1 ≡ start_position a.c e = from_one ∙ ap (start_position a.c) read in
     let v = c.add_volumes.ensures in
     let here = inside in (
       omega (arith, here),
