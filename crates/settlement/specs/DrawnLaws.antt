@@ -11,13 +11,12 @@ use Rattle.book.specs.declared.Engagement.{Engagement}
 use Rattle.quarters.specs.Quarters.{quarters_of}
 use Rattle.quarters.specs.QuartersInner.{longest_day}
 use Rattle.quarters.specs.QuartersLaws.{days-few, quarters-most}
-use Rattle.book.specs.Header.{calendar_of, point_count, section_of, calendar_section, table_section, register_section, reading_section}
+use Rattle.book.specs.Header.{calendar_of, point_count, calendar_section, table_section, register_section, reading_section}
 use Rattle.book.specs.HeaderLaws.{headed}
 use Rattle.book.specs.Tables.{category_at, x_at, y_at}
 use Rattle.book.specs.Register.{point_at, excludes}
 use Rattle.book.specs.Engagements.{engagement_at}
-use Rattle.book.specs.Book.{Book}
-use Rattle.volumes.specs.Baseline.{point_of, no_point, x_of, y_of}
+use Rattle.volumes.specs.Baseline.{point_of, no_point}
 use Rattle.volumes.specs.Settlement.{refusal_number, row_refusal, row_width}
 use Rattle.volumes.specs.SoundInner.{XOfY, Placed}
 use Rattle.volumes.specs.SoundLaws.{passes}

@@ -1,7 +1,7 @@
 -- Engagements passed lack nothing: the book's refusal is the first from the present one on.
 use mathlib.Core.Path.{◌≡◌, sym, ap, ◌∙◌}
 use mathlib.Core.Option.{Option}
-use Prim.Native.Nat.{ℕ, ◌+◌, ◌-◌}
+use Prim.Native.Nat.{ℕ, ◌+◌}
 use Rattle.volumes.specs.Settlement.{settlement_refusal, row_refusal}
 use Rattle.volumes.specs.SettlementLaws.{refusal_at, refusal-all}
 use Rattle.baseline.specs.NeedsInner.{number_of}

@@ -1,5 +1,4 @@
 -- Level and reading have one bias, so that what each is above it is the off-take of baseline and reading.
-use borrow.Author.Tests.{not-true, not-false}
 use mathlib.Core.Path.{◌≡◌, sym, ap, ap₂, ◌∙◌}
 use mathlib.Core.Bool.{true}
 use Prim.Native.Nat.{◌-◌, min}

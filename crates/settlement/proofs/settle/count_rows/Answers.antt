@@ -1,6 +1,6 @@
 -- The count is that of the engagements passed.
 use mathlib.Core.Path.{sym, ap, ◌∙◌}
-use Prim.Native.Nat.{ℕ, ◌+◌, ◌-◌}
+use Prim.Native.Nat.{ℕ, ◌+◌}
 use Rattle.book.specs.declared.Engagement.{Engagement}
 use Rattle.book.specs.Engagements.{engagement_at}
 use Rattle.settlement.specs.PartsLaws.{count_none, count-more, count-all}
