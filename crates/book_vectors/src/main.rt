@@ -3,40 +3,41 @@
 
 use cases::Loaded;
 use judging::Judged;
+use std::io;
 
-fn answer(judged: Judged) {
+fn answer(rt: &impl Print, judged: Judged) -> io::Result<()> {
     match judged {
-        Judged::Passed => cases::answers::text(b"passed\n"),
-        Judged::Header => cases::answers::refused(1, 0),
-        Judged::Layout => cases::answers::refused(2, 0),
-        Judged::Tables => cases::answers::refused(4, 0),
-        Judged::Register(row) => cases::answers::refused(5, row as u64),
-        Judged::Readings(point) => cases::answers::refused(6, point as u64),
-        Judged::Engagements(row) => cases::answers::refused(7, row as u64),
+        Judged::Passed => cases::answers::text(rt, b"passed\n"),
+        Judged::Header => cases::answers::refused(rt, 1, 0),
+        Judged::Layout => cases::answers::refused(rt, 2, 0),
+        Judged::Tables => cases::answers::refused(rt, 4, 0),
+        Judged::Register(row) => cases::answers::refused(rt, 5, row as u64),
+        Judged::Readings(point) => cases::answers::refused(rt, 6, point as u64),
+        Judged::Engagements(row) => cases::answers::refused(rt, 7, row as u64),
     }
 }
 
-fn run_case(line: &[u8], buffer: &mut [u8]) {
+fn run_case(rt: &impl Print, line: &[u8], buffer: &mut [u8]) -> io::Result<()> {
     let loaded = cases::sparse::load(line, 0, buffer);
     let Loaded::Bytes(n) = loaded else {
-        cases::answers::no_case();
-        return;
+        return cases::answers::no_case(rt);
     };
-    answer(judging::judge::judge_book(&buffer[..n]));
+    answer(rt, judging::judge::judge_book(&buffer[..n]))
 }
 
-fn run(text: &[u8], buffer: &mut [u8]) {
+fn run(rt: &impl Print, text: &[u8], buffer: &mut [u8]) -> io::Result<()> {
     let mut at = 0;
     while at < text.len() {
         let end = cases::words::find(text, at, b'\n');
-        run_case(&text[at..end], buffer);
+        run_case(rt, &text[at..end], buffer)?;
         at = cases::words::next(text, end);
     }
+    Ok(())
 }
 
-fn main() {
+fn main(rt: HostRuntime) -> io::Result<()> {
     let mut text = cases::text_buffer();
     let mut buffer = cases::book_buffer();
-    let n = io::read_full(0, &mut text);
-    run(&text[..n], &mut buffer);
+    let n = cases::input::read_full(&rt, &mut text)?;
+    run(&rt, &text[..n], &mut buffer)
 }
