@@ -8,11 +8,6 @@ returns-then-n-gt18 c =
     let a = c.args in
     fixed_off a.s.now a.c a.n c.if-n-gt18.true
 
-pub fixed-v-requires : goal.fixed-v-requires
-fixed-v-requires c =
-    let a = c.args in
-    (rw c.place-m.ensures (standing-within a.s.now a.c), c.if-n-gt18.false)
-
 pub returns : goal.returns
 returns c =
     let a = c.args in

@@ -3,11 +3,6 @@ use mathlib.Core.Path.{◌∙◌}
 use Rattle.cursor.specs.MovesLaws.{standing-within, name-is}
 use Rattle.cursor.proofs.name_by.Goals as goal
 
-pub name-next-requires : goal.name-next-requires
-name-next-requires c =
-    let a = c.args in
-    rw c.place-m.ensures (standing-within a.s.now a.c)
-
 pub returns : goal.returns
 returns c =
     let a = c.args in

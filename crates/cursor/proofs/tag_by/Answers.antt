@@ -3,11 +3,6 @@ use mathlib.Core.Path.{◌∙◌}
 use Rattle.cursor.specs.MovesLaws.{standing-within, tag_is}
 use Rattle.cursor.proofs.tag_by.Goals as goal
 
-pub tag-behind-requires : goal.tag-behind-requires
-tag-behind-requires c =
-    let a = c.args in
-    rw c.place-m.ensures (standing-within a.s.now a.c)
-
 pub returns : goal.returns
 returns c =
     let a = c.args in

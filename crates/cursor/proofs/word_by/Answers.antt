@@ -3,11 +3,6 @@ use mathlib.Core.Path.{◌∙◌}
 use Rattle.cursor.specs.MovesLaws.{standing-within, word-is}
 use Rattle.cursor.proofs.word_by.Goals as goal
 
-pub word-x-requires : goal.word-x-requires
-word-x-requires c =
-    let a = c.args in
-    rw c.place-m.ensures (standing-within a.s.now a.c)
-
 pub returns : goal.returns
 returns c =
     let a = c.args in

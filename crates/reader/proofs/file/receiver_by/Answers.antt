@@ -3,9 +3,6 @@ use Rattle.cursor.specs.MovesLaws.{standing-within}
 use Rattle.reader.specs.FileTurnsLaws.{received}
 use Rattle.reader.proofs.file.receiver_by.Goals as goal
 
-pub moment_at-b-requires : goal.moment_at-b-requires
-moment_at-b-requires c = rw c.place-m.ensures (standing-within c.args.s.now c.args.c)
-
 pub returns : goal.returns
 returns c =
     let a = c.args in

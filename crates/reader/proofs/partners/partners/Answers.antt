@@ -3,9 +3,6 @@ use Rattle.std.proofs.Common.{arith}
 use Rattle.reader.specs.PartnerTurnsLaws.{leads-first, leads-last, leads-on}
 use Rattle.reader.proofs.partners.partners.Goals as goal
 
-pub loop-t-init : goal.loop-t-init
-loop-t-init c = let a = c.args in leads-first a.s.now a.todo a.c.now a.out.now
-
 pub loop-t-preserved : goal.loop-t-preserved
 loop-t-preserved c i =
     let a = c.args in

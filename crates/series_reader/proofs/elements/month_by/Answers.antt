@@ -11,9 +11,6 @@ use Rattle.series_reader.specs.VolumesLaws.{is-month, month-none, month-behind}
 use Rattle.series_reader.specs.ReadingLaws.{moment-part}
 use Rattle.series_reader.proofs.elements.month_by.Goals as goal
 
-pub returns-then-not-is_period : goal.returns-then-not-is_period
-returns-then-not-is_period c = month-none c.args.s.now c.args.p c.args.c (sym c.is_period.ensures ∙ c.if-not-is_period.true)
-
 pub period_start-requires : goal.period_start-requires
 period_start-requires c = let a = c.args in is-month (to-period (a.p.year, a.p.month) (sym c.is_period.ensures ∙ c.if-not-is_period.false))
 

@@ -3,9 +3,6 @@ use Rattle.std.proofs.Common.{ℕ, ◌≤◌, sym, subst, arith}
 use Rattle.series_reader.specs.SeriesTurnsLaws.{leads-first, leads-last, leads-on}
 use Rattle.series_reader.proofs.series.series_list.Goals as goal
 
-pub loop-t-init : goal.loop-t-init
-loop-t-init c = let a = c.args in leads-first a.s.now a.todo a.c.now a.out.now
-
 pub loop-t-preserved : goal.loop-t-preserved
 loop-t-preserved c i =
     let a = c.args in
