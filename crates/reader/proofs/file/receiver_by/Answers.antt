@@ -1,5 +1,4 @@
 -- The moment is read where the cursor stands, and the receiver behind it.
-use Rattle.cursor.specs.MovesLaws.{standing-within}
 use Rattle.reader.specs.FileTurnsLaws.{received}
 use Rattle.reader.proofs.file.receiver_by.Goals as goal
 

@@ -1,6 +1,6 @@
 -- At first all is left; a partner's turn keeps what leads to the whole, and where none is left it is the whole.
 use Rattle.std.proofs.Common.{arith}
-use Rattle.reader.specs.PartnerTurnsLaws.{leads-first, leads-last, leads-on}
+use Rattle.reader.specs.PartnerTurnsLaws.{leads-last, leads-on}
 use Rattle.reader.proofs.partners.partners.Goals as goal
 
 pub loop-t-preserved : goal.loop-t-preserved

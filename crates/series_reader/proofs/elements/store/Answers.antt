@@ -1,8 +1,5 @@
 -- Six stores, one behind the other, where the test left room for them.
-use lib.ListN.{length-set}
-use Rattle.message.specs.ObservationForm.{observed}
-use Rattle.series_reader.specs.FillingLaws.{stored-none, stored-six}
-use native.Mathlib.Omega.{arith}
+use Rattle.series_reader.specs.FillingLaws.{stored-six}
 use borrow.Author.Rules.{rules}
 use Rattle.series_reader.proofs.elements.store.Goals as goal
 

@@ -1,6 +1,6 @@
 -- At first all is left; a series' turn keeps what leads to the whole, and where none is left it is the whole.
 use Rattle.std.proofs.Common.{ℕ, ◌≤◌, sym, subst, arith}
-use Rattle.series_reader.specs.SeriesTurnsLaws.{leads-first, leads-last, leads-on}
+use Rattle.series_reader.specs.SeriesTurnsLaws.{leads-last, leads-on}
 use Rattle.series_reader.proofs.series.series_list.Goals as goal
 
 pub loop-t-preserved : goal.loop-t-preserved
