@@ -1,5 +1,5 @@
 -- Moments: their bytes, which are real, how bytes are judged, the instant, the period of a month (document 01, "The file").
-use Rattle.std.specs.Prelude.{Bool, true, false, ◌&&◌, List, ◌++◌, ℕ, ◌+◌, ◌-◌, eqb, leb, length}
+use Rattle.std.specs.Prelude.{Bool, true, false, ◌&&◌, List, ◌++◌, ℕ, eqb, leb, length}
 use Rattle.text.specs.Ascii.{bytes}
 use Rattle.text.specs.Decimal.{fixed, fixed_at}
 use Rattle.text.specs.Tag.{begins}

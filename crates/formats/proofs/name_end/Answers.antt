@@ -1,10 +1,8 @@
 -- The loop stands at p, before which all bytes from `at` on are those of a name: the name ends where that of p ends.
-use mathlib.Core.Path.{refl, sym, ap, ◌∙◌}
-use Prim.Native.Nat.{◌-◌}
+use mathlib.Core.Path.{sym, ap, ◌∙◌}
 use lib.ListN.{length}
 use native.Mathlib.Omega.{arith}
 use borrow.Author.Rules.{rules}
-use borrow.Author.Tests.{not-true, not-false}
 use Rattle.formats.specs.Name.{name_byte}
 use Rattle.formats.specs.PlaceLaws.{span-short, span-stop, span-step}
 use Rattle.formats.proofs.name_end.Goals as goal

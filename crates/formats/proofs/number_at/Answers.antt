@@ -8,7 +8,7 @@ use lib.ListN.{length, drop, get_or}
 use lib.Dec.{eqb, leb, ltb}
 use native.Mathlib.Omega.{arith}
 use borrow.Author.Rules.{rules}
-use borrow.Author.Tests.{eq-eqb, ne_eqb, le-leb, lt-leb, lt-ltb, le-ltb, not-true, not-false}
+use borrow.Author.Tests.{eq-eqb, ne_eqb, le-leb, lt-leb, lt-ltb, le-ltb}
 use Rattle.text.specs.Decimal.{digit}
 use Rattle.text.specs.DecimalLaws.{digit-is}
 use Rattle.formats.specs.Format.{got, bad, pick}

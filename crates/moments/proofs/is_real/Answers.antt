@@ -1,5 +1,4 @@
 -- `is-real` meets its contract: date, then time, then offset.
-use borrow.Author.Tests.{not-true, not-false}
 use Rattle.moments.specs.Moments.{real}
 use Rattle.moments.proofs.is_real.Goals as goal
 
