@@ -55,7 +55,7 @@ def imports(lines, crate):
         m = re.match(r"(?:ghost |unfoldable |pub )*use (\S+?)\.\{(.*)\};?$", line.strip())
         if not m:
             continue
-        place = re.match(r"Rattle·(\w+)(?:·specs\.specs|\.specs)\.(.+)$", m.group(1))
+        place = re.match(r"Rattle\.(\w+)\.(?:specs|proofs)\.(.+)$", m.group(1))
         for part in m.group(2).split(", "):
             name, _, other = part.partition(" as ")
             if place:
