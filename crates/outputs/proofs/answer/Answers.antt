@@ -6,14 +6,12 @@ use Rattle.outputs.proofs.answer.Goals as goal
 
 pub returns-in_default : goal.returns-in_default
 returns-in_default c =
-    let s = c.before.before.before.before.before.before in
-    no_line s.args.input.now s.args.rows.now s.args.out.now _ _ (sym c.enum_told-1.given.1 ∙ c.read_request-request.ensures) c.Put-refused.ensures
+    no_line c.args.input.now c.args.rows.now c.args.out.now _ _ (sym c.enum_told-1.given.1 ∙ c.read_request-request.ensures) c.Put-refused.ensures
 
 pub returns-then-input-gt65536 : goal.returns-then-input-gt65536
 returns-then-input-gt65536 c =
-    let s = c.before.before.before.before.before.before.before.before in
     let r = c.request-1.given in
-    too_long s.args.input.now r.0.0 s.args.rows.now s.args.out.now _ _ (sym r.1 ∙ c.read_request-request.ensures) c.if-input-gt65536.true c.put_refused-then-input-gt65536.ensures
+    too_long c.args.input.now r.0.0 c.args.rows.now c.args.out.now _ _ (sym r.1 ∙ c.read_request-request.ensures) c.if-input-gt65536.true c.put_refused-then-input-gt65536.ensures
 
 pub put_file-requires : goal.put_file-requires
 put_file-requires c =

@@ -7,12 +7,9 @@ use Rattle.filing.proofs.file.fill_file.Goals as goal
 
 pub fill_volumes-requires : goal.fill_volumes-requires
 fill_volumes-requires c =
-    let s = c.before.before.before.before.before in
-    (s.requires.0, omega (arith, volumes-most s.args.book.now s.requires.0))
+    (c.requires.0, omega (arith, volumes-most c.args.book.now c.requires.0))
 
 pub write_file-requires : goal.write_file-requires
 write_file-requires c =
-    let f = c.before.before.before.before.before in
-    let s = f.before.before.before.before.before.before in
-    let book = book_of s.args.book.now in
-    (record { accepted = s.requires.0; starts = volumes-stand book _ _ (omega (arith, volumes-most s.args.book.now s.requires.0)) f.fill_volumes.ensures }, s.requires.1, search rules)
+    let book = book_of c.args.book.now in
+    (record { accepted = c.requires.0; starts = volumes-stand book _ _ (omega (arith, volumes-most c.args.book.now c.requires.0)) c.fill_volumes.ensures }, c.requires.1, search rules)

@@ -11,5 +11,4 @@ row_count-count-requires c = (passing _ c.requires.0.accepted).passed
 
 pub returns : goal.returns
 returns c =
-    let s = c.before.before.before.before.before.before.before.before.before.before.before.before.before.before.before.before.before.before.before.before.before.before.before.before.before.before.before in
-    file-fits _ _ _ _ _ _ _ _ _ _ _ s.requires.1 c.row_count-count.ensures.0 c.decreases.given.1 c.measure_file-t.ensures.0 c.fill_book.ensures c.write_measured.ensures
+    file-fits _ _ _ _ _ _ _ _ _ _ _ c.requires.1 c.row_count-count.ensures.0 c.decreases.given.1 c.measure_file-t.ensures.0 c.fill_book.ensures c.write_measured.ensures

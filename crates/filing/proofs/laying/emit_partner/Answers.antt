@@ -26,42 +26,35 @@ calendar c = dated c.args.book.now c.args.volumes.now c.requires.0
 stood : (c : After-fill_partner-end) → let a = c.args in
     rows_from c.fill_partner-end.new.1.1.1.1.0 0 (c.fill_partner-end.result / 6) ≡ partner_rows_of (book_of a.book.now) a.role.kind a.role.receiver a.partner
 stood c =
-    let s = c.before.before.before.before.before.before.before in
-    let a = s.args in
+    let a = c.args in
     let f = c.fill_partner-end.ensures.0 in
     let rows = partner_rows_of (book_of a.book.now) a.role.kind a.role.receiver a.partner in
     let n : c.fill_partner-end.result / 6 ≡ length rows = omega (arith, f.behind) in
-    ap (rows_from c.fill_partner-end.new.1.1.1.1.0 0) n ∙ filled-stand rows _ _ _ f (omega (arith, f.behind, c.fill_partner-end.ensures.1, s.requires.1))
+    ap (rows_from c.fill_partner-end.new.1.1.1.1.0 0) n ∙ filled-stand rows _ _ _ f (omega (arith, f.behind, c.fill_partner-end.ensures.1, c.requires.1))
 
 pub calendar_of-c-requires : goal.calendar_of-c-requires
-calendar_of-c-requires c = (calendar c.before.before.before.before).header
+calendar_of-c-requires c = (calendar (goal.at.calendar_of-c-requires c).Start).header
 
 pub emit_partners-mark-requires : goal.emit_partners-mark-requires
 emit_partners-mark-requires c =
-    let f = c.before.before.before.before in
-    let d = f.before.before in
-    let s = d.before.before.before.before.before in
-    let a = s.args in
-    let e = f.fill_partner-end.ensures in (
-      partner-writable (book_of a.book.now) a.role.kind a.role.receiver a.partner _ _ _ _ (omega (arith, filled-length e.0, e.0.behind, e.1, s.requires.1)) (stood f) (period-of d.calendar_of-c.result (rw d.calendar_of-c.ensures (calendar s).ranged)),
-      s.requires.3,
+    let a = c.args in
+    let e = c.fill_partner-end.ensures in (
+      partner-writable (book_of a.book.now) a.role.kind a.role.receiver a.partner _ _ _ _ (omega (arith, filled-length e.0, e.0.behind, e.1, c.requires.1)) (stood (goal.at.emit_partners-mark-requires c).After-fill_partner-end) (period-of c.calendar_of-c.result (rw c.calendar_of-c.ensures (calendar (goal.at.emit_partners-mark-requires c).Start).ranged)),
+      c.requires.3,
     )
 
 pub returns : goal.returns
 returns c =
-    let f = c.before.before.before.before.before.before.before.before in
-    let d = f.before.before in
-    let s = d.before.before.before.before.before in
-    let a = s.args in
-    let l = f.fill_partner-end.new.1.1.1.1.0 in
-    let n = f.fill_partner-end.result / 6 in
-    let q = d.calendar_of-c.ensures ∙ (calendar s).own in
-    let sound = (parts-of a.book.now a.volumes.now s.requires.0).sound in
-    let own = registered a.book.now (passing _ s.requires.0.accepted).passed in (
+    let a = c.args in
+    let l = c.fill_partner-end.new.1.1.1.1.0 in
+    let n = c.fill_partner-end.result / 6 in
+    let q = c.calendar_of-c.ensures ∙ (calendar (goal.at.returns c).Start).own in
+    let sound = (parts-of a.book.now a.volumes.now c.requires.0).sound in
+    let own = registered a.book.now (passing _ c.requires.0.accepted).passed in (
       laid-is _
           (ap (λ (k : Calendar). flat_map (partner_bytes a.role.kind) (partners_in (k.year, k.month) l 0 n)) q
-          ∙ partner-bytes (book_of a.book.now) a.role.kind a.role.receiver a.partner sound own s.requires.2 l n (stood f))
+          ∙ partner-bytes (book_of a.book.now) a.role.kind a.role.receiver a.partner sound own c.requires.2 l n (stood (goal.at.returns c).After-fill_partner-end))
           c.emit_partners-mark.ensures,
-      c.one-count.ensures.0 ∙ partner-count (book_of a.book.now) a.role.kind a.role.receiver a.partner sound own s.requires.2 f.fill_partner-end.result (f.fill_partner-end.ensures.0.behind ∙ zero-add _),
+      c.one-count.ensures.0 ∙ partner-count (book_of a.book.now) a.role.kind a.role.receiver a.partner sound own c.requires.2 c.fill_partner-end.result (c.fill_partner-end.ensures.0.behind ∙ zero-add _),
       c.one-count.ensures.1,
     )

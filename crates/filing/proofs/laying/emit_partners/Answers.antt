@@ -25,31 +25,26 @@ next_partner-next-requires c = tt
 
 pub loop-next-init : goal.loop-next-init
 loop-next-init c =
-    let s = c.before.before.before.before.before.before in
-    let a = s.args in
+    let a = c.args in
     let cut = c.section-register in (
-      next-in a.book.now cut.result.now a.role.kind a.role.receiver 0 _ (passing _ s.requires.0.accepted).passed cut.ensures c.next_partner-next.ensures,
-      rw (partners-all (book_of a.book.now) a.role.kind a.role.receiver) (laying-none a.live a.out-1.now a.start _ s.requires.2),
+      next-in a.book.now cut.result.now a.role.kind a.role.receiver 0 _ (passing _ c.requires.0.accepted).passed cut.ensures c.next_partner-next.ensures,
+      rw (partners-all (book_of a.book.now) a.role.kind a.role.receiver) (laying-none a.live a.out-1.now a.start _ c.requires.2),
       zero-add _ ∙ ap length (partners-all (book_of a.book.now) a.role.kind a.role.receiver),
       search rules,
     )
 
 pub emit_partner-t-requires : goal.emit_partner-t-requires
 emit_partner-t-requires c =
-    let l = c.before.before.before in
-    let s = l.before.before.before.before.before.before.before in
-    let a = s.args in
-    (s.requires.0, omega (arith, s.requires.1, l.loop-next.invariant.3), next_known (book_of a.book.now) a.role.kind a.role.receiver _ _ l.loop-next.invariant.0 c.loop-next-test.true, laid-stands l.loop-next.invariant.1.laid)
+    let a = c.args in
+    (c.requires.0, omega (arith, c.requires.1, c.loop-next.invariant.3), next_known (book_of a.book.now) a.role.kind a.role.receiver _ _ c.loop-next.invariant.0 c.loop-next-test.true, laid-stands c.loop-next.invariant.1.laid)
 
 pub overflow_add-count : goal.overflow_add-count
 overflow_add-count c =
-    let l = c.before.before.before.before.before.before.before.before.before in
-    let s = l.before.before.before.before.before.before.before in
-    let a = s.args in
-    let most = partners-few (book_of a.book.now) a.role.kind a.role.receiver (registered a.book.now (passing _ s.requires.0.accepted).passed) in
+    let a = c.args in
+    let most = partners-few (book_of a.book.now) a.role.kind a.role.receiver (registered a.book.now (passing _ c.requires.0.accepted).passed) in
     let few = c.emit_partner-t.ensures.2 in
-    let all = l.loop-next.invariant.2 in
-    let fits : l.loop-next.count ≤ 256 = omega (arith, most, all) in
+    let all = c.loop-next.invariant.2 in
+    let fits : c.loop-next.count ≤ 256 = omega (arith, most, all) in
     search rules
 
 pub next_partner-next-requires-in-loop-next : goal.next_partner-next-requires-in-loop-next
@@ -58,34 +53,30 @@ next_partner-next-requires-in-loop-next c = tt
 -- the partner that follows
 later : (c : After-next_partner-next-in-loop-next) → let a = c.args in Next (c.loop-next.next + 1) (partner_column (book_of a.book.now).points a.role.kind a.role.receiver) c.next_partner-next-in-loop-next.result
 later c =
-    let s = c.before.before.before.before.before.before.before.before.before.before.before.before.before.before.before.before.before in
-    let a = s.args in
+    let a = c.args in
     let cut = c.section-register in
-    next-in a.book.now cut.result.now a.role.kind a.role.receiver _ _ (passing _ s.requires.0.accepted).passed cut.ensures c.next_partner-next-in-loop-next.ensures
+    next-in a.book.now cut.result.now a.role.kind a.role.receiver _ _ (passing _ c.requires.0.accepted).passed cut.ensures c.next_partner-next-in-loop-next.ensures
 
 pub loop-next-smaller : goal.loop-next-smaller
-loop-next-smaller c = scan-falls _ c.loop-next.next _ c.loop-next-test.true (later c)
+loop-next-smaller c = scan-falls _ c.loop-next.next _ c.loop-next-test.true (later (goal.at.loop-next-smaller c).After-next_partner-next-in-loop-next)
 
 pub loop-next-preserved : goal.loop-next-preserved
 loop-next-preserved c =
-    let l = c.before.before.before.before.before.before.before.before.before.before in
-    let a = l.args in
+    let a = c.args in
     let book = book_of a.book.now in
     let taken = c.loop-next-test.true in
     let laid = c.emit_partner-t.ensures in (
-      later c,
-      laying-then _ l.loop-next.invariant.1 laid.0 (partners-bytes book a.role.kind a.role.receiver _ _ l.loop-next.invariant.0 taken),
-      omega (arith, l.loop-next.invariant.2, laid.1, partners-count book a.role.kind a.role.receiver _ _ l.loop-next.invariant.0 taken),
+      later (goal.at.loop-next-preserved c).After-next_partner-next-in-loop-next,
+      laying-then _ c.loop-next.invariant.1 laid.0 (partners-bytes book a.role.kind a.role.receiver _ _ c.loop-next.invariant.0 taken),
+      omega (arith, c.loop-next.invariant.2, laid.1, partners-count book a.role.kind a.role.receiver _ _ c.loop-next.invariant.0 taken),
       search rules,
     )
 
 pub returns : goal.returns
 returns c =
-    let l = c.before in
-    let s = l.before.before.before.before.before.before.before in
-    let a = s.args in
+    let a = c.args in
     let book = book_of a.book.now in
-    let own = registered a.book.now (passing _ s.requires.0.accepted).passed in (
-      laying-all l.loop-next.invariant.1 (partners-end-bytes book a.role.kind a.role.receiver own _ _ l.loop-next.invariant.0 c.loop-next-test.false),
-      omega (arith, l.loop-next.invariant.2, ap length (partners-end book a.role.kind a.role.receiver own _ _ l.loop-next.invariant.0 c.loop-next-test.false)),
+    let own = registered a.book.now (passing _ c.requires.0.accepted).passed in (
+      laying-all c.loop-next.invariant.1 (partners-end-bytes book a.role.kind a.role.receiver own _ _ c.loop-next.invariant.0 c.loop-next-test.false),
+      omega (arith, c.loop-next.invariant.2, ap length (partners-end book a.role.kind a.role.receiver own _ _ c.loop-next.invariant.0 c.loop-next-test.false)),
     )

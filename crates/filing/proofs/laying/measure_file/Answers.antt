@@ -6,7 +6,7 @@ use native.Mathlib.Omega.{arith}
 use Rattle.filing.proofs.laying.measure_file.Goals as goal
 
 pub emit_partners-t-requires : goal.emit_partners-t-requires
-emit_partners-t-requires c = let s = c.before.before.before.before.before.before.before.before in (s.requires.0, s.requires.1, stands_at _ 0 (omega arith))
+emit_partners-t-requires c = (c.requires.0, c.requires.1, stands_at _ 0 (omega arith))
 
 pub returns : goal.returns
 returns c =

@@ -21,9 +21,8 @@ use Rattle.filing.proofs.sheet.sheet.Goals as goal
 
 pub returns-in-Refused : goal.returns-in-Refused
 returns-in-Refused c =
-    let k = c.before.before.before in
-    let a = k.args in
-    sheet-refused a.book.now a.party a.sums-1.now _ (ap refusal_in (sym c.verdict-1.given.1) ∙ k.judge_settlement-verdict.ensures)
+    let a = c.args in
+    sheet-refused a.book.now a.party a.sums-1.now _ (ap refusal_in (sym c.verdict-1.given.1) ∙ c.judge_settlement-verdict.ensures)
 
 -- the book is accepted
 passed : (c : In_default) → book_refusal c.args.book.now ≡ none
@@ -33,10 +32,10 @@ sound : (c : In_default) → refusal_of c.args.book.now ≡ none
 sound c = (passing c.args.book.now (passed c)).passed
 
 pub version_of-version-requires : goal.version_of-version-requires
-version_of-version-requires c = bytes-long c.args.book.now (sound c)
+version_of-version-requires c = bytes-long c.args.book.now (sound (goal.at.version_of-version-requires c).In_default)
 
 pub section-register-requires : goal.section-register-requires
-section-register-requires c = (sound c.before, search rules)
+section-register-requires c = (sound (goal.at.section-register-requires c).In_default, search rules)
 
 -- whether the party stands in a column
 column : (c : After-is_party) → let a = c.args in
@@ -45,36 +44,31 @@ column c =
     let a = c.args in
     c.is_party.ensures
     ∙ ap₂ (λ (v : ℕ) (register : List ℕ). stands a.party (parties_in v register)) c.version_of-version.ensures c.section-register.ensures
-    ∙ stands-in a.book.now a.party (sound c.before.before.before)
+    ∙ stands-in a.book.now a.party (sound c)
 
 pub returns-then-not-is_party : goal.returns-then-not-is_party
 returns-then-not-is_party c =
     let a = c.args in
-    sheet-stranger a.book.now a.party a.sums-1.now (passed c.before.before.before.before) (sym (column c.before) ∙ c.if-not-is_party.true)
+    sheet-stranger a.book.now a.party a.sums-1.now (passed (goal.at.returns-then-not-is_party c).In_default) (sym (column (goal.at.returns-then-not-is_party c).After-is_party) ∙ c.if-not-is_party.true)
 
 -- it does
 present : (c : Else-not-is_party) → let a = c.args in
     stands a.party (parties (book_of a.book.now)) ≡ true
-present c = sym (column c.before) ∙ c.if-not-is_party.false
+present c = sym (column c) ∙ c.if-not-is_party.false
 
 pub sheet_length-count-requires : goal.sheet_length-count-requires
-sheet_length-count-requires c = sound c.before.before.before.before
+sheet_length-count-requires c = sound (goal.at.sheet_length-count-requires c).In_default
 
 pub returns-then-sums-count : goal.returns-then-sums-count
 returns-then-sums-count c =
-    let e = c.before.before in
-    let a = e.args in
-    sheet-short a.book.now a.party a.sums-1.now (passed e.before.before.before.before) (present e) (rw (← c.sheet_length-count.ensures) c.if-sums-count.true)
+    let a = c.args in
+    sheet-short a.book.now a.party a.sums-1.now (passed (goal.at.returns-then-sums-count c).In_default) (present (goal.at.returns-then-sums-count c).Else-not-is_party) (rw (← c.sheet_length-count.ensures) c.if-sums-count.true)
 
 pub fill_sheet-requires : goal.fill_sheet-requires
 fill_sheet-requires c =
-    let n = c.before.before in
-    (passed n.before.before.before.before.before, rw (← n.sheet_length-count.ensures) c.if-sums-count.false)
+    (passed (goal.at.fill_sheet-requires c).In_default, rw (← c.sheet_length-count.ensures) c.if-sums-count.false)
 
 pub returns : goal.returns
 returns c =
-    let o = c.before.before.before in
-    let n = o.before in
-    let e = n.before in
-    let a = e.args in
-    sheet-filled a.book.now a.party a.sums-1.now (passed e.before.before.before.before) _ _ (present e) (rw (← n.sheet_length-count.ensures) o.if-sums-count.false) n.sheet_length-count.ensures c.fill_sheet.ensures
+    let a = c.args in
+    sheet-filled a.book.now a.party a.sums-1.now (passed (goal.at.returns c).In_default) _ _ (present (goal.at.returns c).Else-not-is_party) (rw (← c.sheet_length-count.ensures) c.if-sums-count.false) c.sheet_length-count.ensures c.fill_sheet.ensures

@@ -19,18 +19,15 @@ receiver-is c = c.receiver_of.ensures ∙ ap (receiver_of c.args.role.kind) c.po
 
 pub returns-then-receiver_of-role : goal.returns-then-receiver_of-role
 returns-then-receiver_of-role c =
-    let l = c.before.before.before.before.before in
-    let a = l.args in
-    sym (role-found a.register.now a.role.kind a.role.receiver l.loop-i.i (search rules) (sym (receiver-is c.before.before) ∙ c.if-receiver_of-role.true))
+    let a = c.args in
+    sym (role-found a.register.now a.role.kind a.role.receiver c.loop-i.i (search rules) (sym (receiver-is (goal.at.returns-then-receiver_of-role c).After-receiver_of) ∙ c.if-receiver_of-role.true))
 
 pub loop-i-preserved : goal.loop-i-preserved
 loop-i-preserved c =
-    let l = c.before.before.before.before.before in
-    let a = l.args in
-    (search rules, below_more (λ (j : ℕ). receiver_of a.role.kind (point_at a.register.now j) ≡ a.role.receiver → ⊥) l.loop-i.i l.loop-i.invariant.1 (λ e. c.if-receiver_of-role.false (receiver-is c.before.before ∙ e)))
+    let a = c.args in
+    (search rules, below_more (λ (j : ℕ). receiver_of a.role.kind (point_at a.register.now j) ≡ a.role.receiver → ⊥) c.loop-i.i c.loop-i.invariant.1 (λ e. c.if-receiver_of-role.false (receiver-is (goal.at.loop-i-preserved c).After-receiver_of ∙ e)))
 
 pub returns : goal.returns
 returns c =
-    let l = c.before in
-    let a = l.args in
-    sym (role-none a.register.now a.role.kind a.role.receiver (λ j h e. l.loop-i.invariant.1 j (search rules) e))
+    let a = c.args in
+    sym (role-none a.register.now a.role.kind a.role.receiver (λ j h e. c.loop-i.invariant.1 j (search rules) e))

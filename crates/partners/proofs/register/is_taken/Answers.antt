@@ -6,5 +6,4 @@ use Rattle.partners.proofs.register.is_taken.Goals as goal
 pub returns : goal.returns
 unfolding is_taken
 returns c =
-    let start = c.before.before.before in
-    rw (c.takes.ensures ∙ start.requires.law start.args.role.kind, c.receiver_of.ensures)
+    rw (c.takes.ensures ∙ c.requires.law c.args.role.kind, c.receiver_of.ensures)

@@ -14,21 +14,18 @@ loop-i-init c = (search rules, scanned-none _ _ _ _)
 
 pub is_taken-requires : goal.is_taken-requires
 is_taken-requires c =
-    let l = c.before.before.before in
-    rw c.point_at-point.ensures (told_at l.args.register.now l.loop-i.i)
+    rw c.point_at-point.ensures (told_at c.args.register.now c.loop-i.i)
 
 pub loop-i-preserved : goal.loop-i-preserved
 loop-i-preserved c =
-    let l = c.before.before.before.before.before in
-    let a = l.args in
+    let a = c.args in
     let point = c.point_at-point.ensures in
     let taken = c.is_taken.ensures ∙ ap (is_taken a.role.kind a.role.receiver) point in
     let partner = c.partner_of-partner.ensures ∙ ap (partner_of a.role.kind) point in
-    (search rules, rw (c.nearer-next.ensures, taken, partner) (scanned-more a.register.now a.role.kind a.role.receiver a.low l.loop-i.i l.loop-i.next l.loop-i.invariant.1))
+    (search rules, rw (c.nearer-next.ensures, taken, partner) (scanned-more a.register.now a.role.kind a.role.receiver a.low c.loop-i.i c.loop-i.next c.loop-i.invariant.1))
 
 pub returns : goal.returns
 returns c =
-    let l = c.before in
-    let a = l.args in
-    let e : l.loop-i.i ≡ point_count_in a.register.now = search rules in
-    scanned-all a.register.now a.role.kind a.role.receiver a.low l.loop-i.next (rw e at l.loop-i.invariant.1)
+    let a = c.args in
+    let e : c.loop-i.i ≡ point_count_in a.register.now = search rules in
+    scanned-all a.register.now a.role.kind a.role.receiver a.low c.loop-i.next (rw e at c.loop-i.invariant.1)

@@ -12,21 +12,17 @@ loop-i-init c = let a = c.args in
 
 pub push_position-at-requires : goal.push_position-at-requires
 push_position-at-requires c =
-    let l = c.before.before.before in
-    let s = l.before.before.before in
-    let a = s.args in
-    omega (arith, s.requires.1, l.loop-i.invariant.1.behind, filled-length l.loop-i.invariant.1, positions-few a.s a.watts.now l.loop-i.i)
+    let a = c.args in
+    omega (arith, c.requires.1, c.loop-i.invariant.1.behind, filled-length c.loop-i.invariant.1, positions-few a.s a.watts.now c.loop-i.i)
 
 pub loop-i-preserved : goal.loop-i-preserved
 loop-i-preserved c =
-    let l = c.before.before.before.before.before.before in
-    let a = l.args in
-    (omega arith, filled_is _ (positions-more a.s a.watts.now l.loop-i.i) (filled-then l.loop-i.invariant.1 c.push_position-at.ensures))
+    let a = c.args in
+    (omega arith, filled_is _ (positions-more a.s a.watts.now c.loop-i.i) (filled-then c.loop-i.invariant.1 c.push_position-at.ensures))
 
 pub shape_of-rows : goal.shape_of-rows
 shape_of-rows c = filled-length c.loop-i.invariant.1
 
 pub returns : goal.returns
-returns c = let l = c.before in
-    let e : l.loop-i.i ≡ l.args.n = omega arith in
-    rw (← e) l.loop-i.invariant.1
+returns c = let e : c.loop-i.i ≡ c.args.n = omega arith in
+    rw (← e) c.loop-i.invariant.1
