@@ -1,19 +1,16 @@
 -- The line is judged, then the length of the input, then the file call.
-use mathlib.Core.Path.{sym, ◌∙◌}
 use Rattle.outputs.specs.OutputLaws.{no_line, too_long}
 use borrow.Author.Rules.{rules}
 use Rattle.outputs.proofs.answer.Goals as goal
 
 pub returns-in_default : goal.returns-in_default
 returns-in_default c =
-    no_line c.args.input.now c.args.rows.now c.args.out.now _ _ (sym c.enum_told-1.given.1 ∙ c.read_request-request.ensures) c.Put-refused.ensures
+    no_line c.args.input.now c.args.rows.now c.args.out.now _ _ c.in_default.ensures c.put_refused.ensures
 
 pub returns-then-input-gt65536 : goal.returns-then-input-gt65536
 returns-then-input-gt65536 c =
-    let r = c.request-1.given in
-    too_long c.args.input.now r.0.0 c.args.rows.now c.args.out.now _ _ (sym r.1 ∙ c.read_request-request.ensures) c.if-input-gt65536.true c.put_refused-then-input-gt65536.ensures
+    too_long c.args.input.now c.in-Line.asked c.args.rows.now c.args.out.now _ _ c.in-Line.ensures c.if-input-gt65536.true c.put_refused-then-input-gt65536.ensures
 
 pub put_file-requires : goal.put_file-requires
 put_file-requires c =
-    let r = c.request-1.given in
-    (sym r.1 ∙ c.read_request-request.ensures, c.if-input-gt65536.false, search rules, search rules)
+    (c.in-Line.ensures, c.if-input-gt65536.false, search rules, search rules)

@@ -3,12 +3,12 @@ use Rattle.toe_c.specs.Codes.{with_facts}
 use Rattle.toe_c.proofs.short_facts.Goals as goal
 
 pub refusal_code-requires-in-Refused : goal.refusal_code-requires-in-Refused
-refusal_code-requires-in-Refused c = rw c.answer-1.given.1 at c.requires
+refusal_code-requires-in-Refused c = rw c.in-Refused.is at c.requires
 
 pub returns-in-File : goal.returns-in-File
 unfolding with_facts
-returns-in-File c = rw c.enum_told-1.given.1 c.refusal_code.ensures
+returns-in-File c = rw c.in-File.is c.refusal_code.ensures
 
 pub returns-in-Refused : goal.returns-in-Refused
 unfolding with_facts
-returns-in-Refused c = rw c.answer-1.given.1 c.refusal_code-in-Refused.ensures
+returns-in-Refused c = rw c.in-Refused.is c.refusal_code-in-Refused.ensures

@@ -12,43 +12,41 @@ use Rattle.message.specs.Rows.{rows_from}
 use Rattle.emitter.specs.LaidLaws.{laid-is}
 use Rattle.writer.specs.ContentsInner.{partners_in}
 use Rattle.series.specs.SumsLaws.{parts-of}
-use Rattle.partners.specs.ObservationsLaws.{period-of, Dated, dated}
+use Rattle.partners.specs.ObservationsLaws.{period-of, dated}
 use Rattle.reports.specs.RegisteredLaws.{registered}
 use Rattle.partners.specs.PartnerRowsInner.{partner_rows_of}
 use Rattle.partners.specs.PartnerRowsLaws.{filled-stand, filled-length, partner-writable, partner-bytes, partner-count}
 use native.Mathlib.Omega.{arith}
-use Rattle.filing.proofs.laying.emit_partner.Goals.{After-fill_partner-end, Start}
+use Rattle.filing.proofs.laying.emit_partner.Goals.{After-fill_partner-end}
 use Rattle.filing.proofs.laying.emit_partner.Goals as goal
 
-calendar : (c : Start) → Dated c.args.book.now
-calendar c = dated c.args.book.now c.args.volumes.now c.requires.0
-
+-- the rows that are filled are the partner's
 stood : (c : After-fill_partner-end) → let a = c.args in
-    rows_from c.fill_partner-end.new.1.1.1.1.0 0 (c.fill_partner-end.result / 6) ≡ partner_rows_of (book_of a.book.now) a.role.kind a.role.receiver a.partner
+    rows_from c.fill_partner-end.new.rows 0 (c.fill_partner-end.result / 6) ≡ partner_rows_of (book_of a.book.now) a.role.kind a.role.receiver a.partner
 stood c =
     let a = c.args in
     let f = c.fill_partner-end.ensures.0 in
     let rows = partner_rows_of (book_of a.book.now) a.role.kind a.role.receiver a.partner in
     let n : c.fill_partner-end.result / 6 ≡ length rows = omega (arith, f.behind) in
-    ap (rows_from c.fill_partner-end.new.1.1.1.1.0 0) n ∙ filled-stand rows _ _ _ f (omega (arith, f.behind, c.fill_partner-end.ensures.1, c.requires.1))
+    ap (rows_from c.fill_partner-end.new.rows 0) n ∙ filled-stand rows _ _ _ f (omega (arith, f.behind, c.fill_partner-end.ensures.1, c.requires.1))
 
 pub calendar_of-c-requires : goal.calendar_of-c-requires
-calendar_of-c-requires c = (calendar (goal.at.calendar_of-c-requires c).Start).header
+calendar_of-c-requires c = (dated c.args.book.now c.args.volumes.now c.requires.0).header
 
 pub emit_partners-mark-requires : goal.emit_partners-mark-requires
 emit_partners-mark-requires c =
     let a = c.args in
     let e = c.fill_partner-end.ensures in (
-      partner-writable (book_of a.book.now) a.role.kind a.role.receiver a.partner _ _ _ _ (omega (arith, filled-length e.0, e.0.behind, e.1, c.requires.1)) (stood (goal.at.emit_partners-mark-requires c).After-fill_partner-end) (period-of c.calendar_of-c.result (rw c.calendar_of-c.ensures (calendar (goal.at.emit_partners-mark-requires c).Start).ranged)),
+      partner-writable (book_of a.book.now) a.role.kind a.role.receiver a.partner _ _ _ _ (omega (arith, filled-length e.0, e.0.behind, e.1, c.requires.1)) (stood (goal.at.emit_partners-mark-requires c).After-fill_partner-end) (period-of c.calendar_of-c.result (rw c.calendar_of-c.ensures (dated c.args.book.now c.args.volumes.now c.requires.0).ranged)),
       c.requires.3,
     )
 
 pub returns : goal.returns
 returns c =
     let a = c.args in
-    let l = c.fill_partner-end.new.1.1.1.1.0 in
+    let l = c.fill_partner-end.new.rows in
     let n = c.fill_partner-end.result / 6 in
-    let q = c.calendar_of-c.ensures ∙ (calendar (goal.at.returns c).Start).own in
+    let q = c.calendar_of-c.ensures ∙ (dated c.args.book.now c.args.volumes.now c.requires.0).own in
     let sound = (parts-of a.book.now a.volumes.now c.requires.0).sound in
     let own = registered a.book.now (passing _ c.requires.0.accepted).passed in (
       laid-is _

@@ -28,7 +28,7 @@ loop-next-init c =
     let a = c.args in
     let cut = c.section-register in (
       next-in a.book.now cut.result.now a.role.kind a.role.receiver 0 _ (passing _ c.requires.0.accepted).passed cut.ensures c.next_partner-next.ensures,
-      rw (partners-all (book_of a.book.now) a.role.kind a.role.receiver) (laying-none a.live a.out-1.now a.start _ c.requires.2),
+      rw (partners-all (book_of a.book.now) a.role.kind a.role.receiver) (laying-none a.live a.out.now a.start _ c.requires.2),
       zero-add _ ∙ ap length (partners-all (book_of a.book.now) a.role.kind a.role.receiver),
       search rules,
     )

@@ -22,11 +22,11 @@ use Rattle.filing.proofs.sheet.sheet.Goals as goal
 pub returns-in-Refused : goal.returns-in-Refused
 returns-in-Refused c =
     let a = c.args in
-    sheet-refused a.book.now a.party a.sums-1.now _ (ap refusal_in (sym c.verdict-1.given.1) ∙ c.judge_settlement-verdict.ensures)
+    sheet-refused a.book.now a.party a.sums.now _ c.in-Refused.ensures
 
 -- the book is accepted
 passed : (c : In_default) → book_refusal c.args.book.now ≡ none
-passed c = sym c.judge_settlement-verdict.ensures ∙ ap refusal_in c.enum_told-1.given.1
+passed c = sym c.in_default.ensures
 
 sound : (c : In_default) → refusal_of c.args.book.now ≡ none
 sound c = (passing c.args.book.now (passed c)).passed
@@ -49,7 +49,7 @@ column c =
 pub returns-then-not-is_party : goal.returns-then-not-is_party
 returns-then-not-is_party c =
     let a = c.args in
-    sheet-stranger a.book.now a.party a.sums-1.now (passed (goal.at.returns-then-not-is_party c).In_default) (sym (column (goal.at.returns-then-not-is_party c).After-is_party) ∙ c.if-not-is_party.true)
+    sheet-stranger a.book.now a.party a.sums.now (passed (goal.at.returns-then-not-is_party c).In_default) (sym (column (goal.at.returns-then-not-is_party c).After-is_party) ∙ c.if-not-is_party.true)
 
 -- it does
 present : (c : Else-not-is_party) → let a = c.args in
@@ -62,7 +62,7 @@ sheet_length-count-requires c = sound (goal.at.sheet_length-count-requires c).In
 pub returns-then-sums-count : goal.returns-then-sums-count
 returns-then-sums-count c =
     let a = c.args in
-    sheet-short a.book.now a.party a.sums-1.now (passed (goal.at.returns-then-sums-count c).In_default) (present (goal.at.returns-then-sums-count c).Else-not-is_party) (rw (← c.sheet_length-count.ensures) c.if-sums-count.true)
+    sheet-short a.book.now a.party a.sums.now (passed (goal.at.returns-then-sums-count c).In_default) (present (goal.at.returns-then-sums-count c).Else-not-is_party) (rw (← c.sheet_length-count.ensures) c.if-sums-count.true)
 
 pub fill_sheet-requires : goal.fill_sheet-requires
 fill_sheet-requires c =
@@ -71,4 +71,4 @@ fill_sheet-requires c =
 pub returns : goal.returns
 returns c =
     let a = c.args in
-    sheet-filled a.book.now a.party a.sums-1.now (passed (goal.at.returns c).In_default) _ _ (present (goal.at.returns c).Else-not-is_party) (rw (← c.sheet_length-count.ensures) c.if-sums-count.false) c.sheet_length-count.ensures c.fill_sheet.ensures
+    sheet-filled a.book.now a.party a.sums.now (passed (goal.at.returns c).In_default) _ _ (present (goal.at.returns c).Else-not-is_party) (rw (← c.sheet_length-count.ensures) c.if-sums-count.false) c.sheet_length-count.ensures c.fill_sheet.ensures
