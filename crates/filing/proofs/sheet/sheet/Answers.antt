@@ -16,7 +16,7 @@ use Rattle.settlement.specs.SectionsLaws.{bytes-long}
 use Rattle.sheets.specs.PartiesInner.{parties_in}
 use Rattle.reports.specs.Calls.{stands}
 use Rattle.filing.specs.SheetLaws.{stands-in, sheet-refused, sheet-stranger, sheet-short, sheet-filled}
-use Rattle.filing.proofs.sheet.sheet.Goals.{After-is_party, Else-not-is_party, In_default}
+use Rattle.filing.proofs.sheet.sheet.Goals.{After-is_party, In_default}
 use Rattle.filing.proofs.sheet.sheet.Goals as goal
 
 pub returns-in-Refused : goal.returns-in-Refused
@@ -44,17 +44,12 @@ column c =
     let a = c.args in
     c.is_party.ensures
     ∙ ap₂ (λ (v : ℕ) (register : List ℕ). stands a.party (parties_in v register)) c.version_of-version.ensures c.section-register.ensures
-    ∙ stands-in a.book.now a.party (sound c)
+    ∙ stands-in a.book.now a.party (passing c.args.book.now (sym c.in_default.ensures)).passed
 
 pub returns-then-not-is_party : goal.returns-then-not-is_party
 returns-then-not-is_party c =
     let a = c.args in
     sheet-stranger a.book.now a.party a.sums.now (passed (goal.at.returns-then-not-is_party c).In_default) (sym (column (goal.at.returns-then-not-is_party c).After-is_party) ∙ c.if-not-is_party.true)
-
--- it does
-present : (c : Else-not-is_party) → let a = c.args in
-    stands a.party (parties (book_of a.book.now)) ≡ true
-present c = sym (column c) ∙ c.if-not-is_party.false
 
 pub sheet_length-count-requires : goal.sheet_length-count-requires
 sheet_length-count-requires c = sound (goal.at.sheet_length-count-requires c).In_default
@@ -62,7 +57,7 @@ sheet_length-count-requires c = sound (goal.at.sheet_length-count-requires c).In
 pub returns-then-sums-count : goal.returns-then-sums-count
 returns-then-sums-count c =
     let a = c.args in
-    sheet-short a.book.now a.party a.sums.now (passed (goal.at.returns-then-sums-count c).In_default) (present (goal.at.returns-then-sums-count c).Else-not-is_party) (rw (← c.sheet_length-count.ensures) c.if-sums-count.true)
+    sheet-short a.book.now a.party a.sums.now (passed (goal.at.returns-then-sums-count c).In_default) (sym (column (goal.at.returns-then-sums-count c).After-is_party) ∙ c.if-not-is_party.false) (rw (← c.sheet_length-count.ensures) c.if-sums-count.true)
 
 pub fill_sheet-requires : goal.fill_sheet-requires
 fill_sheet-requires c =
@@ -71,4 +66,4 @@ fill_sheet-requires c =
 pub returns : goal.returns
 returns c =
     let a = c.args in
-    sheet-filled a.book.now a.party a.sums.now (passed (goal.at.returns c).In_default) _ _ (present (goal.at.returns c).Else-not-is_party) (rw (← c.sheet_length-count.ensures) c.if-sums-count.false) c.sheet_length-count.ensures c.fill_sheet.ensures
+    sheet-filled a.book.now a.party a.sums.now (passed (goal.at.returns c).In_default) _ _ (sym (column (goal.at.returns c).After-is_party) ∙ c.if-not-is_party.false) (rw (← c.sheet_length-count.ensures) c.if-sums-count.false) c.sheet_length-count.ensures c.fill_sheet.ensures
