@@ -4,7 +4,6 @@ use mathlib.Core.List.{List, [], ◌∷◌, flat_map, map}
 use Rattle.integers.specs.TestsLaws.{and_left, and_right, and_both}
 use Rattle.integers.specs.Rises.{rises}
 use Rattle.integers.specs.All.{All}
-use Rattle.text.specs.Ascii.{bytes}
 use Rattle.formats.specs.Format.{Format}
 use Rattle.formats.specs.Combine.{only, Recast, recast}
 use Rattle.formats.specs.Items.{ItemsOk}

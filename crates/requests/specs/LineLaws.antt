@@ -14,7 +14,6 @@ use Rattle.formats.specs.Exactly.{exactly_parse, fixed_digits}
 use Rattle.formats.specs.Name.{name_byte, span, name_parse}
 use Rattle.formats.specs.RunLaws.{run-seq, run-post, run_only, run-fail}
 use Rattle.formats.specs.PlaceInner.{Parsed, left}
-use Rattle.formats.specs.PlaceLaws.{parsed}
 use Rattle.formats.specs.declared.Mark.{Mark}
 use Rattle.formats.specs.declared.Mark.TheVariants.{At, No}
 use Rattle.message.specs.Valid.{is_moment}

@@ -1,7 +1,6 @@
 -- Measured, or written where there is room.
-use mathlib.Core.Path.{sym, ◌∙◌}
 use lib.ListN.{length}
-use Rattle.emitter.specs.LaidLaws.{laid-dry, laid-full, laid-nowhere, laid-live, room_for}
+use Rattle.emitter.specs.LaidLaws.{laid-nowhere, laid-live, room_for}
 use Rattle.emitter.proofs.laying.lay.Goals as goal
 
 pub returns-in_default-m : goal.returns-in_default-m

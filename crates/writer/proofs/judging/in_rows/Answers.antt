@@ -1,13 +1,9 @@
 -- The loop stands at a row that is good: what is left to judge is what is left of the whole.
-use mathlib.Core.Path.{sym, ap, ◌∙◌}
-use mathlib.Core.Bool.{Bool, true, ◌&&◌}
-use Prim.Native.Nat.{ℕ, ◌+◌, ◌-◌, ◌/◌}
+use mathlib.Core.Path.{sym, ◌∙◌}
+use Prim.Native.Nat.{◌+◌, ◌-◌, ◌/◌}
 use lib.ListN.{length}
-use native.Mathlib.Nat.{sub-zero}
 use native.Mathlib.Omega.{arith}
-use borrow.Author.Tests.{not-true, not-false}
 use Rattle.writer.specs.StepsLaws.{six-directions, behind-none, behind-not-six, behind-not-before, behind-next}
-use Rattle.writer.specs.RowsInner.{six_at, behind}
 use Rattle.writer.proofs.judging.in_rows.Goals as goal
 
 pub returns-then-not-six_at-2 : goal.returns-then-not-six_at-2

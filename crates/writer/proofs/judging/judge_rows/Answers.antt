@@ -4,7 +4,6 @@ use mathlib.Core.Bool.{Bool, ◌&&◌}
 use Prim.Native.Nat.{ℕ, ◌-◌, ◌/◌}
 use lib.ListN.{length}
 use native.Mathlib.Omega.{arith}
-use borrow.Author.Tests.{not-true, not-false}
 use Rattle.message.specs.Valid.{last_position}
 use Rattle.writer.specs.StepsLaws.{rows-far, rows-odd, rows_none, rows-some}
 use Rattle.writer.specs.RowsInner.{six_at, behind}

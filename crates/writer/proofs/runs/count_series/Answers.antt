@@ -1,6 +1,4 @@
 -- Each run is one series: the series counted and those of the rows left are all.
-use mathlib.Core.Path.{ap}
-use lib.ListN.{length}
 use Rattle.writer.specs.RunsLaws.{no-series}
 use native.Mathlib.Omega.{arith}
 use Rattle.writer.proofs.runs.count_series.Goals as goal

@@ -1,8 +1,8 @@
 -- The rows passed have the first one's directions; the run ends at a row of another direction, or with the rows.
 use mathlib.Core.Path.{sym}
-use Prim.Native.Nat.{ℕ, ◌+◌, ◌-◌, ◌*◌}
+use Prim.Native.Nat.{◌+◌, ◌*◌}
 use lib.ListN.{get_or}
-use Rattle.writer.specs.RunsLaws.{one-first, one_more, directions-run}
+use Rattle.writer.specs.RunsLaws.{directions-run}
 use borrow.Author.Tests.{eq-eqb, ne_eqb}
 use native.Mathlib.Omega.{arith}
 use Rattle.writer.proofs.runs.directions_run.Goals as goal

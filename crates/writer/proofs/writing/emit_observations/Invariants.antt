@@ -1,6 +1,6 @@
 -- Row by row: what is laid so far and the observations of the rows left are the whole.
 use mathlib.Core.List.{flat_map}
-use Prim.Native.Nat.{◌+◌, ◌-◌, ◌*◌, ◌≤◌}
+use Prim.Native.Nat.{◌+◌, ◌*◌, ◌≤◌}
 use lib.ListN.{length}
 use Rattle.message.specs.Bytes.{observation_bytes}
 use Rattle.writer.specs.ContentsInner.{observations_in}

@@ -1,6 +1,5 @@
 -- Run by run: what is laid so far and the partners of the rows left are the whole.
 use mathlib.Core.List.{flat_map}
-use Prim.Native.Nat.{◌-◌}
 use Rattle.message.specs.Bytes.{partner_bytes}
 use Rattle.writer.specs.ContentsInner.{partners_in, Writable}
 use Rattle.emitter.specs.LaidLaws.{Laying}

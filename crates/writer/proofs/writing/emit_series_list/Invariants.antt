@@ -1,6 +1,5 @@
 -- Run by run: what is laid so far and the series of the rows left are the whole.
 use mathlib.Core.List.{flat_map}
-use Prim.Native.Nat.{◌-◌}
 use Rattle.message.specs.Bytes.{series_bytes}
 use Rattle.writer.specs.ContentsInner.{series_in, Writable}
 use Rattle.emitter.specs.LaidLaws.{Laying}
