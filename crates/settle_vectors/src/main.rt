@@ -8,82 +8,88 @@ ghost use Rattle.settle_vectors.specs.FitsInner.{RowsFit};
 
 use cases::Loaded;
 use settlement::settle::Settled;
+use std::io;
 use text::Number;
 
 // The number of rows, and the rows; the numbers behind them are to be kept.
-fn answer_rows(rows: &[i64], count: usize)
+fn answer_rows(rt: &impl Print, rows: &[i64], count: usize) -> io::Result<()>
     requires { row_width * count ≤ length rows.now }
 {
-    cases::answers::text(b"rows ");
-    cases::answers::number(count as u64);
-    cases::answers::text(b"\n");
+    cases::answers::text(rt, b"rows ")?;
+    cases::answers::number(rt, count as u64)?;
+    cases::answers::text(rt, b"\n")?;
     let end = settlement::rows::ROW_WIDTH * count;
-    cases::answers::rows(&rows[..end]);
-    cases::lent::kept(&rows[end..]);
+    cases::answers::rows(rt, &rows[..end])?;
+    cases::lent::kept(rt, &rows[end..])
 }
 
-fn answer(settled: Settled, rows: &[i64])
+fn answer(rt: &impl Print, settled: Settled, rows: &[i64]) -> io::Result<()>
     requires { RowsFit settled (length rows.now) }
 {
     match settled {
-        Settled::Rows(count) => answer_rows(rows, count),
+        Settled::Rows(count) => answer_rows(rt, rows, count),
         Settled::Refused(number, item) => {
-            cases::answers::refused(number, item as u64);
-            cases::lent::kept(rows);
+            cases::answers::refused(rt, number, item as u64)?;
+            cases::lent::kept(rt, rows)
         }
     }
 }
 
 // Settles a book with the first n numbers of rows.
-fn settle_case(book: &[u8], rows: &mut [i64], n: usize)
+fn settle_case(rt: &impl Print, book: &[u8], rows: &mut [i64], n: usize) -> io::Result<()>
     requires { n ≤ length rows.old }
 {
     cases::lent::prepare(rows);
     let settled = settlement::settle::settle(book, &mut rows[..n]);
-    answer(settled, rows);
+    answer(rt, settled, rows)
 }
 
 // The book is the words of the line from `at` on, as sparse bytes.
-fn run_book(line: &[u8], at: usize, book: &mut [u8], rows: &mut [i64], n: usize)
+fn run_book(
+    rt: &impl Print,
+    line: &[u8],
+    at: usize,
+    book: &mut [u8],
+    rows: &mut [i64],
+    n: usize,
+) -> io::Result<()>
     requires { (at ≤ length line.now) × (n ≤ length rows.old) }
 {
     let loaded = cases::sparse::load(line, at, book);
     let Loaded::Bytes(size) = loaded else {
-        cases::answers::no_case();
-        return;
+        return cases::answers::no_case(rt);
     };
-    settle_case(&book[..size], rows, n);
+    settle_case(rt, &book[..size], rows, n)
 }
 
 // How many numbers are lent, and the book.
-fn run_case(line: &[u8], book: &mut [u8], rows: &mut [i64]) {
+fn run_case(rt: &impl Print, line: &[u8], book: &mut [u8], rows: &mut [i64]) -> io::Result<()> {
     let end = cases::words::find(line, 0, b' ');
     let said = cases::words::number(&line[..end]);
     let Number::Value(lent) = said else {
-        cases::answers::no_case();
-        return;
+        return cases::answers::no_case(rt);
     };
     let n = lent as usize;
     if rows.len() < n {
-        cases::answers::no_case();
-        return;
+        return cases::answers::no_case(rt);
     }
-    run_book(line, cases::words::next(line, end), book, rows, n);
+    run_book(rt, line, cases::words::next(line, end), book, rows, n)
 }
 
-fn run(text: &[u8], book: &mut [u8], rows: &mut [i64]) {
+fn run(rt: &impl Print, text: &[u8], book: &mut [u8], rows: &mut [i64]) -> io::Result<()> {
     let mut at = 0;
     while at < text.len() {
         let end = cases::words::find(text, at, b'\n');
-        run_case(&text[at..end], book, rows);
+        run_case(rt, &text[at..end], book, rows)?;
         at = cases::words::next(text, end);
     }
+    Ok(())
 }
 
-fn main() {
+fn main(rt: HostRuntime) -> io::Result<()> {
     let mut text = cases::text_buffer();
     let mut book = cases::book_buffer();
     let mut rows = [0; 2560];
-    let n = io::read_full(0, &mut text);
-    run(&text[..n], &mut book, &mut rows);
+    let n = cases::input::read_full(&rt, &mut text)?;
+    run(&rt, &text[..n], &mut book, &mut rows)
 }
