@@ -1,20 +1,11 @@
 -- The tests of the definition, on A's quarter-hours.
 use mathlib.Core.Path.{refl}
-use Prim.Native.Nat.{◌+◌}
-use lib.Dec.{eqb, leb}
-use borrow.Author.Tests.{leb-true}
-use native.Mathlib.Omega.{arith}
-use Rattle.integers.specs.TestsLaws.{both}
 use Rattle.volumes.specs.Quarters.{looks_at, reference_quarter}
 use Rattle.baseline.proofs.days.reference_quarter.Goals as goal
 
 pub returns-then-n-q : goal.returns-then-n-q
 unfolding reference_quarter looks_at
 returns-then-n-q c = rw (← c.quarters-n.ensures, c.if-n-q.true) refl
-
-pub overflow_sub-result : goal.overflow_sub-result
-overflow_sub-result c = let s = c.args in
-    omega (arith, leb-true 12 (s.e.first + s.k) (both (eqb c.quarters-n.result 100) (leb 12 (s.e.first + s.k)) c.if-n-q-2.true).1)
 
 pub returns-then-n-q-2 : goal.returns-then-n-q-2
 unfolding reference_quarter looks_at

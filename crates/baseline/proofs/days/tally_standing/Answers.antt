@@ -2,20 +2,16 @@
 use mathlib.Core.Path.{◌≡◌, sym, subst, ap, ◌∙◌}
 use mathlib.Core.Bool.{◌&&◌}
 use mathlib.Core.List.{List, ◌++◌}
-use Prim.Native.Nat.{ℕ, ◌+◌, ◌-◌, ◌≤◌}
+use Prim.Native.Nat.{ℕ, ◌+◌, ◌-◌}
 use Rattle.wire.specs.declared.Reading.{Reading}
 use Rattle.baseline.specs.TallyInner.{in_run, Tallied}
 use Rattle.baseline.specs.TallyLaws.{tally-append}
 use Rattle.baseline.specs.RunsInner.{standing, together}
 use Rattle.baseline.specs.RunsLaws.{two_runs, standing-run, standing-runs}
-use Rattle.quarters.specs.Quarters.{quarters_of}
 use Rattle.volumes.specs.Quarters.{reference}
 use native.Mathlib.Omega.{arith}
 use Rattle.baseline.proofs.days.tally_standing.Goals.{After-reference_at-2}
 use Rattle.baseline.proofs.days.tally_standing.Goals as goal
-
-pub overflow_add-at : goal.overflow_add-at
-overflow_add-at c = omega (arith, c.reference_at.ensures, c.requires.0.first, c.requires.2, c.requires.3)
 
 pub tally_run-t-requires : goal.tally_run-t-requires
 tally_run-t-requires c = let m = c.together-n.ensures in
@@ -33,19 +29,8 @@ returns-then-n-count c =
 pub reference_at-requires-2 : goal.reference_at-requires-2
 reference_at-requires-2 c = (c.requires.0.early, omega (arith, c.together-n.ensures, (two_runs c.args.c c.args.e).most, c.requires.1))
 
--- where the second run lies
-late : (c : After-reference_at-2) → c.reference_at-2.result + (c.args.e.count - c.together-n.result) ≤ quarters_of c.args.c
-late c =
-    omega (arith, c.reference_at-2.ensures, subst (λ (m : ℕ). reference c.args.c c.args.e c.args.day m + (c.args.e.count - m) ≤ quarters_of c.args.c) (sym c.together-n.ensures) c.requires.0.second)
-
-pub overflow_add-turned : goal.overflow_add-turned
-overflow_add-turned c = omega (arith, late c, c.requires.2, c.requires.3)
-
 pub overflow_sub-count : goal.overflow_sub-count
 overflow_sub-count c = omega (arith, c.together-n.ensures, (two_runs c.args.c c.args.e).most)
-
-pub tally_run-u-requires : goal.tally_run-u-requires
-tally_run-u-requires c = (omega (arith, late c, c.requires.4), omega (arith, c.requires.1))
 
 pub returns : goal.returns
 returns c =

@@ -1,10 +1,6 @@
 -- The engagement's quarter-hours lie on both sides of the turn, or on one.
 use mathlib.Core.Path.{◌≡◌, refl, ap, ◌∙◌}
-use Prim.Native.Nat.{ℕ, ◌+◌}
-use lib.Dec.{ltb}
-use borrow.Author.Tests.{ltb-true}
-use native.Mathlib.Omega.{arith}
-use Rattle.integers.specs.TestsLaws.{both}
+use Prim.Native.Nat.{ℕ}
 use Rattle.quarters.specs.declared.Calendar.{Calendar}
 use Rattle.baseline.specs.RunsInner.{turn, together}
 use Rattle.quarters.specs.Quarters.{quarters}
@@ -13,10 +9,6 @@ use Rattle.baseline.proofs.days.together.Goals as goal
 -- the turn is that of A's quarter-hours
 is : (c : Calendar) (day n t : ℕ) → n ≡ quarters c day → t ≡ turn n → t ≡ turn (quarters c day)
 is c day n t e f = f ∙ ap turn e
-
-pub overflow_sub-result : goal.overflow_sub-result
-overflow_sub-result c = let e = c.args.e in
-    omega (arith, ltb-true e.first c.turn_of-turn.result (both (ltb e.first c.turn_of-turn.result) (ltb c.turn_of-turn.result (e.first + e.count)) c.if-first-turn.true).0)
 
 pub returns-then-first-turn : goal.returns-then-first-turn
 unfolding together

@@ -24,17 +24,11 @@ use Rattle.baseline.specs.FilledInner.{Unrefused}
 use native.Mathlib.Omega.{arith}
 use Rattle.baseline.proofs.fill.fill_days.Goals as goal
 
-pub rank_days-requires : goal.rank_days-requires
-rank_days-requires c = (c.requires.0.fits, omega (arith, c.requires.0.fits.x_of_y.twenty))
-
 -- the keys tell the days that a book takes, and there are enough of them
 took-at : (shown : Shown) (calendar readings keys₀ keys : List ℕ) (found : ℕ) (b : Book) → looks_back shown.point.method ≡ true → shown.x ≤ shown.y
     → ((b : Book) → Shows shown calendar readings b → RankedTo b shown.e shown.y keys₀ keys found)
     → Unrefused shown calendar readings b → Took b shown.e keys shown.x
 took-at shown calendar readings keys₀ keys found b looks order ranked s = took-days s keys found looks order (ranked b s.shows)
-
-pub start_days-requires : goal.start_days-requires
-start_days-requires c = (omega (arith, c.rank_days.auto.keys, c.requires.0.fits.x_of_y.ten), c.requires.0.fits.x_of_y.ten)
 
 pub in_calendar-q-requires : goal.in_calendar-q-requires
 in_calendar-q-requires c = (stands c.args.shown c.args.calendar.now c.args.readings.now c.requires.0.fits).early

@@ -10,9 +10,6 @@ use Rattle.baseline.specs.FilledLaws.{last-inside, method-0, by_last}
 use native.Mathlib.Omega.{arith}
 use Rattle.baseline.proofs.fill.fill_last.Goals as goal
 
-pub origin_of-origin-requires : goal.origin_of-origin-requires
-origin_of-origin-requires c = (c.requires.0.fits.ranged, c.requires.0.fits.few)
-
 pub in_calendar-q-requires : goal.in_calendar-q-requires
 in_calendar-q-requires c = let a = c.requires.0 in
     let m = stands c.args.shown c.args.calendar.now c.args.readings.now a.fits in

@@ -11,9 +11,6 @@ use Rattle.baseline.specs.NeedsLaws.{needed-is}
 use native.Mathlib.Omega.{arith}
 use Rattle.baseline.proofs.judge.readings_whole.Goals as goal
 
-pub origin_of-origin-requires : goal.origin_of-origin-requires
-origin_of-origin-requires c = (c.requires.ranged, c.requires.few)
-
 pub in_calendar-q-requires : goal.in_calendar-q-requires
 in_calendar-q-requires c = let m = stands c.args.shown c.args.calendar.now c.args.readings.now c.requires in
     m.early

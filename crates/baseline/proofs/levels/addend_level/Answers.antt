@@ -17,9 +17,6 @@ use Rattle.grains.specs.GrainsInner.{Shares}
 use Rattle.wire.specs.ReadingsInner.{raise}
 use Rattle.baseline.proofs.levels.addend_level.Goals as goal
 
-pub mean-less-requires : goal.mean-less-requires
-mean-less-requires c = (shares-12x c.args.x c.requires.1 c.requires.0.few, omega (arith, c.tally_days-days.ensures.small, mul_comm c.args.x 12))
-
 twelve : Shares 12
 twelve = shares-12x 1 (omega arith) (omega arith)
 

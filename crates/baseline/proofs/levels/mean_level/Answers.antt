@@ -12,9 +12,6 @@ use native.Mathlib.Omega.{arith}
 use Rattle.wire.specs.ReadingsInner.{raise}
 use Rattle.baseline.proofs.levels.mean_level.Goals as goal
 
-pub mean-requires : goal.mean-requires
-mean-requires c = (shares-x c.args.x c.requires.1 c.requires.0.few, omega (arith, c.tally_days-t.ensures.small, mul-one c.args.x))
-
 pub returns : goal.returns
 returns c = let x = c.args.x in
     let t = c.tally_days-t.ensures in

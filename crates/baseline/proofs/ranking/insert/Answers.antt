@@ -1,18 +1,10 @@
 -- One pass: each place keeps the larger of what stands there and what is carried.
 use mathlib.Core.Path.{◌≡◌, subst}
 use Prim.Native.Nat.{ℕ}
-use lib.ListN.{length-set}
-use Rattle.baseline.specs.RankingLaws.{Inserting, start, turn, finish}
+use Rattle.baseline.specs.RankingLaws.{Inserting, turn, finish}
 use borrow.Author.Rules.{rules}
 use native.Mathlib.Omega.{arith}
 use Rattle.baseline.proofs.ranking.insert.Goals as goal
-
-pub loop-i-init : goal.loop-i-init
-loop-i-init c = (search rules, start c.args.keys.now c.args.n c.args.key)
-
-pub bounds-keys-i-in-loop-i : goal.bounds-keys-i-in-loop-i
-bounds-keys-i-in-loop-i c = let l = c.loop-i.invariant.1.same in
-    omega arith
 
 pub loop-i-preserved : goal.loop-i-preserved
 loop-i-preserved c = let s = c.args in (
@@ -20,13 +12,6 @@ loop-i-preserved c = let s = c.args in (
   rw (c.larger.ensures, c.smaller-carried.ensures)
       (turn s.keys.now c.loop-i.keys s.n s.key c.loop-i.i c.loop-i.carried c.loop-i.invariant.1 (search rules) (search rules)),
 )
-
-pub bounds-keys-n : goal.bounds-keys-n
-bounds-keys-n c = let l = c.loop-i.invariant.1.same in
-    omega arith
-
-pub shape_of-keys : goal.shape_of-keys
-shape_of-keys c = let l = c.loop-i.invariant.1.same in simp length-set (omega arith)
 
 pub returns : goal.returns
 returns c = let s = c.args in

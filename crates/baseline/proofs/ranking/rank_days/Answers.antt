@@ -6,21 +6,12 @@ use Rattle.baseline.specs.RanksLaws.{scan-start, scan-more, scan-full, scan-few}
 use native.Mathlib.Omega.{arith}
 use Rattle.baseline.proofs.ranking.rank_days.Goals as goal
 
-pub origin_of-origin-requires : goal.origin_of-origin-requires
-origin_of-origin-requires c = (c.requires.0.ranged, c.requires.0.few)
-
 pub loop-found-init : goal.loop-found-init
 loop-found-init c = (omega arith, omega arith, refl, λ b shows. scan-start b c.args.shown.e c.args.keys.now, refl)
-
-pub shape_of-keys-then-day-eq0 : goal.shape_of-keys-then-day-eq0
-shape_of-keys-then-day-eq0 c = c.loop-found.invariant.2
 
 pub returns-then-day-eq0 : goal.returns-then-day-eq0
 returns-then-day-eq0 c = λ b shows.
     scan-few b c.args.shown.e c.loop-found.day c.args.shown.y c.args.keys.now c.loop-found.keys c.loop-found.found (c.loop-found.invariant.3 b shows) c.if-day-eq0.true c.loop-found.invariant.1
-
-pub reference_day-t-requires : goal.reference_day-t-requires
-reference_day-t-requires c = (c.requires.0, c.origin_of-origin.ensures, omega arith)
 
 pub consider-found-requires : goal.consider-found-requires
 consider-found-requires c = let m = stands c.args.shown c.args.calendar.now c.args.readings.now c.requires.0 in
@@ -35,9 +26,6 @@ loop-found-preserved c = let m = stands c.args.shown c.args.calendar.now c.args.
       λ b shows. scan-more b c.args.shown.e c.loop-found.day (c.loop-found.day - 1) c.loop-found.found r.result c.args.keys.now c.loop-found.keys r.new.keys c.reference_day-t.result (c.loop-found.invariant.3 b shows) (omega arith) c.loop-found.invariant.0 (omega (arith, m.early)) (c.reference_day-t.ensures.1 b shows) r.ensures,
       c.loop-found.invariant.4,
     )
-
-pub shape_of-keys : goal.shape_of-keys
-shape_of-keys c = c.loop-found.invariant.2
 
 pub returns : goal.returns
 returns c = λ b shows.

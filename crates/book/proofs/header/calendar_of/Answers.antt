@@ -20,6 +20,3 @@ clock_of-clock-requires c =
     let m = c.u8_at-month.ensures in
     let l = c.u8_at-lead.ensures in
     (record { from = omega (arith, r.from); to = omega (arith, r.to); january = omega (arith, r.january); december = omega (arith, r.december) }, omega (arith, r.few))
-
-pub returns : goal.returns
-returns c = cc

@@ -35,6 +35,3 @@ overflow_add-engagements c = omega (arith, small c)
 
 pub overflow_add-end : goal.overflow_add-end
 overflow_add-end c = omega (arith, small c)
-
-pub returns : goal.returns
-returns c = cc

@@ -31,9 +31,6 @@ layout book c points rows b q p r e = e ∙ (λ i. adjoining book 0 56 (sizes (q
 pub version_of-version-requires : goal.version_of-version-requires
 version_of-version-requires c = (header c.args.book.now c.header_good.result c.header_good.ensures c.if-not-header_good.false).long
 
-pub calendar_of-c-requires : goal.calendar_of-c-requires
-calendar_of-c-requires c = sym c.header_good.ensures ∙ c.if-not-header_good.false
-
 pub point_count-points-requires : goal.point_count-points-requires
 point_count-points-requires c = (header c.args.book.now c.header_good.result c.header_good.ensures c.if-not-header_good.false).long
 

@@ -2,10 +2,9 @@
 use mathlib.Core.Path.{◌≡◌, sym, ap, ◌∙◌}
 use mathlib.Core.List.{List}
 use Prim.Native.Nat.{ℕ, ◌*◌, ◌≤◌}
-use native.Mathlib.Nat.{mul_assoc}
 use Rattle.integers.specs.First.{first}
 use Rattle.quarters.specs.Quarters.{days_of, quarters_of}
-use Rattle.quarters.specs.QuartersLaws.{days-few, quarters-some, readings-few}
+use Rattle.quarters.specs.QuartersLaws.{days-few, quarters-some}
 use Rattle.book.specs.Register.{bad_point}
 use Rattle.book.specs.Metering.{bad_reading, point_of_reading, first_bad_reading}
 use Rattle.book.specs.Judged.{rows_refusal}
@@ -41,21 +40,12 @@ pub returns-in-At : goal.returns-in-At
 unfolding rows_refusal
 returns-in-At c = rw (points-found c.args.version c.args.c c.args.register.now c.args.points c.days_of-days.result c.judge_register.result c.days_of-days.ensures c.judge_register.ensures, c.in-At.is)
 
-pub overflow_mul-quarters : goal.overflow_mul-quarters
-overflow_mul-quarters c = omega (arith, readings-few c.args.c c.args.points c.requires.0 c.requires.1, mul_assoc 4 (quarters_of c.args.c) c.args.points, ap (λ (q : ℕ). q * c.args.points) c.quarters_of-quarters.ensures)
-
-pub judge_readings-requires : goal.judge_readings-requires
-judge_readings-requires c = omega (arith, c.requires.3, mul_assoc 4 (quarters_of c.args.c) c.args.points, ap (λ (q : ℕ). q * c.args.points) c.quarters_of-quarters.ensures)
-
 pub nonzero_div-point : goal.nonzero_div-point
 nonzero_div-point c = omega (arith, quarters-some c.args.c c.requires.0, c.quarters_of-quarters.ensures)
 
 pub returns-in-At-judge_readings : goal.returns-in-At-judge_readings
 unfolding rows_refusal
 returns-in-At-judge_readings c = rw (points-found c.args.version c.args.c c.args.register.now c.args.points c.days_of-days.result c.judge_register.result c.days_of-days.ensures c.judge_register.ensures, c.in_default.is, readings-found c.args.c c.args.readings.now c.args.points c.quarters_of-quarters.result c.judge_readings.result c.quarters_of-quarters.ensures c.judge_readings.ensures, c.in-At-judge_readings.is)
-
-pub judge_engagements-requires : goal.judge_engagements-requires
-judge_engagements-requires c = (search rules, c.requires.0)
 
 pub returns-in-At-judge_engagements : goal.returns-in-At-judge_engagements
 unfolding rows_refusal

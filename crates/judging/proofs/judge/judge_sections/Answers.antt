@@ -12,18 +12,6 @@ use native.Mathlib.Omega.{arith}
 use borrow.Author.Rules.{rules}
 use Rattle.judging.proofs.judge.judge_sections.Goals as goal
 
-pub section-calendar-requires : goal.section-calendar-requires
-section-calendar-requires c = let k = laid c.args.book.now c.args.c c.args.points c.args.rows c.requires.3 in (k.long, search rules, k.calendar.inside)
-
-pub section-table-requires : goal.section-table-requires
-section-table-requires c = let k = laid c.args.book.now c.args.c c.args.points c.args.rows c.requires.3 in (k.long, search rules, k.table.inside)
-
-pub section-register-requires : goal.section-register-requires
-section-register-requires c = let k = laid c.args.book.now c.args.c c.args.points c.args.rows c.requires.3 in (k.long, search rules, k.register.inside)
-
-pub section-readings-requires : goal.section-readings-requires
-section-readings-requires c = let k = laid c.args.book.now c.args.c c.args.points c.args.rows c.requires.3 in (k.long, search rules, k.readings.inside)
-
 pub section-engagements-requires : goal.section-engagements-requires
 section-engagements-requires c = let k = laid c.args.book.now c.args.c c.args.points c.args.rows c.requires.3 in (k.long, search rules, k.engagements.inside)
 

@@ -1,13 +1,9 @@
 -- Rows passed are good: the first bad row is the first from the present one on.
 use mathlib.Core.Path.{sym, ◌∙◌}
-use native.Mathlib.Nat.{sub-zero}
 use Rattle.book.specs.Engagements.{bad_engagement}
 use borrow.Author.Rules.{rules}
 use Rattle.integers.specs.FirstLaws.{first-here, first-later, first-end}
 use Rattle.searches.proofs.engagements.judge_engagements.Goals as goal
-
-pub loop-i-init : goal.loop-i-init
-loop-i-init c = (search rules, rw (sub-zero c.args.n))
 
 pub returns-then-bad_engagement : goal.returns-then-bad_engagement
 returns-then-bad_engagement c = let s = c.args in

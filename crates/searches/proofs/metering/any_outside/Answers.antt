@@ -1,8 +1,7 @@
 -- After i turns the flag tells whether one of the first i readings was out of range.
-use mathlib.Core.Path.{◌≡◌, refl, sym, ap, ◌∙◌}
+use mathlib.Core.Path.{refl, sym, ap, ◌∙◌}
 use mathlib.Core.Bool.{Bool, ◌||◌}
 use Prim.Native.Nat.{ℕ, ◌+◌}
-use native.Mathlib.Omega.{arith}
 use Rattle.integers.specs.First.{any_below}
 use Rattle.book.specs.Metering.{bad_reading}
 use Rattle.searches.specs.MeteringLaws.{outside-is}
@@ -23,8 +22,3 @@ loop-i-preserved c = let s = c.args in
           ∙ ap (λ b. any_below bad c.loop-i.i || b) (c.outside-bad.ensures ∙ outside-is _ raised.result raised.ensures.range raised.ensures.is)
           ∙ sym (any_next bad c.loop-i.i),
     )
-
-pub returns : goal.returns
-returns c = let s = c.args in
-    let e : c.loop-i.i ≡ s.n = omega arith in
-    c.loop-i.invariant.1 ∙ ap (any_below (λ k. bad_reading s.readings.now (s.at + k))) e

@@ -1,13 +1,10 @@
 -- Readings passed are in range: the first bad one is the first from the present one on.
-use mathlib.Core.Path.{refl, sym, ◌∙◌}
+use mathlib.Core.Path.{sym, ◌∙◌}
 use Rattle.book.specs.Metering.{bad_reading}
 use Rattle.searches.specs.MeteringLaws.{outside-is}
 use borrow.Author.Rules.{rules}
 use Rattle.integers.specs.FirstLaws.{first-here, first-later, first-end}
 use Rattle.searches.proofs.metering.first_outside.Goals as goal
-
-pub loop-i-init : goal.loop-i-init
-loop-i-init c = (search rules, refl)
 
 pub returns-then-outside : goal.returns-then-outside
 returns-then-outside c = let s = c.args in

@@ -1,19 +1,12 @@
 -- Blocks that were passed have no bad reading: the first one is the first from the present block on.
 use mathlib.Core.Path.{◌≡◌, sym, ap, ◌∙◌}
 use Prim.Native.Nat.{◌+◌, ◌-◌}
-use native.Mathlib.Nat.{sub-zero}
 use native.Mathlib.Omega.{arith}
 use Rattle.integers.specs.First.{first}
 use Rattle.book.specs.Metering.{bad_reading}
 use borrow.Author.Rules.{rules}
 use Rattle.integers.specs.FirstLaws.{first-behind}
 use Rattle.searches.proofs.metering.judge_readings.Goals as goal
-
-pub loop-at-init : goal.loop-at-init
-loop-at-init c = (search rules, rw (sub-zero c.args.n))
-
-pub returns-then-any_outside : goal.returns-then-any_outside
-returns-then-any_outside c = c.first_outside.ensures ∙ sym c.loop-at.invariant.1
 
 pub loop-at-preserved : goal.loop-at-preserved
 loop-at-preserved c = let s = c.args in
@@ -23,6 +16,3 @@ loop-at-preserved c = let s = c.args in
       search rules,
       c.loop-at.invariant.1 ∙ ap (first bad at) rest ∙ first-behind bad at 1024 (s.n - (at + 1024)) (sym c.any_outside.ensures ∙ c.if-any_outside.false),
     )
-
-pub returns : goal.returns
-returns c = c.first_outside-2.ensures ∙ sym c.loop-at.invariant.1

@@ -1,9 +1,8 @@
 -- No earlier row passed so far differs.
-use mathlib.Core.Path.{◌≡◌, refl, sym, ap, ◌∙◌}
+use mathlib.Core.Path.{refl, sym, ◌∙◌}
 use Rattle.integers.specs.First.{any_below}
 use Rattle.book.specs.Register.{differs}
 use borrow.Author.Rules.{rules}
-use native.Mathlib.Omega.{arith}
 use Rattle.integers.specs.FirstLaws.{any-of, any-more}
 use Rattle.searches.proofs.register.differs_earlier.Goals as goal
 
@@ -18,8 +17,3 @@ returns-then-differ c = let s = c.args in
 pub loop-j-preserved : goal.loop-j-preserved
 loop-j-preserved c = let s = c.args in
     (search rules, any-more (differs s.register.now s.i) c.loop-j.j (sym c.differ.ensures ∙ c.if-differ.false) c.loop-j.invariant.1)
-
-pub returns : goal.returns
-returns c = let s = c.args in
-    let e : c.loop-j.j ≡ s.i = omega arith in
-    sym (ap (any_below (differs s.register.now s.i)) (sym e) ∙ c.loop-j.invariant.1)

@@ -1,16 +1,12 @@
 -- Rows passed are good: the first bad row is the first from the present one on. No access EAN of theirs is above the top.
 use mathlib.Core.Path.{sym, ◌∙◌}
 use Prim.Native.Nat.{ℕ, ◌≤◌}
-use native.Mathlib.Nat.{sub-zero}
 use native.Mathlib.Omega.{arith}
 use borrow.Author.Count.{below_more}
 use borrow.Author.Rules.{rules}
 use Rattle.book.specs.Register.{access_in, register_row, bad_point}
 use Rattle.integers.specs.FirstLaws.{first-here, first-later, first-end}
 use Rattle.searches.proofs.register.judge_register.Goals as goal
-
-pub loop-i-init : goal.loop-i-init
-loop-i-init c = (search rules, rw (sub-zero c.args.n), λ j h. absurd (omega arith))
 
 pub returns-then-bad_point : goal.returns-then-bad_point
 returns-then-bad_point c = let s = c.args in
