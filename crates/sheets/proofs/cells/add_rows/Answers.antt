@@ -17,24 +17,6 @@ pub loop-k-init : goal.loop-k-init
 unfolding gets_of range
 loop-k-init c = (search rules, refl)
 
-pub share-correction-requires : goal.share-correction-requires
-share-correction-requires c =
-    let rows = c.args.rows.now in
-    let k = c.loop-k.k in
-    let x : to_z w64 (of_z w64 (source_in rows k)) ≡ source_in rows k = search rules in
-    let y : to_z w64 (of_z w64 (fsp_in rows k)) ≡ fsp_in rows k = search rules in
-    let z : to_z w64 (of_z w64 (injection_in rows k)) ≡ injection_in rows k = search rules in
-    let small = c.requires.1 in
-    let h : k < c.args.count = omega arith in
-    rw (x, y, z) (small.source k h, small.fsp k h, small.injection k h)
-
-pub overflow_add-at : goal.overflow_add-at
-overflow_add-at c =
-    let room : c.args.at + c.args.count ≤ length c.loop-k.sums = let long : length c.loop-k.sums ≡ length c.args.sums.now = let a = c.args.sums.now in
-    ap length c.loop-k.invariant.1 ∙ length-adds a c.args.at (gets_of c.args.version c.args.party c.args.point c.args.rows.now c.loop-k.k) in
-    let a = c.args in omega (arith, long, c.requires.2.room, gets-length a.version a.party a.point a.rows.now a.count) in
-    omega (arith, room, c.well_formed)
-
 pub add_at-requires : goal.add_at-requires
 add_at-requires c =
     let room : c.args.at + c.args.count ≤ length c.loop-k.sums = let long : length c.loop-k.sums ≡ length c.args.sums.now = let a = c.args.sums.now in
@@ -62,12 +44,3 @@ loop-k-preserved c =
     w ∙ c.share-correction.ensures ∙ rw (x, y, z) in
     let a = c.args in
     (search rules, c.add_at.ensures ∙ rw (got, c.loop-k.invariant.1) (gets-next a.version a.party a.point a.rows.now a.sums.now a.at c.loop-k.k))
-
-pub shape_of-sums : goal.shape_of-sums
-shape_of-sums c =
-    let long : length c.loop-k.sums ≡ length c.args.sums.now = let a = c.args.sums.now in
-    ap length c.loop-k.invariant.1 ∙ length-adds a c.args.at (gets_of c.args.version c.args.party c.args.point c.args.rows.now c.loop-k.k) in
-    long
-
-pub returns : goal.returns
-returns c = let all : c.loop-k.k ≡ c.args.count = omega arith in rw (← all) c.loop-k.invariant.1

@@ -14,22 +14,6 @@ use Rattle.sheets.specs.SharesLaws.{pick, pick-bounded, gets-two, gets-three}
 use Rattle.sheets.proofs.cells.share.Goals.{After-amount, After-amount-2, After-amount-3}
 use Rattle.sheets.proofs.cells.share.Goals as goal
 
-pub overflow_add-two : goal.overflow_add-two
-overflow_add-two c =
-    let two-small : Bounded (correction_most + correction_most) (c.amount.result +ℤ c.amount-2.result) = let source_is : let a = c.args in c.amount.result ≡ pick a.point.sourceparty a.party a.source = let a = c.args in
-    let x : to_z w64 (of_z w64 a.source) ≡ a.source = search rules in
-    c.amount.ensures ∙ ap (pick a.point.sourceparty a.party) x in
-    let fsp-is : let a = c.args in c.amount-2.result ≡ pick a.point.fspparty a.party a.fsp = let a = c.args in
-    let x : to_z w64 (of_z w64 a.fsp) ≡ a.fsp = search rules in
-    c.amount-2.ensures ∙ ap (pick a.point.fspparty a.party) x in
-    let a = c.args in
-    rw (source_is, fsp-is)
-    (bounded-add (pick-bounded a.point.sourceparty a.party c.requires.0) (pick-bounded a.point.fspparty a.party c.requires.1)) in
-    let f : SFits w64 (c.amount.result +ℤ c.amount-2.result) = bounded-fits two-small (omega arith) in
-    let x : to_z w64 (of_z w64 c.amount.result) ≡ c.amount.result = search rules in
-    let y : to_z w64 (of_z w64 c.amount-2.result) ≡ c.amount-2.result = search rules in
-    rw (x, y) f
-
 pub returns-then-not-splits : goal.returns-then-not-splits
 returns-then-not-splits c =
     let two_is : let a = c.args in

@@ -22,9 +22,6 @@ use Rattle.sheets.proofs.fill.add_engagement.Goals as goal
 pub version_of-version-requires : goal.version_of-version-requires
 version_of-version-requires c = bytes-long c.args.book.now c.requires.0.passed
 
-pub section-register-requires : goal.section-register-requires
-section-register-requires c = (c.requires.0.passed, search rules)
-
 pub point_at-point-requires : goal.point_at-point-requires
 point_at-point-requires c =
     rw (c.section-register.ensures, c.engagement_at-e.ensures) (registered c.requires.0 c.args.i c.requires.2)

@@ -18,9 +18,6 @@ use Rattle.sheets.proofs.fill.fill_cells.Goals as goal
 pub month_quarters-cells-requires : goal.month_quarters-cells-requires
 month_quarters-cells-requires c = calendar-ranged c.requires.0 c.requires.1
 
-pub clear-requires : goal.clear-requires
-clear-requires c = omega (arith, c.month_quarters-cells.ensures, c.requires.3)
-
 pub loop-i-init : goal.loop-i-init
 loop-i-init c =
     (search rules, cells-begun c.requires.0 c.requires.1 c.args.party c.month_quarters-cells.result c.args.sums.now c.clear.new.sums c.month_quarters-cells.ensures c.clear.ensures, search rules)
@@ -42,9 +39,6 @@ loop-i-preserved c =
           ∙ engagement-more c.requires.0 c.loop-i.i (search rules) c.requires.1 a.party (drop (month_quarters a.c) old),
       c.add_engagement.auto.sums ∙ c.loop-i.invariant.2,
     )
-
-pub shape_of-sums : goal.shape_of-sums
-shape_of-sums c = c.loop-i.invariant.2 ∙ c.clear.auto.sums
 
 pub returns : goal.returns
 returns c =

@@ -31,8 +31,3 @@ loop-i-preserved c =
     ∙ ap (λ (p : Point). stands c.args.party (parties_of c.args.version p)) c.point_at-point.ensures in
     let a = c.args in
     (search rules, party-next a.version a.register.now a.party c.loop-i.i c.loop-i.invariant.1 (sym row ∙ c.if-in_columns.false))
-
-pub returns : goal.returns
-returns c =
-    let all : c.loop-i.i ≡ point_count_in c.args.register.now = omega arith in
-    rw (← all) (sym c.loop-i.invariant.1)
