@@ -6,25 +6,10 @@ use lib.ListN.{length, length-set}
 use Rattle.book.specs.declared.Engagement.{Engagement}
 use Rattle.settlement.specs.DaysLaws.{gathers-none, gathers-more, gathers-all}
 use borrow.Author.Rules.{rules}
-use Rattle.settlement.proofs.days.gather_days.Goals.{After-engagement_at-e}
 use Rattle.settlement.proofs.days.gather_days.Goals as goal
 
 pub loop-i-init : goal.loop-i-init
 loop-i-init c = (search rules, refl, gathers-none _ _)
-
-pub bounds-engaged-p : goal.bounds-engaged-p
-bounds-engaged-p c =
-    let inside : c.engagement_at-e.result.point < length c.loop-i.engaged = omega (arith, ap (λ (e : Engagement). e.point) c.engagement_at-e.ensures, c.requires.point c.loop-i.i (search rules), c.loop-i.invariant.1) in
-    inside
-
-pub with_day-requires : goal.with_day-requires
-with_day-requires c =
-    omega (arith, ap (λ (e : Engagement). e.day) c.engagement_at-e.ensures, c.requires.day c.loop-i.i (search rules))
-
-pub bounds-engaged-p-in-loop-i : goal.bounds-engaged-p-in-loop-i
-bounds-engaged-p-in-loop-i c =
-    let inside : c.engagement_at-e.result.point < length c.loop-i.engaged = omega (arith, ap (λ (e : Engagement). e.point) c.engagement_at-e.ensures, c.requires.point c.loop-i.i (search rules), c.loop-i.invariant.1) in
-    inside
 
 pub loop-i-preserved : goal.loop-i-preserved
 loop-i-preserved c =
@@ -34,9 +19,6 @@ loop-i-preserved c =
       length-set l.engaged c.engagement_at-e.result.point c.with_day.result ∙ l.invariant.1,
       gathers-more _ _ _ l.i c.engagement_at-e.result c.with_day.result (search rules) c.engagement_at-e.ensures l.invariant.1 (omega (arith, inside, l.invariant.1)) c.with_day.ensures l.invariant.2,
     )
-
-pub shape_of-engaged : goal.shape_of-engaged
-shape_of-engaged c = c.loop-i.invariant.1
 
 pub returns : goal.returns
 returns c = let l = c.loop-i in

@@ -14,9 +14,6 @@ fill_levels-requires c = let a = c.requires.0 in
     let m = stands c.args.shown c.args.calendar.now c.args.readings.now a.fits in
     (a, m.many)
 
-pub origin_of-requires : goal.origin_of-requires
-origin_of-requires c = (c.requires.0.fits.ranged, c.requires.0.fits.few)
-
 pub in_calendar-requires : goal.in_calendar-requires
 in_calendar-requires c = let a = c.requires.0 in
     let m = stands c.args.shown c.args.calendar.now c.args.readings.now a.fits in

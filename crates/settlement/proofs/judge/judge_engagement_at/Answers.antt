@@ -3,30 +3,18 @@ use mathlib.Core.Path.{ap, ◌∙◌}
 use Rattle.volumes.specs.Settlement.{refusal_number}
 use Rattle.baseline.specs.declared.shown.Shown.{Shown}
 use Rattle.settlement.specs.SectionsInner.{book_with, shown_in}
-use Rattle.settlement.specs.DrawnLaws.{Drawn, drawn}
-use borrow.Author.Rules.{rules}
-use Rattle.settlement.proofs.judge.judge_engagement_at.Goals.{Start}
+use Rattle.settlement.specs.DrawnLaws.{drawn}
 use Rattle.settlement.proofs.judge.judge_engagement_at.Goals as goal
-
-pub shown_at-shown-requires : goal.shown_at-shown-requires
-shown_at-shown-requires c =
-    (c.requires.0, c.requires.1, c.requires.2, c.requires.3.long)
-
-pub section-calendar-requires : goal.section-calendar-requires
-section-calendar-requires c = (c.requires.0.passed, search rules)
-
-pub section-readings-requires : goal.section-readings-requires
-section-readings-requires c = (c.requires.0.passed, search rules)
 
 pub judge_engagement-requires : goal.judge_engagement-requires
 judge_engagement-requires c =
-    let here : Drawn c.args.book.now c.args.engagements.now c.args.engaged.now c.args.i = drawn c.requires.0 c.requires.3 c.args.i c.requires.2 in
+    let here = drawn c.requires.0 c.requires.3 c.args.i c.requires.2 in
     rw (c.shown_at-shown.ensures, c.section-calendar.ensures, c.section-readings.ensures) here.fits
 
 pub returns : goal.returns
 unfolding shown_in
 returns c =
-    let here : Drawn c.args.book.now c.args.engagements.now c.args.engaged.now c.args.i = drawn c.requires.0 c.requires.3 c.args.i c.requires.2 in
+    let here = drawn c.requires.0 c.requires.3 c.args.i c.requires.2 in
     let book = book_with c.args.book.now c.args.engagements.now in
     c.judge_engagement.ensures book (rw (c.shown_at-shown.ensures, c.section-calendar.ensures, c.section-readings.ensures) here.shows)
     ∙ ap (λ (shown : Shown). refusal_number book shown.e) c.shown_at-shown.ensures

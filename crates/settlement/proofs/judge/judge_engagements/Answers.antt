@@ -1,51 +1,43 @@
 -- Engagements passed lack nothing: the book's refusal is the first from the present one on.
 use mathlib.Core.Path.{◌≡◌, sym, ap, ◌∙◌}
+use mathlib.Core.List.{List}
 use mathlib.Core.Option.{Option}
-use Prim.Native.Nat.{ℕ, ◌+◌}
-use Rattle.volumes.specs.Settlement.{settlement_refusal, row_refusal}
+use Prim.Native.Nat.{ℕ, ◌+◌, ◌<◌}
+use Rattle.book.specs.Engagements.{engagement_at}
+use Rattle.volumes.specs.Settlement.{refusal_number, settlement_refusal, row_refusal}
 use Rattle.volumes.specs.SettlementLaws.{refusal_at, refusal-all}
+use Rattle.baseline.specs.declared.judge.Lack.{Lack}
 use Rattle.baseline.specs.NeedsInner.{number_of}
-use Rattle.settlement.specs.SectionsInner.{book_with}
+use Rattle.settlement.specs.SectionsInner.{engagement_count_in, book_with, Opened}
 use Rattle.settlement.specs.DrawnLaws.{refusal-row, refusal-last}
 use borrow.Author.Rules.{rules}
-use Rattle.settlement.proofs.judge.judge_engagements.Goals.{After-judge_engagement_at-lack}
 use Rattle.settlement.proofs.judge.judge_engagements.Goals as goal
 
 pub loop-i-init : goal.loop-i-init
 loop-i-init c = (search rules, refusal-all _)
 
+-- what is known of the present engagement, by what it lacks
+judged : {bytes engagements : List ℕ} {i : ℕ} (lack : Lack) → Opened bytes engagements → i < engagement_count_in engagements
+    → settlement_refusal (book_with bytes engagements) ≡ refusal_at (book_with bytes engagements) i
+    → number_of lack ≡ refusal_number (book_with bytes engagements) (engagement_at engagements i)
+    → settlement_refusal (book_with bytes engagements) ≡ row_refusal i (number_of lack) (refusal_at (book_with bytes engagements) (i + 1))
+judged {bytes} {engagements} {i} lack s h past e =
+    past ∙ refusal-row s i h ∙ ap (λ (o : Option ℕ). row_refusal i o (refusal_at (book_with bytes engagements) (i + 1))) (sym e)
+
 pub returns-in-Reading : goal.returns-in-Reading
 unfolding row_refusal
 returns-in-Reading c =
-    let judged : let i = c.loop-i.i in
-    let book = book_with c.args.book.now c.args.engagements.now in settlement_refusal book ≡ row_refusal i (number_of c.judge_engagement_at-lack.result) (refusal_at book (i + 1)) = let l = c.loop-i in
-    let book = book_with c.args.book.now c.args.engagements.now in
-    l.invariant.1
-    ∙ refusal-row c.requires.0 l.i (search rules)
-    ∙ ap (λ (o : Option ℕ). row_refusal l.i o (refusal_at book (l.i + 1))) (sym c.judge_engagement_at-lack.ensures) in
-    sym (judged ∙ rw c.in-Reading.is)
+    sym (judged c.judge_engagement_at-lack.result c.requires.0 (search rules) c.loop-i.invariant.1 c.judge_engagement_at-lack.ensures ∙ rw c.in-Reading.is)
 
 pub returns-in-Days : goal.returns-in-Days
 unfolding row_refusal
 returns-in-Days c =
-    let judged : let i = c.loop-i.i in
-    let book = book_with c.args.book.now c.args.engagements.now in settlement_refusal book ≡ row_refusal i (number_of c.judge_engagement_at-lack.result) (refusal_at book (i + 1)) = let l = c.loop-i in
-    let book = book_with c.args.book.now c.args.engagements.now in
-    l.invariant.1
-    ∙ refusal-row c.requires.0 l.i (search rules)
-    ∙ ap (λ (o : Option ℕ). row_refusal l.i o (refusal_at book (l.i + 1))) (sym c.judge_engagement_at-lack.ensures) in
-    sym (judged ∙ rw c.in-Days.is)
+    sym (judged c.judge_engagement_at-lack.result c.requires.0 (search rules) c.loop-i.invariant.1 c.judge_engagement_at-lack.ensures ∙ rw c.in-Days.is)
 
 pub loop-i-preserved : goal.loop-i-preserved
 unfolding row_refusal
 loop-i-preserved c =
-    let judged : let i = c.loop-i.i in
-    let book = book_with c.args.book.now c.args.engagements.now in settlement_refusal book ≡ row_refusal i (number_of c.judge_engagement_at-lack.result) (refusal_at book (i + 1)) = let l = c.loop-i in
-    let book = book_with c.args.book.now c.args.engagements.now in
-    l.invariant.1
-    ∙ refusal-row c.requires.0 l.i (search rules)
-    ∙ ap (λ (o : Option ℕ). row_refusal l.i o (refusal_at book (l.i + 1))) (sym c.judge_engagement_at-lack.ensures) in
-    (search rules, judged ∙ rw c.in-Nothing.is)
+    (search rules, judged c.judge_engagement_at-lack.result c.requires.0 (search rules) c.loop-i.invariant.1 c.judge_engagement_at-lack.ensures ∙ rw c.in-Nothing.is)
 
 pub returns : goal.returns
 returns c = sym (c.loop-i.invariant.1 ∙ refusal-last c.requires.0 c.loop-i.i (search rules))

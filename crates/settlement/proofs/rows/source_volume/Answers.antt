@@ -7,7 +7,6 @@ use Rattle.book.specs.Header.{splits}
 use Rattle.volumes.specs.Settlement.{off_take_of, off_take_difference, off_take_share, source_by}
 use Rattle.settlement.specs.RaisedInner.{bias, baseline_of, watts_of}
 use Rattle.settlement.specs.RowsLaws.{off-take-level, off-take-reading}
-use Rattle.settlement.proofs.rows.source_volume.Goals.{After-off_take-read, Else-not-splits}
 use Rattle.settlement.proofs.rows.source_volume.Goals as goal
 
 pub returns-then-not-splits : goal.returns-then-not-splits

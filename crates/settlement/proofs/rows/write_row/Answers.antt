@@ -4,7 +4,6 @@ use borrow.Author.Rules.{rules}
 use mathlib.Core.Path.{◌≡◌, sym, ap, ◌∙◌}
 use Prim.Native.Nat.{◌<◌}
 use lib.IntN.{pos, ◌-ℤ◌, +ℤ_idr}
-use lib.ListN.{length-set}
 use mir.Syntax.{w64}
 use mir.Val.{to_z, of_z}
 use Rattle.grains.specs.Grains.{grains, grains_z}
@@ -14,45 +13,32 @@ use Rattle.settlement.specs.RaisedInner.{baseline_of, watts_of}
 use Rattle.settlement.specs.RowsInner.{row_from}
 use Rattle.settlement.specs.RowsLaws.{delivered-by, rest_of}
 use Rattle.settlement.specs.StoresLaws.{five-sets}
-use Rattle.settlement.proofs.rows.write_row.Goals.{After-delivered-volume, After-source_volume-source}
 use Rattle.settlement.proofs.rows.write_row.Goals as goal
-
-pub bounds-out-at-2 : goal.bounds-out-at-2
-bounds-out-at-2 c = simp length-set (omega arith)
 
 pub correction-requires : goal.correction-requires
 correction-requires c =
-    let source-small : c.source_volume-source.result < 9223372036854775808 = let a = c.args in
+    let a = c.args in
+    let source-small : c.source_volume-source.result < 9223372036854775808 =
     omega (arith, c.source_volume-source.ensures, source-most a.version a.direction (baseline_of a.level) (grains_z (watts_of a.raised)) c.delivered-volume.result, c.delivered-volume.ensures.1) in
     (source-small, search rules)
 
-pub bounds-out-at-3 : goal.bounds-out-at-3
-bounds-out-at-3 c = simp length-set (omega arith)
-
-pub bounds-out-at-4 : goal.bounds-out-at-4
-bounds-out-at-4 c = simp length-set (omega arith)
-
 pub correction-requires-3 : goal.correction-requires-3
 correction-requires-3 c =
-    let source-small : c.source_volume-source.result < 9223372036854775808 = let a = c.args in
+    let a = c.args in
+    let source-small : c.source_volume-source.result < 9223372036854775808 =
     omega (arith, c.source_volume-source.ensures, source-most a.version a.direction (baseline_of a.level) (grains_z (watts_of a.raised)) c.delivered-volume.result, c.delivered-volume.ensures.1) in
     (search rules, source-small)
-
-pub bounds-out-at-5 : goal.bounds-out-at-5
-bounds-out-at-5 c = simp length-set (omega arith)
 
 pub returns : goal.returns
 unfolding row_from
 returns c =
-    let volume-is : c.delivered-volume.result ≡ delivered_by c.args.direction c.args.point (baseline_of c.args.level) (grains_z (watts_of c.args.raised)) = let a = c.args in
-    let z = baseline_of a.level in
-    let r = grains_z (watts_of a.raised) in
-    c.delivered-volume.ensures.0
-    ∙ ap (limited (signed a.direction (z -ℤ r))) c.largest-most.ensures
-    ∙ sym (delivered-by a.direction a.point z r) in
     let a = c.args in
     let z = baseline_of a.level in
     let r = grains_z (watts_of a.raised) in
+    let volume-is : c.delivered-volume.result ≡ delivered_by a.direction a.point z r =
+    c.delivered-volume.ensures.0
+    ∙ ap (limited (signed a.direction (z -ℤ r))) c.largest-most.ensures
+    ∙ sym (delivered-by a.direction a.point z r) in
     let volume = c.delivered-volume.result in
     let level = c.baseline_of in
     let whole = c.difference in

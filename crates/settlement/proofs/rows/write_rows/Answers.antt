@@ -6,7 +6,7 @@ use mathlib.Core.List.{List, flat_map}
 use Prim.Native.Nat.{ℕ, ◌+◌, ◌*◌, ◌<◌}
 use lib.IntN.{ℤ}
 use lib.ListN.{length}
-use lib.Seq.{sets, length-sets}
+use lib.Seq.{sets}
 use Rattle.integers.specs.Ranges.{range}
 use Rattle.wire.specs.Readings.{reading_at}
 use Rattle.volumes.specs.Quarters.{quarter_hours}
@@ -19,9 +19,6 @@ use Rattle.settlement.specs.StoresLaws.{sets-next}
 use Rattle.settlement.proofs.rows.write_rows.Invariants.{RowsFilled}
 use Rattle.settlement.proofs.rows.write_rows.Goals as goal
 
-filled-length : {out₀ : List ℤ} {at : ℕ} {f : ℕ → List ℤ} {count : ℕ} {out : List ℤ} {k : ℕ} → RowsFilled out₀ at f count out k → length out ≡ length out₀
-filled-length {out₀} {at} {f} {count} {out} {k} h = ap length h.list ∙ length-sets out₀ at (flat_map f (range 0 k))
-
 filled_next : {out₀ : List ℤ} {at : ℕ} {f : ℕ → List ℤ} {count : ℕ} {out out' : List ℤ} {k : ℕ} → ((i : ℕ) → length (f i) ≡ row_width) → RowsFilled out₀ at f count out k → k < count → out' ≡ sets out (at + row_width * k) (f k) → RowsFilled out₀ at f count out' (k + 1)
 filled_next {out₀} {at} {f} {count} {out} {out'} {k} w h l e =
     record { inside = omega arith; list = e ∙ ap (λ o. sets o (at + row_width * k) (f k)) h.list ∙ sets-next row_width out₀ at f k w }
@@ -29,13 +26,6 @@ filled_next {out₀} {at} {f} {count} {out} {out'} {k} w h l e =
 pub loop-k-init : goal.loop-k-init
 unfolding flat_map range
 loop-k-init c = record { inside = omega arith; list = refl }
-
-pub raised_at-raised-requires : goal.raised_at-raised-requires
-raised_at-raised-requires c = omega arith
-
-pub write_row-requires : goal.write_row-requires
-write_row-requires c =
-    (omega (arith, filled-length c.loop-k.invariant), c.requires.2.each c.loop-k.k (omega arith))
 
 pub loop-k-preserved : goal.loop-k-preserved
 unfolding quarter_hours
@@ -49,9 +39,6 @@ loop-k-preserved c =
     c.loop-k.invariant
     (omega arith)
     (rw (← raised-watts c.raised_at-raised.ensures there) c.write_row.ensures)
-
-pub shape_of-out : goal.shape_of-out
-shape_of-out c = filled-length c.loop-k.invariant
 
 pub returns : goal.returns
 unfolding rows_from quarter_hours

@@ -6,6 +6,3 @@ pub section-requires : goal.section-requires
 section-requires c =
     let bytes = c.args.book.now in
     (bytes-long bytes c.requires.0, c.requires.1, section-inside bytes c.requires.0 c.args.k c.requires.1)
-
-pub returns : goal.returns
-returns c = c.section.ensures

@@ -12,17 +12,7 @@ use Rattle.book.specs.Tables.{category_at, x_at, y_at}
 use Rattle.settlement.specs.SectionsInner.{shown_in}
 use Rattle.settlement.specs.DrawnLaws.{category-in, registered, categorised, Placing, engagement-placed}
 use native.Mathlib.Omega.{arith}
-use borrow.Author.Rules.{rules}
 use Rattle.settlement.proofs.sections.shown_at.Goals as goal
-
-pub section-calendar-requires : goal.section-calendar-requires
-section-calendar-requires c = (c.requires.0.passed, search rules)
-
-pub section-table-requires : goal.section-table-requires
-section-table-requires c = (c.requires.0.passed, search rules)
-
-pub section-register-requires : goal.section-register-requires
-section-register-requires c = (c.requires.0.passed, search rules)
 
 pub point_at-point-requires : goal.point_at-point-requires
 point_at-point-requires c =

@@ -1,41 +1,34 @@
 -- With its own engagements the book is the one that the bytes say, so their rows are its rows.
-use mathlib.Core.Path.{◌≡◌, ap, ◌∙◌}
+use mathlib.Core.Path.{ap, ◌∙◌}
 use mathlib.Core.List.{List}
-use mathlib.Core.Option.{none}
 use Prim.Native.Nat.{ℕ}
 use lib.Seq.{sets}
 use Rattle.book.specs.Book.{Book}
-use Rattle.book.specs.Judged.{refusal_of}
 use Rattle.volumes.specs.Settlement.{rows}
 use Rattle.volumes.specs.SettlementLaws.{passing}
 use Rattle.settlement.specs.SectionsInner.{book_with, Opened}
 use Rattle.settlement.specs.SectionsLaws.{bytes-headed, same-book, opened, count-book, own-settled}
 use Rattle.settlement.specs.DaysLaws.{gatherable, gathered}
 use borrow.Author.Rules.{rules}
-use Rattle.settlement.proofs.settle.fill_book.Goals.{After-section-engagements, Start}
 use Rattle.settlement.proofs.settle.fill_book.Goals as goal
 
 pub section-engagements-requires : goal.section-engagements-requires
 section-engagements-requires c =
-    let passed : refusal_of c.args.book.now ≡ none = (passing c.args.book.now c.requires.0).passed in
-    (passed, search rules)
+    ((passing c.args.book.now c.requires.0).passed, search rules)
 
 pub gather_days-requires : goal.gather_days-requires
 gather_days-requires c =
-    let own : Opened c.args.book.now c.section-engagements.result.now = let passed : refusal_of c.args.book.now ≡ none = (passing c.args.book.now c.requires.0).passed in
-    rw c.section-engagements.ensures (opened c.args.book.now passed) in
+    let own : Opened c.args.book.now c.section-engagements.result.now = rw c.section-engagements.ensures (opened c.args.book.now (passing c.args.book.now c.requires.0).passed) in
     gatherable own
 
 pub calendar_of-requires : goal.calendar_of-requires
 calendar_of-requires c =
-    let passed : refusal_of c.args.book.now ≡ none = (passing c.args.book.now c.requires.0).passed in
-    bytes-headed c.args.book.now passed
+    bytes-headed c.args.book.now (passing c.args.book.now c.requires.0).passed
 
 pub settle_engagements-requires : goal.settle_engagements-requires
 settle_engagements-requires c =
-    let passed : refusal_of c.args.book.now ≡ none = (passing c.args.book.now c.requires.0).passed in
-    let own : Opened c.args.book.now c.section-engagements.result.now = let passed : refusal_of c.args.book.now ≡ none = (passing c.args.book.now c.requires.0).passed in
-    rw c.section-engagements.ensures (opened c.args.book.now passed) in
+    let passed = (passing c.args.book.now c.requires.0).passed in
+    let own : Opened c.args.book.now c.section-engagements.result.now = rw c.section-engagements.ensures (opened c.args.book.now passed) in
     let bytes = c.args.book.now in
     let e = c.section-engagements.ensures in
     let g = c.gather_days in
@@ -43,8 +36,7 @@ settle_engagements-requires c =
 
 pub returns : goal.returns
 returns c =
-    let passed : refusal_of c.args.book.now ≡ none = (passing c.args.book.now c.requires.0).passed in
     let bytes = c.args.book.now in
     c.settle_engagements.ensures
     ∙ ap (λ (l : List ℕ). sets c.args.out.now 0 (rows (book_with bytes l))) c.section-engagements.ensures
-    ∙ ap (λ (b : Book). sets c.args.out.now 0 (rows b)) (same-book bytes passed)
+    ∙ ap (λ (b : Book). sets c.args.out.now 0 (rows b)) (same-book bytes (passing c.args.book.now c.requires.0).passed)

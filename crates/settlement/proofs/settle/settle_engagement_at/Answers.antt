@@ -8,35 +8,16 @@ use Rattle.baseline.specs.declared.shown.Shown.{Shown}
 use Rattle.settlement.specs.SectionsInner.{book_with, shown_in}
 use Rattle.settlement.specs.SectionsLaws.{bytes-long}
 use Rattle.settlement.specs.SettlingLaws.{settled, accepts}
-use native.Mathlib.Omega.{arith}
-use borrow.Author.Rules.{rules}
-use Rattle.settlement.proofs.settle.settle_engagement_at.Goals.{After-shown_at-shown}
 use Rattle.settlement.proofs.settle.settle_engagement_at.Goals as goal
-
-pub shown_at-shown-requires : goal.shown_at-shown-requires
-shown_at-shown-requires c =
-    (c.requires.0, c.requires.1, c.requires.2, c.requires.5.long)
 
 pub version_of-version-requires : goal.version_of-version-requires
 version_of-version-requires c = bytes-long c.args.book.now c.requires.0.passed
-
-pub section-calendar-requires : goal.section-calendar-requires
-section-calendar-requires c = (c.requires.0.passed, search rules)
-
-pub section-readings-requires : goal.section-readings-requires
-section-readings-requires c = (c.requires.0.passed, search rules)
 
 pub settle_engagement-requires : goal.settle_engagement-requires
 unfolding shown_in
 settle_engagement-requires c =
     let room : c.args.at + row_width * c.shown_at-shown.result.e.count ≤ length c.args.out.now = rw c.shown_at-shown.ensures c.requires.4 in
     (rw (c.shown_at-shown.ensures, c.section-calendar.ensures, c.section-readings.ensures) (accepts c.requires.0 c.requires.5 c.args.i c.requires.2 c.requires.3), room)
-
-pub overflow_add-result : goal.overflow_add-result
-unfolding shown_in
-overflow_add-result c =
-    let room : c.args.at + row_width * c.shown_at-shown.result.e.count ≤ length c.args.out.now = rw c.shown_at-shown.ensures c.requires.4 in
-    omega (arith, room, c.well_formed)
 
 pub returns : goal.returns
 unfolding shown_in book_with

@@ -13,7 +13,6 @@ use Rattle.settlement.specs.PartsLaws.{count_none, count-more, count_most, parts
 use Rattle.settlement.specs.SettlingLaws.{rows-all, not-refused}
 use borrow.Author.Rules.{rules}
 use native.Mathlib.Omega.{arith}
-use Rattle.settlement.proofs.settle.settle_engagements.Goals.{In-loop-i}
 use Rattle.settlement.proofs.settle.settle_engagements.Goals as goal
 
 pub loop-i-init : goal.loop-i-init
@@ -40,9 +39,6 @@ loop-i-preserved c =
           ∙ ap (λ (o : List ℤ). sets o l.at (rows_of book (engagement_at c.args.engagements.now l.i))) l.invariant.2
           ∙ parts_more (rows_of book) c.args.engagements.now row_width (rows_of-length book) c.args.out.now l.at l.i (search rules) l.invariant.1,
     )
-
-pub shape_of-out : goal.shape_of-out
-shape_of-out c = ap length c.loop-i.invariant.2 ∙ simp length-sets
 
 pub returns : goal.returns
 returns c =
