@@ -1,7 +1,7 @@
 -- The raised baselines of an engagement that is not refused.
 use Rattle.std.specs.Prelude.{◌≡◌, List, ℕ, ◌≤◌, ◌<◌, ◌*◌, get_or, drop}
 use Rattle.std.proofs.Math.Option.{none}
-use Rattle.integers.specs.ZLaws.{Over}
+use Rattle.integers.proofs.ZLaws.{Over}
 use Rattle.grains.specs.Grains.{grains}
 use Rattle.book.specs.Book.{Book}
 use Rattle.volumes.specs.Baseline.{baseline}

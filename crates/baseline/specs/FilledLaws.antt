@@ -7,7 +7,7 @@ use native.Mathlib.Omega.{arith}
 use Rattle.std.proofs.Math.IntN.{pos, +ℤ_idr}
 use Rattle.std.proofs.Math.ListN.{length, length-map, get_or-map}
 use Rattle.integers.specs.Sums.{sum_z}
-use Rattle.integers.specs.ZLaws.{Over}
+use Rattle.integers.proofs.ZLaws.{Over}
 use Rattle.grains.specs.Grains.{grains, share}
 use Rattle.wire.specs.Readings.{reading_at}
 use Rattle.wire.specs.declared.Reading.{Reading}
@@ -20,10 +20,10 @@ use Rattle.quarters.specs.Quarters.{day_start, origin_of}
 use Rattle.book.specs.Book.{Book}
 use Rattle.volumes.specs.Quarters.{start, reference_quarter, reference}
 use Rattle.volumes.specs.Baseline.{point_of, watts, known, complete, mean, day_reading, day_window, own_window, last_reading, taken, high, addend, baseline_by, baseline, eligible_days, y_of}
-use Rattle.volumes.specs.BaselineLaws.{window-12}
+use Rattle.volumes.proofs.BaselineLaws.{window-12}
 use Rattle.volumes.specs.Settlement.{too_few}
-use Rattle.volumes.specs.SettlementLaws.{settles}
-use Rattle.volumes.specs.UsedLaws.{high-complete, windows-complete, own-window-complete, last-known}
+use Rattle.volumes.proofs.SettlementLaws.{settles}
+use Rattle.volumes.proofs.UsedLaws.{high-complete, windows-complete, own-window-complete, last-known}
 use Rattle.baseline.specs.declared.shown.Shown.{Shown}
 use Rattle.baseline.specs.ShownInner.{Fits, before_in, window_in}
 use Rattle.baseline.specs.ShownLaws.{own-window, before_at, start-at, stands, stands_on}
@@ -37,9 +37,9 @@ use Rattle.baseline.specs.TakenLaws.{took}
 use Rattle.baseline.specs.NeedsInner.{looks_back}
 use Rattle.baseline.specs.FillsInner.{Raises, Added}
 use Rattle.baseline.specs.FilledInner.{Unrefused}
-use Rattle.integers.specs.AllLaws.{all-at}
+use Rattle.integers.proofs.AllLaws.{all-at}
 use Rattle.wire.specs.ReadingsInner.{raise}
-use Rattle.integers.specs.ListsLaws.{length-flat_map}
+use Rattle.integers.proofs.ListsLaws.{length-flat_map}
 
 enough : (book : Book) (e : Engagement) (m : Method) → looks_back m ≡ true → too_few m (y_of book e) (length (eligible_days book e)) ≡ false → y_of book e ≤ length (eligible_days book e)
 unfolding looks_back too_few

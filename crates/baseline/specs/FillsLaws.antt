@@ -3,7 +3,7 @@ use Rattle.std.specs.Prelude.{◌≡◌, refl, List, ◌++◌, ℕ, ◌+◌, ◌
 use Rattle.std.proofs.Common.{sym, ap, subst, ◌∙◌, arith, below_more, get_or-set_same, get_or-set_other, drop-set-lt, drop-drop, drop_at}
 use Rattle.std.proofs.lemmas.List.{length-replicate, get_or-replicate}
 use Rattle.std.proofs.Math.ListN.{get_or-append}
-use Rattle.integers.specs.ZLaws.{over_add}
+use Rattle.integers.proofs.ZLaws.{over_add}
 use Rattle.grains.specs.Grains.{grains}
 use Rattle.wire.specs.declared.Reading.{Reading}
 use Rattle.baseline.specs.LevelsInner.{Means}

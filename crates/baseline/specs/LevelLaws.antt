@@ -1,7 +1,7 @@
 -- Levels in arithmetic: a mean's bias is one reading's, and biases cancel in a difference.
 use Rattle.std.specs.Prelude.{ℕ, ◌+◌, ◌-◌, ◌≤◌, ◌*◌, ℤ, ◌-ℤ◌}
 use Rattle.std.proofs.Common.{arith}
-use Rattle.integers.specs.ZLaws.{Over, dif, mul}
+use Rattle.integers.proofs.ZLaws.{Over, dif, mul}
 use Rattle.grains.specs.Grains.{per_watt, grains, grains_z}
 use Rattle.wire.specs.ReadingsInner.{raise}
 

@@ -1,7 +1,7 @@
 -- What a level says of readings that are there.
 use Rattle.std.specs.Prelude.{◌≡◌, true, List, ℕ, ◌*◌, ◌≤◌, pos, ◌*ℤ◌, ◌-ℤ◌}
 use Rattle.integers.specs.Sums.{sum_z}
-use Rattle.integers.specs.ZLaws.{Over}
+use Rattle.integers.proofs.ZLaws.{Over}
 use Rattle.grains.specs.Grains.{grains, grains_z, share}
 use Rattle.wire.specs.declared.Reading.{Reading}
 use Rattle.volumes.specs.Baseline.{watts, known, complete}

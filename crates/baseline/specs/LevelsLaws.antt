@@ -13,7 +13,7 @@ use Rattle.quarters.specs.Quarters.{origin_of}
 use Rattle.book.specs.Book.{Book}
 use Rattle.volumes.specs.Quarters.{reference}
 use Rattle.volumes.specs.Baseline.{complete, day_reading, day_window, windowed, eligible}
-use Rattle.volumes.specs.UsedLaws.{eligible-day}
+use Rattle.volumes.proofs.UsedLaws.{eligible-day}
 use Rattle.baseline.specs.declared.shown.Shown.{Shown}
 use Rattle.baseline.specs.ShownInner.{Shows}
 use Rattle.baseline.specs.ShownLaws.{day-reading, day-window, window-run, window-early}

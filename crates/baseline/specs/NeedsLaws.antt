@@ -13,8 +13,8 @@ use Rattle.quarters.specs.Quarters.{origin_of}
 use Rattle.book.specs.Book.{Book}
 use Rattle.volumes.specs.Quarters.{start, quarter_hours}
 use Rattle.volumes.specs.Baseline.{point_of, complete, last_reading, own_reading, eligible_days, y_of, latest}
-use Rattle.volumes.specs.BaselineLaws.{complete-append}
-use Rattle.volumes.specs.DaysLaws.{few-latest}
+use Rattle.volumes.proofs.BaselineLaws.{complete-append}
+use Rattle.volumes.proofs.DaysLaws.{few-latest}
 use Rattle.volumes.specs.Settlement.{needed_by, needed, too_few, refusal_number}
 use Rattle.baseline.specs.declared.shown.Shown.{Shown}
 use Rattle.baseline.specs.TallyInner.{in_run}

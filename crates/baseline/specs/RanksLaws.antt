@@ -2,13 +2,13 @@
 use Rattle.std.specs.Prelude.{◌≡◌, refl, Bool, true, false, List, [], ◌∷◌, ◌++◌, map, ℕ, ◌+◌, ◌*◌, ◌≤◌, ◌<◌, length, take, drop}
 use Rattle.std.proofs.Common.{sym, ap, ap₂, subst, ◌∙◌, arith, length-append, take_at, drop_at, drop-drop}
 use Rattle.std.proofs.lemmas.List.{length-map}
-use Rattle.integers.specs.ZLaws.{Over}
+use Rattle.integers.proofs.ZLaws.{Over}
 use Rattle.book.specs.declared.Engagement.{Engagement}
 use Rattle.book.specs.Book.{Book}
 use Rattle.volumes.specs.Ranking.{ranked}
-use Rattle.volumes.specs.RankingLaws.{length-ranked}
+use Rattle.volumes.proofs.RankingLaws.{length-ranked}
 use Rattle.volumes.specs.Baseline.{eligible, eligible_days, day_sum}
-use Rattle.volumes.specs.DaysLaws.{scanned, scanned-none, scanned-yes, scanned-no, scanned-full, scanned-few}
+use Rattle.volumes.proofs.DaysLaws.{scanned, scanned-none, scanned-yes, scanned-no, scanned-full, scanned-few}
 use Rattle.baseline.specs.declared.tally.Tally.{Tally}
 use Rattle.baseline.specs.RankingInner.{inserted}
 use Rattle.baseline.specs.ShownInner.{Refers}

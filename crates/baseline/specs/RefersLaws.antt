@@ -4,14 +4,14 @@ use Rattle.std.proofs.Math.Path.{sym, ap, ap₂}
 use Rattle.std.proofs.Common.{◌∙◌, arith}
 use Rattle.std.proofs.Math.Bool.{true, not, ◌&&◌, and-true, and-false}
 use mathlib.Core.List.{List}
-use Rattle.integers.specs.TestsLaws.{both}
+use Rattle.integers.proofs.TestsLaws.{both}
 use Rattle.wire.specs.declared.Reading.{Reading}
 use Rattle.quarters.specs.Quarters.{is_clock_change, origin_of}
 use Rattle.book.specs.Register.{excludes}
 use Rattle.book.specs.Book.{Book}
 use Rattle.volumes.specs.Quarters.{reference}
 use Rattle.volumes.specs.Baseline.{complete, day_readings, day_window, windowed, allowed, suits, engaged, clear, regular, eligible, day_sum}
-use Rattle.volumes.specs.UsedLaws.{eligible-is, suits-is}
+use Rattle.volumes.proofs.UsedLaws.{eligible-is, suits-is}
 use Rattle.baseline.specs.declared.shown.Shown.{Shown}
 use Rattle.baseline.specs.declared.tally.Tally.{Tally}
 use Rattle.baseline.specs.TallyInner.{Tallied}

@@ -12,13 +12,13 @@ use Rattle.book.specs.declared.Engagement.{Engagement}
 use Rattle.quarters.specs.Quarters.{days_of, quarters, day_start}
 use Rattle.quarters.specs.QuartersInner.{usual_day}
 use Rattle.volumes.specs.Quarters.{quarter_hours, looks_at, reference_quarter, reference}
-use Rattle.volumes.specs.QuartersLaws.{reference-most, reference-below, day-before-inside}
+use Rattle.volumes.proofs.QuartersLaws.{reference-most, reference-below, day-before-inside}
 use Rattle.baseline.specs.declared.tally.Tally.{Tally}
 use Rattle.baseline.specs.TallyInner.{in_run, Tallied}
 use Rattle.baseline.specs.TallyLaws.{tally-append}
 use Rattle.baseline.specs.RunsInner.{standing, turn, together, StandsOn, days_in, day_run, day_runs, Starts, start_run, start_runs}
-use Rattle.integers.specs.RangesLaws.{range-shift, range_split, map-range-cong}
-use Rattle.integers.specs.ListsLaws.{flat_map-append}
+use Rattle.integers.proofs.RangesLaws.{range-shift, range_split, map-range-cong}
+use Rattle.integers.proofs.ListsLaws.{flat_map-append}
 
 flat_map-one : {A B : Type 0} (f : A → List B) (a : A) → flat_map f (a ∷ []) ≡ f a
 unfolding flat_map

@@ -1,7 +1,7 @@
 -- A book as its sections show it, and an engagement that fits it.
 use Rattle.std.specs.Prelude.{◌≡◌, true, cond, ◌||◌, List, map, ℕ, ◌+◌, ◌-◌, ◌*◌, ◌≤◌, ◌<◌, leb, length}
 use Rattle.integers.specs.Ranges.{range}
-use Rattle.integers.specs.ZLaws.{Over}
+use Rattle.integers.proofs.ZLaws.{Over}
 use Rattle.wire.specs.Readings.{reading_at}
 use Rattle.wire.specs.declared.Reading.{Reading}
 use Rattle.wire.specs.declared.Reading.TheVariants.{Missing}

@@ -11,7 +11,7 @@ use Rattle.wire.specs.declared.Reading.TheVariants.{Missing}
 use Rattle.quarters.specs.declared.Calendar.{Calendar}
 use Rattle.book.specs.declared.Engagement.{Engagement}
 use Rattle.quarters.specs.Quarters.{days_of, quarters_of, origin_of}
-use Rattle.quarters.specs.QuartersLaws.{quarters-most, day-start-next, day-start-mono, days-few, quarters-few, origin-few}
+use Rattle.quarters.proofs.QuartersLaws.{quarters-most, day-start-next, day-start-mono, days-few, quarters-few, origin-few}
 use Rattle.book.specs.Book.{Book}
 use Rattle.volumes.specs.Quarters.{quarter_hours, start, reference}
 use Rattle.volumes.specs.Baseline.{reading_before, window, own_reading, day_reading, day_readings, own_window, day_window, known, complete}
@@ -20,7 +20,7 @@ use Rattle.baseline.specs.TallyInner.{in_run}
 use Rattle.baseline.specs.RunsInner.{standing, StandsOn}
 use Rattle.baseline.specs.RunsLaws.{stands-runs}
 use Rattle.baseline.specs.ShownInner.{Shows, Fits, before_in, window_in}
-use Rattle.integers.specs.RangesLaws.{range-shift}
+use Rattle.integers.proofs.RangesLaws.{range-shift}
 use Rattle.quarters.specs.QuartersInner.{longest_day, longest_calendar, farthest_origin}
 
 map-cong : {A B : Type 0} (f g : A → B) (l : List A) → ((a : A) → f a ≡ g a) → map f l ≡ map g l

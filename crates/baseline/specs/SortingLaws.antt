@@ -8,7 +8,7 @@ use mathlib.Core.List.{List, [], ◌∷◌, ◌++◌, map, map-append}
 use Prim.Native.Nat.{ℕ, ◌+◌, ◌*◌, ◌%◌, ◌≤◌, ◌<◌, max, min}
 use native.Mathlib.Omega.{arith}
 use Rattle.std.specs.Int.Signed.{le_z}
-use Rattle.integers.specs.ZLaws.{up, Over, over-is, le_yes, le-no}
+use Rattle.integers.proofs.ZLaws.{up, Over, over-is, le_yes, le-no}
 use Rattle.volumes.specs.Ranking.{insert, ranked}
 use Rattle.baseline.specs.RankingInner.{inserted}
 

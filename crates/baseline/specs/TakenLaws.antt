@@ -2,17 +2,17 @@
 use Rattle.std.specs.Prelude.{◌≡◌, refl, true, List, [], ◌∷◌, map, ℕ, zero, suc, ◌%◌, ◌≤◌, ℤ, take}
 use Rattle.std.proofs.Common.{sym, ap, ap₂, ◌∙◌, arith, length-take, take-take}
 use Rattle.integers.specs.All.{All}
-use Rattle.integers.specs.KeepLaws.{mem-keep}
+use Rattle.integers.proofs.KeepLaws.{mem-keep}
 use Rattle.book.specs.declared.Engagement.{Engagement}
 use Rattle.book.specs.Book.{Book}
 use Rattle.volumes.specs.Ranking.{ranked}
-use Rattle.volumes.specs.RankingLaws.{from-ranked, length-ranked}
+use Rattle.volumes.proofs.RankingLaws.{from-ranked, length-ranked}
 use Rattle.volumes.specs.Baseline.{eligible, before, eligible_days, x_of, y_of, latest, day_sum, taken}
 use Rattle.baseline.specs.SortingLaws.{Days, key-day}
 use Rattle.baseline.specs.RanksInner.{bias, key_in, RankedTo}
 use Rattle.baseline.specs.RanksLaws.{keys-first}
 use Rattle.baseline.specs.TakenInner.{Serves, Took}
-use Rattle.integers.specs.AllLaws.{each_all, all-each, all_take}
+use Rattle.integers.proofs.AllLaws.{each_all, all-each, all_take}
 
 -- what is ranked stands in the list
 all-ranked : (P : ℕ → Type 0) (key : ℕ → ℤ) (l : List ℕ) → All P l → All P (ranked key l)

@@ -2,7 +2,7 @@
 use Rattle.std.specs.Prelude.{◌≡◌, true, List, map, ℕ, ◌*◌, ◌≤◌}
 use Rattle.integers.specs.Ranges.{range}
 use Rattle.integers.specs.Sums.{sum_z}
-use Rattle.integers.specs.ZLaws.{Over}
+use Rattle.integers.proofs.ZLaws.{Over}
 use Rattle.wire.specs.Readings.{reading_at}
 use Rattle.wire.specs.declared.Reading.{Reading}
 use Rattle.volumes.specs.Baseline.{watts, complete}

@@ -6,19 +6,19 @@ use Rattle.std.proofs.lemmas.List.{map-append}
 use Rattle.std.proofs.Math.IntN.{+ℤ_idr}
 use Rattle.std.proofs.lemmas.Bool.{eqb-false}
 use Rattle.integers.specs.Ranges.{range}
-use Rattle.integers.specs.TestsLaws.{both}
+use Rattle.integers.proofs.TestsLaws.{both}
 use Rattle.integers.specs.Sums.{sum_z, sum_by, integers}
-use Rattle.integers.specs.ZLaws.{Over, Within, over_add}
+use Rattle.integers.proofs.ZLaws.{Over, Within, over_add}
 use Rattle.wire.specs.Readings.{reading_at, reading_of, missing_if}
 use Rattle.wire.specs.ReadingsLaws.{raised-over}
 use Rattle.wire.specs.declared.Reading.{Reading}
 use Rattle.wire.specs.declared.Reading.TheVariants.{Watts}
 use Rattle.volumes.specs.Baseline.{watts, known, complete}
-use Rattle.volumes.specs.BaselineLaws.{complete-append}
+use Rattle.volumes.proofs.BaselineLaws.{complete-append}
 use Rattle.baseline.specs.TallyInner.{in_run, Tallied}
 use Rattle.baseline.specs.declared.tally.Tally.{Tally}
-use Rattle.integers.specs.RangesLaws.{range-more}
-use Rattle.integers.specs.SumsLaws.{sum-append}
+use Rattle.integers.proofs.RangesLaws.{range-more}
+use Rattle.integers.proofs.SumsLaws.{sum-append}
 use Rattle.wire.specs.ReadingsInner.{raised, raise}
 
 pub run_more : (readings : List ℕ) (at n : ℕ) → in_run readings at (n + 1) ≡ in_run readings at n ++ (reading_at readings (at + n) ∷ [])

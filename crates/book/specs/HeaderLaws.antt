@@ -1,7 +1,7 @@
 -- Rows as parts of a section, and sections as parts of the book.
 use Rattle.std.specs.Prelude.{◌≡◌, refl, true, ◌&&◌, List, [], ◌∷◌, ℕ, zero, suc, ◌+◌, ◌-◌, ◌*◌, ◌≤◌, eqb, leb, length, take, drop}
 use Rattle.std.proofs.Common.{sym, ap, ◌∙◌, mul-suc, add-zero, arith, length-take, length-drop, eqb-true, leb-true}
-use Rattle.integers.specs.TestsLaws.{both}
+use Rattle.integers.proofs.TestsLaws.{both}
 use Rattle.wire.specs.Numbers.{number_at}
 use Rattle.wire.specs.NumbersLaws.{in-part}
 use Rattle.quarters.specs.declared.Calendar.{Calendar}

@@ -1,3 +1,1 @@
 pub mod MovesInner
-pub mod MovesLaws
-pub mod ParsedLaws

@@ -3,8 +3,8 @@ use Rattle.std.specs.Prelude.{◌≡◌, refl, Bool, true, false, cond, List, []
 use Rattle.std.proofs.Common.{sym, ap, ◌∙◌, append_assoc, append-nil, length-append, arith, add_assoc, add-zero, zero-add, leb-true, leb-false, le-leb}
 use Rattle.std.proofs.lemmas.Bool.{lt-leb}
 use Rattle.text.specs.WrittenInner.{written, Wrote}
-use Rattle.text.specs.WrittenLaws.{written-nil, written_both, wrote-length}
-use Rattle.formats.specs.PlaceLaws.{no-at, same_at}
+use Rattle.text.proofs.WrittenLaws.{written-nil, written_both, wrote-length}
+use Rattle.formats.proofs.PlaceLaws.{no-at, same_at}
 use Rattle.formats.specs.declared.Mark.{Mark}
 use Rattle.formats.specs.declared.Mark.TheVariants.{At, No}
 use Rattle.refusals.specs.Buffers.{over}

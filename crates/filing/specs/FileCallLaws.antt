@@ -10,7 +10,7 @@ use Rattle.moments.specs.Ids.{is_transaction_id}
 use Rattle.refusals.specs.Refusals.{Refusal, refused, unless, or_else, short}
 use Rattle.book.specs.Book.{Book, book_of}
 use Rattle.volumes.specs.Settlement.{row_width, rows, row_count, book_refusal}
-use Rattle.volumes.specs.SettlementLaws.{rows-length}
+use Rattle.volumes.proofs.SettlementLaws.{rows-length}
 use Rattle.refusals.specs.RefusalsLaws.{not-refused, not_short, unless-else}
 use Rattle.volumes.specs.Series.{Kind}
 use Rattle.message.specs.Valid.{is_moment}

@@ -18,7 +18,7 @@ use Rattle.partners.specs.PartnersInner.{points_in, partner_column, no_partner, 
 use Rattle.partners.specs.PartnersLaws.{points-in, partners-next, partners-end}
 use Rattle.formats.specs.declared.Mark.{Mark}
 use Rattle.emitter.specs.LaidLaws.{Laid, ahead}
-use Rattle.integers.specs.ListsLaws.{flat_map-append}
+use Rattle.integers.proofs.ListsLaws.{flat_map-append}
 
 -- ---- all partners
 

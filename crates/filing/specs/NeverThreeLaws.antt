@@ -8,13 +8,13 @@ use Rattle.kinds.specs.Numbers.{kind_numbered}
 use Rattle.quarters.specs.Quarters.{month_quarters}
 use Rattle.book.specs.Book.{book_of}
 use Rattle.volumes.specs.Settlement.{row_count, settling_refusal}
-use Rattle.volumes.specs.NumbersLaws.{Listed, settling-listed}
+use Rattle.volumes.proofs.NumbersLaws.{Listed, settling-listed}
 use Rattle.settlement.specs.declared.settle.Settled.TheVariants.{Refused as SettlingRefused}
 use Rattle.settlement.specs.Calls.{settle_says, settle_answer}
 use Rattle.reports.specs.declared.SheetAnswer.TheVariants.{Refused as SheetRefused}
 use Rattle.reports.specs.declared.FileAnswer.TheVariants.{Refused as FileRefused}
 use Rattle.reports.specs.Calls.{sheet_refusal, sheet_says, sheet_answer, text_of, file_refusal, file_says, file_answer}
-use Rattle.reports.specs.NumbersLaws.{sheet-listed, file-listed}
+use Rattle.reports.proofs.NumbersLaws.{sheet-listed, file-listed}
 use Rattle.filing.specs.NeverThree.{NeverThree}
 
 settling-not-three : (r : Option Refusal) (count number item : ℕ) → Each Listed r → SettlingRefused number item ≡ settle_says r count → number ≡ 3 → ⊥

@@ -9,7 +9,7 @@ use Rattle.book.specs.Book.{book_of}
 use Rattle.book.specs.Judged.{refusal_of}
 use Rattle.volumes.specs.Settlement.{book_refusal}
 use Rattle.volumes.specs.Sheets.{parties, sheet}
-use Rattle.volumes.specs.SheetsLaws.{sheet-length}
+use Rattle.volumes.proofs.SheetsLaws.{sheet-length}
 use Rattle.sheets.specs.PartiesInner.{parties_in}
 use Rattle.sheets.specs.PartiesLaws.{parties-are}
 use Rattle.reports.specs.declared.SheetAnswer.TheVariants.{Sheet, Refused}

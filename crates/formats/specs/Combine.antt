@@ -3,7 +3,7 @@ use Rattle.std.specs.Prelude.{◌≡◌, refl, Bool, true, false, ◌&&◌, List
 use Rattle.std.proofs.Common.{sym, ap, ◌∙◌, append_assoc, length-append, drop-drop}
 use Rattle.std.proofs.Math.Seq.{drop-append_seam}
 use Rattle.text.specs.Tag.{begins}
-use Rattle.text.specs.TagLaws.{begins-append, begins-split, begins-both}
+use Rattle.text.proofs.TagLaws.{begins-append, begins-split, begins-both}
 use Rattle.formats.specs.Format.{Res, got, bad, Sound, Format, bind, pick}
 
 -- ---- a tag

@@ -7,7 +7,7 @@ use Rattle.std.proofs.Math.ListN.{length, length-append}
 use Rattle.std.proofs.Math.Seq.{take_at, drop_at}
 use Rattle.std.proofs.Math.Dec.{leb}
 use Rattle.text.specs.Decimal.{digits, value_of, fixed}
-use Rattle.text.specs.DecimalLaws.{length-fixed, digits-fixed, value-fixed, fixed-value, value-lt}
+use Rattle.text.proofs.DecimalLaws.{length-fixed, digits-fixed, value-fixed, fixed-value, value-lt}
 use Rattle.formats.specs.Format.{Res, got, Sound, Format, pick}
 use Rattle.formats.specs.Combine.{Recast, recast}
 

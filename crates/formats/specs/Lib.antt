@@ -9,5 +9,3 @@ pub mod Numbers
 pub mod Name
 pub mod RunLaws
 pub mod PlaceInner
-pub mod PlaceLaws
-pub mod ExactlyLaws

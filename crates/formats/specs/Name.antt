@@ -9,7 +9,7 @@ use Rattle.std.proofs.Math.Seq.{drop-append_seam}
 use Rattle.std.proofs.Math.Dec.{leb}
 use borrow.Author.Tests.{le-leb, leb-true}
 use Rattle.text.specs.Decimal.{digit}
-use Rattle.text.specs.DecimalLaws.{true-false}
+use Rattle.text.proofs.DecimalLaws.{true-false}
 use Rattle.formats.specs.Format.{Res, got, bad, Sound, Format, bind, pick}
 use Rattle.formats.specs.Combine.{strip, strip-sound, strip-complete}
 

@@ -9,7 +9,7 @@ use Rattle.std.proofs.Math.Dec.{eqb, leb, ltb}
 use native.Mathlib.Omega.{arith}
 use borrow.Author.Tests.{eq-eqb, eqb-true, ne_eqb, le-leb, lt-ltb, leb-true, ltb-true}
 use Rattle.text.specs.Decimal.{digit, above, fixed, plain, count}
-use Rattle.text.specs.DecimalLaws.{true-false, digit-is, is_digit, above_zero, above-suc, above-le, plain-is, plain-has}
+use Rattle.text.proofs.DecimalLaws.{true-false, digit-is, is_digit, above_zero, above-suc, above-le, plain-is, plain-has}
 use Rattle.formats.specs.Format.{Res, got, bad, Sound, Format, pick}
 
 off-stop : (stop : ℕ) → digit stop ≡ false → (x : ℕ) → 48 ≤ x → x ≤ 57 → eqb x stop ≡ false

@@ -1,7 +1,7 @@
 -- Items whose keys rise strictly.
 use Rattle.std.specs.Prelude.{◌≡◌, refl, true, ℕ, suc, length, leb}
 use mathlib.Core.List.{List, [], ◌∷◌, map, flat_map}
-use Rattle.integers.specs.TestsLaws.{and_left, and_right, and_both}
+use Rattle.integers.proofs.TestsLaws.{and_left, and_right, and_both}
 use Rattle.integers.specs.Rises.{rises}
 use Rattle.integers.specs.All.{All}
 use Rattle.formats.specs.Format.{Format}

@@ -1,8 +1,8 @@
 -- A mean of X readings, and of X days' 12, is a whole number of grains: 1 to 10 and 12 to 120 by twelves divide 30,240.
 use Rattle.std.specs.Prelude.{◌≡◌, ℕ, zero, suc, ◌*◌, ◌≤◌, eqb, ℤ, pos, ◌*ℤ◌}
 use Rattle.std.proofs.Common.{sym, ap, ◌∙◌, mul_assoc, mul_comm, zero-mul, mul-le-mul_right, arith, eqb→eq}
-use Rattle.integers.specs.TestsLaws.{all-below}
-use Rattle.integers.specs.ZLaws.{Over, over-mul}
+use Rattle.integers.proofs.TestsLaws.{all-below}
+use Rattle.integers.proofs.ZLaws.{Over, over-mul}
 use Rattle.grains.specs.Grains.{per_watt, grains, share}
 use Rattle.grains.specs.GrainsInner.{Shares}
 

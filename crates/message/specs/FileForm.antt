@@ -2,11 +2,11 @@
 use Rattle.std.specs.Prelude.{◌≡◌, refl, true, ◌&&◌, ℕ, zero, suc, ◌<◌, length, leb}
 use Rattle.std.proofs.Common.{sym, ap, ◌∙◌, arith, leb-true, le-leb}
 use mathlib.Core.List.{List, [], ◌∷◌, ◌++◌, append_assoc, flat_map}
-use Rattle.integers.specs.TestsLaws.{and_left, and_right, and_both}
+use Rattle.integers.proofs.TestsLaws.{and_left, and_right, and_both}
 use Rattle.text.specs.Ascii.{bytes}
 use Rattle.text.specs.Tag.{begins}
 use Rattle.text.specs.Decimal.{fixed, plain}
-use Rattle.text.specs.DecimalLaws.{true-false}
+use Rattle.text.proofs.DecimalLaws.{true-false}
 use Rattle.formats.specs.Format.{Format, bad}
 use Rattle.formats.specs.Words.{Apart, word_at, words}
 use Rattle.formats.specs.Combine.{strip, pre, post, seq, seq_by, Recast, recast}

@@ -8,7 +8,7 @@ use Rattle.integers.specs.All.{All}
 use Rattle.message.specs.Group.{Keys, push, group, spread}
 use Rattle.std.proofs.Math.ListN.{length}
 use borrow.Author.Tests.{leb-true}
-use Rattle.integers.specs.TestsLaws.{and_left, and_right}
+use Rattle.integers.proofs.TestsLaws.{and_left, and_right}
 use Rattle.integers.specs.Rises.{rises}
 
 module _ {K A : Type 0} (E : Keys K) where

@@ -1,7 +1,7 @@
 -- Numbers, and two directions as numbers, as keys.
 use Rattle.std.specs.Prelude.{◌≡◌, refl, true, ◌&&◌, ℕ, eqb}
 use Rattle.std.proofs.Common.{eqb-true, eq-eqb}
-use Rattle.integers.specs.TestsLaws.{and_left, and_right, and_both}
+use Rattle.integers.proofs.TestsLaws.{and_left, and_right, and_both}
 use Rattle.message.specs.Group.{Keys}
 
 abbrev pub number_keys : Keys ℕ

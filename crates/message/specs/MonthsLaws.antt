@@ -3,7 +3,7 @@ use Rattle.std.specs.Prelude.{◌≡◌, refl, Bool, true, ◌&&◌, ℕ, ◌≤
 use Rattle.std.proofs.Common.{sym, ap, ◌∙◌, subst, arith, eq-eqb, ne_eqb, eqb-true}
 use Rattle.std.proofs.Math.Bool.{and_assoc, or-true}
 use mathlib.Core.List.{List, [], ◌∷◌, ◌++◌, flat_map, map}
-use Rattle.integers.specs.TestsLaws.{and_left, and_right, and_both}
+use Rattle.integers.proofs.TestsLaws.{and_left, and_right, and_both}
 use Rattle.integers.specs.All.{All}
 use Rattle.formats.specs.Items.{ItemsOk}
 use Rattle.kinds.specs.declared.Kind.{Kind}
@@ -11,7 +11,7 @@ use Rattle.message.specs.Contents.{TimeSeries, Partner}
 use Rattle.message.specs.Valid.{month_of, periods, first_of, IsSeries, IsPartner}
 use Rattle.message.specs.SeriesListForm.{follows, agree, after}
 use Rattle.message.specs.PartnerForm.{partner_form, partner-to, partner-from}
-use Rattle.integers.specs.AllLaws.{all_append}
+use Rattle.integers.proofs.AllLaws.{all_append}
 use Rattle.message.specs.Months.{next_months}
 
 pub agree-append : (seen : ℕ × ℕ) (l m : List (ℕ × ℕ)) → agree seen (l ++ m) ≡ (agree seen l && agree (after seen l) m)

@@ -3,7 +3,7 @@ use Rattle.std.specs.Prelude.{◌≡◌, Bool, true, ◌&&◌, List, ◌++◌, m
 use Rattle.std.proofs.Math.Path.{refl}
 use Rattle.std.proofs.Common.{append_assoc, arith}
 use borrow.Author.Tests.{leb-true, le-leb, ltb-true, lt-ltb}
-use Rattle.integers.specs.TestsLaws.{and_left, and_right, and_both}
+use Rattle.integers.proofs.TestsLaws.{and_left, and_right, and_both}
 use Rattle.integers.specs.Rises.{rises}
 use Rattle.integers.specs.All.{All}
 use Rattle.text.specs.Ascii.{bytes}

@@ -16,7 +16,7 @@ use Rattle.message.specs.Bytes.{opening, ending, closing, group, partner, digits
 use Rattle.message.specs.Valid.{month_of, IsSeries, OneSupply, IsPartner}
 use Rattle.message.specs.SeriesForm.{counted, counted-to, counted-from, apart-supplies, own_series, Supplied, shared_series}
 use Rattle.message.specs.SeriesListForm.{agree, series_list}
-use Rattle.integers.specs.AllLaws.{all_map}
+use Rattle.integers.proofs.AllLaws.{all_map}
 
 -- a valid partner whose series are of the month that was seen
 pub record Partnered (k : Kind) (seen : ℕ × ℕ) (p : Partner) : Type 0 where

@@ -4,7 +4,7 @@ use Rattle.std.proofs.Common.{arith, ne_eqb}
 use Rattle.calendar.specs.Dates.{month_length}
 use Rattle.quarters.specs.Quarters.{quarters_in_month}
 use Rattle.quarters.specs.QuartersInner.{longest_month}
-use Rattle.quarters.specs.QuartersLaws.{month-most}
+use Rattle.quarters.proofs.QuartersLaws.{month-most}
 use Rattle.message.specs.Valid.{last_position}
 
 pub last-is : (year month : ℕ) → last_position year month ≡ quarters_in_month year month

@@ -3,7 +3,7 @@ use Rattle.std.specs.Prelude.{◌≡◌, refl, true, ◌&&◌, ℕ, ◌≤◌, l
 use Rattle.std.proofs.Common.{sym, ap, ap₂, ◌∙◌, length-append, arith, eqb-true}
 use mathlib.Core.List.{List, [], ◌∷◌, map, flat_map}
 use Rattle.std.proofs.lemmas.List.{length-map}
-use Rattle.integers.specs.TestsLaws.{and_left, and_right}
+use Rattle.integers.proofs.TestsLaws.{and_left, and_right}
 use Rattle.integers.specs.Rises.{rises}
 use Rattle.integers.specs.All.{All}
 use Rattle.kinds.specs.declared.Kind.{Kind}
@@ -12,7 +12,7 @@ use Rattle.message.specs.Valid.{month_of, periods, first_of, IsSeries, IsPartner
 use Rattle.message.specs.Keys.{number_keys, directions_keys}
 use Rattle.message.specs.Group.{group, spread}
 use Rattle.message.specs.Rows.{Row, series_rows, partner_rows, rows_of, series_of, partner_of, partners_of}
-use Rattle.integers.specs.AllLaws.{all_map, all_of, all_left, all_right, map-all}
+use Rattle.integers.proofs.AllLaws.{all_map, all_of, all_left, all_right, map-all}
 use Rattle.message.specs.GroupLaws.{spread-group, group-spread, rising-groups, first_group}
 
 map-undo : {A B : Type 0} (f : A → B) (g : B → A) (l : List A) → All (λ a. g (f a) ≡ a) l → map g (map f l) ≡ l

@@ -1,7 +1,7 @@
 -- The format of a partner's series: they rise, and they are of the month that was seen before them.
 use Rattle.std.specs.Prelude.{◌≡◌, refl, Bool, true, ◌&&◌, ◌||◌, ℕ, eqb, length}
 use mathlib.Core.List.{List, [], ◌∷◌, flat_map, map}
-use Rattle.integers.specs.TestsLaws.{and_left, and_right, and_both}
+use Rattle.integers.proofs.TestsLaws.{and_left, and_right, and_both}
 use Rattle.integers.specs.Rises.{rises}
 use Rattle.integers.specs.All.{All}
 use Rattle.formats.specs.Format.{Format}

@@ -1,15 +1,15 @@
 -- Moments: bytes that are judged real are a real moment's and no other's, and a real moment's bytes are judged so.
 use Rattle.std.specs.Prelude.{◌≡◌, refl, Bool, true, false, ◌&&◌, List, [], ◌++◌, ℕ, ◌+◌, ◌*◌, ◌^◌, ◌≤◌, ◌<◌, eqb, leb, length, take, drop}
 use Rattle.std.proofs.Common.{sym, ◌∙◌, ap, append-nil, arith, eqb-true, leb-true, eq-eqb, ne_eqb, drop_of_length-le}
-use Rattle.integers.specs.TestsLaws.{both}
+use Rattle.integers.proofs.TestsLaws.{both}
 use Rattle.text.specs.Ascii.{bytes}
 use Rattle.text.specs.Decimal.{above, fixed, fixed_at}
-use Rattle.text.specs.DecimalLaws.{digits-fixed, value-fixed}
+use Rattle.text.proofs.DecimalLaws.{digits-fixed, value-fixed}
 use Rattle.text.specs.Tag.{begins}
-use Rattle.text.specs.TagLaws.{begins-append, begins-split}
+use Rattle.text.proofs.TagLaws.{begins-append, begins-split}
 use Rattle.text.specs.WrittenInner.{written}
 use Rattle.calendar.specs.Dates.{month_length, day_number, next_year, next_month}
-use Rattle.calendar.specs.DatesLaws.{is-month, month-length, first-offset}
+use Rattle.calendar.proofs.DatesLaws.{is-month, month-length, first-offset}
 use Rattle.moments.specs.Moments.{moment_bytes, date_bytes, time_bytes, tail_bytes, within, real_date, real_time, real, value_at, parts, moment_of, pick_read, period_start, period_end}
 use Rattle.moments.specs.declared.Moment.{Moment}
 use Rattle.moments.specs.declared.MomentRead.TheVariants.{Real, Malformed}

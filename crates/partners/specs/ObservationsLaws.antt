@@ -5,10 +5,10 @@ use Rattle.std.proofs.lemmas.List.{map-append}
 use Rattle.integers.specs.Ranges.{range}
 use Rattle.quarters.specs.declared.Calendar.{Calendar}
 use Rattle.quarters.specs.Quarters.{month_quarters}
-use Rattle.quarters.specs.QuartersLaws.{month-quarters-most}
+use Rattle.quarters.proofs.QuartersLaws.{month-quarters-most}
 use Rattle.book.specs.Header.{calendar_of, header_good}
 use Rattle.book.specs.Book.{Book, book_of}
-use Rattle.volumes.specs.SettlementLaws.{passing}
+use Rattle.volumes.proofs.SettlementLaws.{passing}
 use Rattle.volumes.specs.declared.Series.{Series}
 use Rattle.volumes.specs.Series.{Kind, series_watts}
 use Rattle.settlement.specs.SectionsLaws.{bytes-headed}
@@ -16,12 +16,12 @@ use Rattle.message.specs.Contents.{Observation}
 use Rattle.message.specs.Valid.{IsPeriod}
 use Rattle.message.specs.ObservationForm.{observed}
 use Rattle.integers.specs.Keep.{keep}
-use Rattle.integers.specs.KeepLaws.{keep_append}
+use Rattle.integers.proofs.KeepLaws.{keep_append}
 use Rattle.reports.specs.FileRows.{is_written, observation_by, observations_by}
 use Rattle.series.specs.SumsInner.{by_position, cell_at, DeliveredIn}
 use Rattle.series.specs.SumsLaws.{parts-of, cell-is}
 use Rattle.partners.specs.ObservationsInner.{observation_if, observations_in}
-use Rattle.integers.specs.RangesLaws.{range-more, map-range-cong}
+use Rattle.integers.proofs.RangesLaws.{range-more, map-range-cong}
 use Rattle.quarters.specs.QuartersInner.{Ranged, longest_month}
 use Rattle.reports.specs.FileRowsInner.{observations_of}
 

@@ -10,14 +10,14 @@ use Rattle.std.proofs.Math.Numerals.{add-two}
 use Rattle.std.proofs.Math.ListN.{length, length-map}
 use Rattle.std.proofs.lemmas.List.Edits.{sets, sets-eq}
 use Rattle.std.proofs.Math.Seq.{length-sets}
-use Rattle.integers.specs.TestsLaws.{and_both}
+use Rattle.integers.proofs.TestsLaws.{and_both}
 use Rattle.integers.specs.Ranges.{range}
 use Rattle.integers.specs.Rises.{rises}
 use Rattle.integers.specs.All.{All}
 use Rattle.integers.specs.Keep.{keep, is_some}
-use Rattle.integers.specs.KeepLaws.{keep-mem, mem-keep, keep-rises, keep-length}
+use Rattle.integers.proofs.KeepLaws.{keep-mem, mem-keep, keep-rises, keep-length}
 use Rattle.integers.specs.Ascending.{ascending}
-use Rattle.integers.specs.AscendingLaws.{ascending-once}
+use Rattle.integers.proofs.AscendingLaws.{ascending-once}
 use Rattle.message.specs.Keys.{number_keys}
 use Rattle.message.specs.Group.{group}
 use Rattle.message.specs.Rows.{partner_of as regrouped_one}
@@ -38,7 +38,7 @@ use Rattle.message.specs.ObservationForm.{observed}
 use Rattle.message.specs.Group.{spread}
 use Rattle.message.specs.Rows.{Row, row_numbers, numbers, rows_from, series_rows, rows_of, partners_of as regrouped}
 use Rattle.message.specs.RowsLaws.{partners-undo}
-use Rattle.message.specs.SixesLaws.{length-numbers}
+use Rattle.message.proofs.SixesLaws.{length-numbers}
 use Rattle.writer.specs.ContentsInner.{partners_in, Writable}
 use Rattle.reports.specs.FileRows.{supply_number, delivery_number, directions, partner_numbers, is_written, partners_of, Volumes, observations_by, time_series_by, partner_by, partners_by}
 use Rattle.partners.specs.PartnersInner.{partner_if, partner_column, no_partner, Next}
@@ -46,16 +46,16 @@ use Rattle.series.specs.SumsInner.{cell_at}
 use Rattle.partners.specs.ObservationsInner.{observation_if, observations_in}
 use Rattle.partners.specs.ObservationsLaws.{no-observation, one-observation, observations-none, observations-more}
 use Rattle.reports.specs.RegisteredInner.{Registered}
-use Rattle.reports.specs.FormLaws.{partners-valid}
+use Rattle.reports.proofs.FormLaws.{partners-valid}
 use Rattle.partners.specs.PartnerRowsInner.{row_of, rows_by, series_rows_of, partner_rows_of, FileRowsFilled, series_rows_by, partner_rows_by}
 use Rattle.quarters.specs.Quarters.{month_quarters}
-use Rattle.integers.specs.AllLaws.{each_all, all-each, all_append}
-use Rattle.integers.specs.CountsLaws.{times-mem}
-use Rattle.integers.specs.RangesLaws.{length-range}
+use Rattle.integers.proofs.AllLaws.{each_all, all-each, all_append}
+use Rattle.integers.proofs.CountsLaws.{times-mem}
+use Rattle.integers.proofs.RangesLaws.{length-range}
 use Rattle.message.specs.GroupLaws.{first_group}
 use Rattle.reports.specs.FileRowsInner.{observations_of, partner_at}
 use Rattle.writer.specs.RowsInner.{row_at, Directed}
-use Rattle.integers.specs.ListsLaws.{flat_map-append}
+use Rattle.integers.proofs.ListsLaws.{flat_map-append}
 
 -- ---- lists
 

@@ -9,10 +9,10 @@ use Rattle.std.proofs.Math.Option.{none}
 use Rattle.std.proofs.Math.Dec.{leb, ltb}
 use borrow.Author.Tests.{leb-true, leb-false, ltb-true, ltb-false, le-leb}
 use Rattle.integers.specs.Ranges.{range}
-use Rattle.integers.specs.TestsLaws.{both}
+use Rattle.integers.proofs.TestsLaws.{both}
 use Rattle.integers.specs.Keep.{keep, is_some}
-use Rattle.integers.specs.KeepLaws.{mem-keep, keep-mem}
-use Rattle.integers.specs.ScanLaws.{next-least, all_from, no-next}
+use Rattle.integers.proofs.KeepLaws.{mem-keep, keep-mem}
+use Rattle.integers.proofs.ScanLaws.{next-least, all_from, no-next}
 use Rattle.book.specs.declared.Point.{Point}
 use Rattle.book.specs.Header.{register_section}
 use Rattle.book.specs.Register.{point_at}
@@ -21,14 +21,14 @@ use Rattle.book.specs.Book.{Book, book_of}
 use Rattle.settlement.specs.SectionsInner.{point_count_in}
 use Rattle.settlement.specs.SectionsLaws.{points-counted}
 use Rattle.volumes.specs.Series.{Kind, Toe01, Toe02, Toe03, receiver_of, partner_of}
-use Rattle.volumes.specs.SoundLaws.{mem-range}
-use Rattle.volumes.specs.UsedLaws.{range-mem}
+use Rattle.volumes.proofs.SoundLaws.{mem-range}
+use Rattle.volumes.proofs.UsedLaws.{range-mem}
 use Rattle.message.specs.Contents.{Partner}
 use Rattle.reports.specs.FileRows.{is_taken, partner_numbers, partners_of, partners_by}
 use Rattle.reports.specs.RegisteredInner.{NumbersFit, Registered}
 use Rattle.reports.specs.Roles.{receivers}
 use Rattle.reports.specs.Calls.{stands}
-use Rattle.reports.specs.CallsLaws.{stands-mem, mem-stands}
+use Rattle.reports.proofs.CallsLaws.{stands-mem, mem-stands}
 use Rattle.partners.specs.PartnersInner.{points_in, partner_column, no_partner, Next, partner_if, partners_from}
 use Rattle.reports.specs.FileRowsInner.{partner_at}
 

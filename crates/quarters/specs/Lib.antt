@@ -1,3 +1,2 @@
 pub mod Quarters
 pub mod QuartersInner
-pub mod QuartersLaws

@@ -8,7 +8,7 @@ use Rattle.formats.specs.PlaceInner.{left}
 use Rattle.formats.specs.declared.Mark.{Mark}
 use Rattle.formats.specs.declared.Mark.TheVariants.{At, No}
 use Rattle.cursor.specs.MovesInner.{standing}
-use Rattle.cursor.specs.MovesLaws.{stands}
+use Rattle.cursor.proofs.MovesLaws.{stands}
 use Rattle.message.specs.declared.FileFacts.{FileFacts}
 use Rattle.message.specs.declared.ReadAnswer.TheVariants.{File, Refused}
 use Rattle.message.specs.Bytes.{opening, ending}
@@ -17,7 +17,7 @@ use Rattle.message.specs.Rows.{Row, numbers}
 use Rattle.message.specs.Messages.{read_message}
 use Rattle.refusals.specs.Buffers.{over, afterwards}
 use Rattle.message.specs.Calls.{read_refusal, message_in, read_answer, ReadCalled}
-use Rattle.message.specs.CallsLaws.{accepted-is, written_over}
+use Rattle.message.proofs.CallsLaws.{accepted-is, written_over}
 use Rattle.reader.specs.declared.file.FileRead.{FileRead}
 use Rattle.series_reader.specs.FillingInner.{Fills}
 use Rattle.reader.specs.FileInner.{Filed, rows_of_parts, id_start, facts_read}

@@ -10,7 +10,7 @@ use Rattle.formats.specs.Words.{words_parse}
 use Rattle.formats.specs.Name.{name_byte, span}
 use Rattle.formats.specs.RunLaws.{run-map, run-seq, run-pre, run-post}
 use Rattle.formats.specs.PlaceInner.{Parsed, left}
-use Rattle.formats.specs.PlaceLaws.{parsed, not_there}
+use Rattle.formats.proofs.PlaceLaws.{parsed, not_there}
 use Rattle.formats.specs.declared.Mark.{Mark}
 use Rattle.formats.specs.declared.Mark.TheVariants.{At, No}
 use Rattle.kinds.specs.declared.Kind.{Kind}

@@ -11,8 +11,8 @@ use Rattle.formats.specs.declared.Mark.TheVariants.{At, No}
 use Rattle.cursor.specs.declared.Cursor.{Cursor}
 use Rattle.cursor.specs.declared.Read.{Read}
 use Rattle.cursor.specs.MovesInner.{standing, cursor_at, past_tag, past_word}
-use Rattle.cursor.specs.MovesLaws.{stands_at, tag-stands}
-use Rattle.cursor.specs.ParsedLaws.{tag-parsed, word-parsed}
+use Rattle.cursor.proofs.MovesLaws.{stands_at, tag-stands}
+use Rattle.cursor.proofs.ParsedLaws.{tag-parsed, word-parsed}
 use Rattle.kinds.specs.declared.Kind.{Kind}
 use Rattle.kinds.specs.declared.Kind.TheVariants.{Toe01, Toe02, Toe03}
 use Rattle.message.specs.Bytes.{opening, closing, ending, root, counter}

@@ -18,7 +18,7 @@ use Rattle.message.specs.MessageForm.{message_form}
 use Rattle.message.specs.Rows.{rows_of, Message, message}
 use Rattle.message.specs.Messages.{read_message}
 use Rattle.message.specs.Calls.{id_place, moment_place, facts_of, read_answer}
-use Rattle.message.specs.CallsLaws.{says-no-file, says-short, says-file}
+use Rattle.message.proofs.CallsLaws.{says-no-file, says-short, says-file}
 use Rattle.series_reader.specs.ReadingInner.{folded}
 use Rattle.reader.specs.PartnersInner.{adding}
 use Rattle.reader.specs.FileLaws.{partners-rows, partners-month}

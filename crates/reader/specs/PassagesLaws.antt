@@ -8,7 +8,7 @@ use Rattle.formats.specs.Name.{name_byte, span, name_parse}
 use Rattle.formats.specs.PlaceInner.{Parsed, left}
 use Rattle.cursor.specs.declared.Cursor.{Cursor}
 use Rattle.cursor.specs.MovesInner.{standing, past_tag, past_number, past_counter, past_fixed, past_word, past_name}
-use Rattle.cursor.specs.ParsedLaws.{tag-parsed, fixed-parsed, word-parsed, name-parsed, word_fits}
+use Rattle.cursor.proofs.ParsedLaws.{tag-parsed, fixed-parsed, word-parsed, name-parsed, word_fits}
 use Rattle.kinds.specs.declared.Kind.{Kind}
 use Rattle.message.specs.Bytes.{opening, ending, closing, counter, group, partner, supplies}
 use Rattle.passages.specs.PassagesInner.{message_found, message_to, company_found, access_found, receiver_found}

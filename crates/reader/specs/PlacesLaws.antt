@@ -7,7 +7,7 @@ use Rattle.formats.specs.Combine.{strip, map_parse}
 use Rattle.formats.specs.Exactly.{exactly_parse, fixed_digits}
 use Rattle.formats.specs.Name.{name_byte, span, name_parse, name}
 use Rattle.formats.specs.PlaceInner.{Within, Parsed, left}
-use Rattle.formats.specs.PlaceLaws.{no-at, same_at}
+use Rattle.formats.proofs.PlaceLaws.{no-at, same_at}
 use Rattle.formats.specs.declared.Mark.{Mark}
 use Rattle.formats.specs.declared.Mark.TheVariants.{At, No}
 use Rattle.kinds.specs.declared.Kind.{Kind}

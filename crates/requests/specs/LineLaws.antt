@@ -6,7 +6,7 @@ use Rattle.std.proofs.Math.ListN.{length, take}
 use native.Mathlib.Omega.{arith}
 use Rattle.text.specs.Ascii.{bytes}
 use Rattle.text.specs.Decimal.{fixed}
-use Rattle.text.specs.DecimalLaws.{length-fixed}
+use Rattle.text.proofs.DecimalLaws.{length-fixed}
 use Rattle.formats.specs.Format.{Res, got, bad}
 use Rattle.formats.specs.FormatLaws.{sound-of}
 use Rattle.formats.specs.Combine.{strip, only_parse}

@@ -2,7 +2,7 @@
 use Rattle.std.specs.Prelude.{◌≡◌, refl, Bool, true, false, not, ℕ, suc, eqb, leb, ℤ, pos, negsuc}
 use Rattle.std.proofs.Common.{arith, eqb-true, eq-eqb, ne_eqb, leb-true, leb-false, lt-ltb, le-ltb}
 use Rattle.std.proofs.lemmas.Bool.{eqb-false}
-use Rattle.integers.specs.ZLaws.{Within}
+use Rattle.integers.proofs.ZLaws.{Within}
 use Rattle.wire.specs.Readings.{reading_of, missing_if}
 use Rattle.wire.specs.ReadingsLaws.{raised-over}
 use Rattle.wire.specs.declared.Reading.TheVariants.{Watts}

@@ -12,7 +12,7 @@ use Rattle.std.proofs.lemmas.List.{length-map, get_or_at}
 use Rattle.std.proofs.Math.Seq.{get_or-set_other}
 use Rattle.integers.specs.Ranges.{range}
 use Rattle.integers.specs.Running.{up_to, floor_at}
-use Rattle.integers.specs.ZLaws.{inside}
+use Rattle.integers.proofs.ZLaws.{inside}
 use Rattle.integers.specs.Sums.{naturals, sum_by, sum_of}
 use Rattle.grains.specs.Grains.{per_watt}
 use Rattle.book.specs.declared.Takers.TheVariants.{Aggregated, Individual, Neither, Refused}
@@ -26,16 +26,16 @@ use Rattle.book.specs.Engagements.{engagement_at}
 use Rattle.book.specs.Header.{calendar_of, register_section, engagement_section}
 use Rattle.book.specs.Book.{Book, book_of}
 use Rattle.quarters.specs.Quarters.{month_quarters}
-use Rattle.volumes.specs.QuartersLaws.{position-inside}
+use Rattle.volumes.proofs.QuartersLaws.{position-inside}
 use Rattle.volumes.specs.Settlement.{delivered, rows, row_count}
-use Rattle.volumes.specs.SettlementLaws.{passing}
+use Rattle.volumes.proofs.SettlementLaws.{passing}
 use Rattle.volumes.specs.Sheets.{start_position, covers, quarter_at}
 use Rattle.volumes.specs.declared.Series.{Series}
 use Rattle.volumes.specs.Series.{Kind, Toe01, Toe02, Toe03, same_supply, same_direction, is_engagement, grains_of, grains_at, series_watts}
 use Rattle.volumes.specs.Baseline.{point_of}
 use Rattle.volumes.specs.SoundInner.{Placed}
-use Rattle.volumes.specs.SoundLaws.{sound}
-use Rattle.volumes.specs.WidthsLaws.{most, delivered-most}
+use Rattle.volumes.proofs.SoundLaws.{sound}
+use Rattle.volumes.proofs.WidthsLaws.{most, delivered-most}
 use Rattle.settlement.specs.SectionsInner.{engagement_count_in, engagements_in, row_count_in}
 use Rattle.settlement.specs.SectionsLaws.{rows-counted, same-book, opened}
 use Rattle.settlement.specs.DrawnLaws.{registered, owner}
@@ -43,11 +43,11 @@ use Rattle.settlement.specs.PartsLaws.{row_count_to, count-more, count_most}
 use Rattle.series.specs.SumsInner.{by_position, cell_at, grains_to, added, VolumesAddable, Parts, DeliveredIn}
 use Rattle.series.specs.VolumesInner.{book_volumes}
 use Rattle.series.specs.VolumesLaws.{volumes-length, volume-of}
-use Rattle.integers.specs.RangesLaws.{length-range, range-more, get_d-made, get_d-mem, map-range-cong}
-use Rattle.integers.specs.RunningLaws.{floor_at-cong}
-use Rattle.integers.specs.SumsLaws.{sum-append}
+use Rattle.integers.proofs.RangesLaws.{length-range, range-more, get_d-made, get_d-mem, map-range-cong}
+use Rattle.integers.proofs.RunningLaws.{floor_at-cong}
+use Rattle.integers.proofs.SumsLaws.{sum-append}
 use Rattle.volumes.specs.SeriesInner.{taken_by}
-use Rattle.integers.specs.ListsLaws.{next-cell}
+use Rattle.integers.proofs.ListsLaws.{next-cell}
 
 -- ---- kinds and directions
 

@@ -13,21 +13,21 @@ use Rattle.std.proofs.Math.Seq.{split_at}
 use Rattle.std.specs.Int.{w64}
 use Rattle.integers.specs.Ranges.{range}
 use Rattle.integers.specs.Sums.{sum_of}
-use Rattle.integers.specs.ZLaws.{up, dn, inside}
+use Rattle.integers.proofs.ZLaws.{up, dn, inside}
 use Rattle.book.specs.declared.Engagement.{Engagement}
 use Rattle.book.specs.Book.{Book, book_of}
 use Rattle.volumes.specs.Quarters.{quarter_hours}
 use Rattle.volumes.specs.Settlement.{delivered, row_width, row, rows_of, row_count, book_refusal}
-use Rattle.volumes.specs.SettlementLaws.{row-length, rows_of-length, passing}
-use Rattle.volumes.specs.SoundLaws.{sound}
-use Rattle.volumes.specs.RunningLaws.{rows_few}
+use Rattle.volumes.proofs.SettlementLaws.{row-length, rows_of-length, passing}
+use Rattle.volumes.proofs.SoundLaws.{sound}
+use Rattle.volumes.proofs.RunningLaws.{rows_few}
 use Rattle.settlement.specs.SectionsInner.{engagement_count_in, book_with}
 use Rattle.settlement.specs.StoresLaws.{sets-append}
 use Rattle.settlement.specs.PartsLaws.{parts_to, parts_all, parts-length}
 use Rattle.series.specs.VolumesInner.{volumes_of, book_volumes, volume_in}
-use Rattle.integers.specs.RangesLaws.{length-range, range-more, get_d-made, map-range-cong}
+use Rattle.integers.proofs.RangesLaws.{length-range, range-more, get_d-made, map-range-cong}
 use Rattle.quarters.specs.QuartersInner.{most_rows}
-use Rattle.integers.specs.ListsLaws.{flat_map-append}
+use Rattle.integers.proofs.ListsLaws.{flat_map-append}
 
 -- number j of the k-th of parts of one length
 get_d-parts : {A : Type 0} (w : ℕ) (f : ℕ → List A) → ((i : ℕ) → length (f i) ≡ w) → (a n k j : ℕ) (d : A) → k < n → j < w → get_or (flat_map f (range a n)) (w * k + j) d ≡ get_or (f (a + k)) j d

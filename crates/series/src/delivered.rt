@@ -3,7 +3,7 @@ ghost use Rattle.std.specs.Prelude.{◌≡◌, map, ℕ, ◌+◌, ◌*◌, ◌�
 ghost use Rattle.std.proofs.Math.Option.{none};
 ghost use Rattle.std.proofs.lemmas.List.Edits.{sets};
 ghost use Rattle.integers.specs.Ranges.{range};
-ghost use Rattle.integers.specs.ZLaws.{up, dn};
+ghost use Rattle.integers.proofs.ZLaws.{up, dn};
 ghost use Rattle.book.specs.Header.{calendar_of};
 ghost use Rattle.book.specs.Engagements.{engagement_at};
 ghost use Rattle.book.specs.Book.{book_of};

@@ -1,7 +1,7 @@
 // The watts of a series by position, from a book's delivered volumes.
 ghost use Rattle.std.specs.Prelude.{◌≡◌, cond, ℕ, ◌+◌, ◌*◌, ◌^◌, ◌≤◌, ◌<◌, length, get_or};
 ghost use Rattle.integers.specs.Running.{floor_at};
-ghost use Rattle.integers.specs.ZLaws.{up};
+ghost use Rattle.integers.proofs.ZLaws.{up};
 ghost use Rattle.grains.specs.Grains.{per_watt};
 ghost use Rattle.book.specs.declared.Supply.TheVariants.{OffTake};
 ghost use Rattle.book.specs.declared.Direction.TheVariants.{Up};

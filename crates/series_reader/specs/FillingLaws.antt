@@ -8,18 +8,18 @@ use Rattle.std.proofs.lemmas.List.Edits.{sets, sets-eq}
 use Rattle.std.proofs.Math.Numerals.{add-two}
 use native.Mathlib.Omega.{arith}
 use Rattle.text.specs.WrittenInner.{written}
-use Rattle.text.specs.WrittenLaws.{written-nil, written_both}
+use Rattle.text.proofs.WrittenLaws.{written-nil, written_both}
 use Rattle.formats.specs.Format.{Res, got, bad, Format, bind, pick}
 use Rattle.formats.specs.FormatLaws.{got-bad}
 use Rattle.formats.specs.Combine.{strip, map_parse, only_parse}
 use Rattle.formats.specs.Items.{items_parse, items-end, items-step}
 use Rattle.formats.specs.PlaceInner.{Parsed}
-use Rattle.formats.specs.PlaceLaws.{no-at, same_at}
+use Rattle.formats.proofs.PlaceLaws.{no-at, same_at}
 use Rattle.formats.specs.declared.Mark.{Mark}
 use Rattle.formats.specs.declared.Mark.TheVariants.{At, No}
 use Rattle.message.specs.Rows.{Row, row_numbers, numbers}
 use Rattle.message.specs.ObservationForm.{observed}
-use Rattle.message.specs.SixesLaws.{length-numbers}
+use Rattle.message.proofs.SixesLaws.{length-numbers}
 use Rattle.series_reader.specs.FillingInner.{Fills, Stored}
 
 -- ---- places

@@ -10,7 +10,7 @@ use Rattle.formats.specs.Combine.{map_parse, only_parse}
 use Rattle.formats.specs.Items.{items_parse, items-end, items-bad, items-step}
 use Rattle.formats.specs.RunLaws.{Run}
 use Rattle.formats.specs.PlaceInner.{Parsed}
-use Rattle.formats.specs.PlaceLaws.{no-at, parsed, not_there}
+use Rattle.formats.proofs.PlaceLaws.{no-at, parsed, not_there}
 use Rattle.formats.specs.declared.Mark.{Mark}
 use Rattle.formats.specs.declared.Mark.TheVariants.{At, No}
 use Rattle.series_reader.specs.ReadingLaws.{parsed-no}

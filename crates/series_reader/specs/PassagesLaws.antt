@@ -10,8 +10,8 @@ use Rattle.formats.specs.Exactly.{fixed_digits}
 use Rattle.formats.specs.PlaceInner.{Parsed}
 use Rattle.cursor.specs.declared.Cursor.{Cursor}
 use Rattle.cursor.specs.MovesInner.{standing, past_tag, past_number, past_counter, past_fixed, past_word}
-use Rattle.cursor.specs.ParsedLaws.{tag-parsed, number-parsed, fixed-parsed, word-parsed, number_fits, fixed-fits, word_fits}
-use Rattle.cursor.specs.ParsedLaws as moves
+use Rattle.cursor.proofs.ParsedLaws.{tag-parsed, number-parsed, fixed-parsed, word-parsed, number_fits, fixed-fits, word_fits}
+use Rattle.cursor.proofs.ParsedLaws as moves
 use Rattle.moments.specs.Moments.{moment_bytes, period_start, period_end}
 use Rattle.message.specs.Bytes.{opening, ending, closing, element, supplies, deliveries}
 use Rattle.message.specs.ObservationForm.{plain_number, observation_body, behind_month}

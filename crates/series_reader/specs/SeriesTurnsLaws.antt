@@ -11,10 +11,10 @@ use Rattle.formats.specs.Format.{Res}
 use Rattle.formats.specs.FormatLaws.{got-bad}
 use Rattle.formats.specs.Combine.{strip, map_parse}
 use Rattle.formats.specs.PlaceInner.{Within, Parsed}
-use Rattle.formats.specs.PlaceLaws.{parsed, not_there}
+use Rattle.formats.proofs.PlaceLaws.{parsed, not_there}
 use Rattle.cursor.specs.declared.Cursor.{Cursor}
 use Rattle.cursor.specs.MovesInner.{keep, standing, past_tag}
-use Rattle.cursor.specs.MovesLaws.{standing-within, stands_at}
+use Rattle.cursor.proofs.MovesLaws.{standing-within, stands_at}
 use Rattle.kinds.specs.declared.Kind.{Kind}
 use Rattle.kinds.specs.declared.Kind.TheVariants.{Toe01, Toe02, Toe03}
 use Rattle.message.specs.Bytes.{opening, closing}

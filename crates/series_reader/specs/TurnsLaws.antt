@@ -10,7 +10,7 @@ use Rattle.formats.specs.Items.{items_parse, items-bad}
 use Rattle.formats.specs.PlaceInner.{placed, Within, Parsed}
 use Rattle.cursor.specs.declared.Cursor.{Cursor}
 use Rattle.cursor.specs.MovesInner.{keep, standing}
-use Rattle.cursor.specs.MovesLaws.{standing-within, stands_at}
+use Rattle.cursor.proofs.MovesLaws.{standing-within, stands_at}
 use Rattle.message.specs.Contents.{Observation}
 use Rattle.message.specs.Valid.{last_position}
 use Rattle.message.specs.Rows.{Row}

@@ -6,7 +6,7 @@ use Rattle.std.proofs.Math.Option.{Option, none, some}
 use Rattle.refusals.specs.Refusals.{Refusal}
 use Rattle.book.specs.Book.{book_of}
 use Rattle.volumes.specs.Settlement.{row_width, row_count, book_refusal, Accepted}
-use Rattle.volumes.specs.SettlementLaws.{settling-long, accepted}
+use Rattle.volumes.proofs.SettlementLaws.{settling-long, accepted}
 use Rattle.settlement.specs.declared.settle.Settled.{Settled}
 use Rattle.settlement.specs.declared.settle.Settled.TheVariants.{Rows}
 use Rattle.settlement.specs.Calls.{settle_says, settle_answer, SettleCalled}

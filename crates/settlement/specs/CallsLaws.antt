@@ -9,7 +9,7 @@ use Rattle.refusals.specs.Buffers.{afterwards}
 use Rattle.refusals.specs.BuffersLaws.{sets_over}
 use Rattle.book.specs.Book.{book_of}
 use Rattle.volumes.specs.Settlement.{row_width, rows, row_count, book_refusal, settling_refusal}
-use Rattle.volumes.specs.SettlementLaws.{rows-length, settling-long}
+use Rattle.volumes.proofs.SettlementLaws.{rows-length, settling-long}
 use Rattle.settlement.specs.declared.settle.Settled.TheVariants.{Rows, Refused}
 use Rattle.settlement.specs.Calls.{settle_says, settle_answer, SettleCalled}
 

@@ -4,9 +4,9 @@ use Rattle.std.proofs.Common.{sym, ap, ◌∙◌, add-one, arith, take_all, take
 use Rattle.std.proofs.Math.Bool.{or_assoc, or-false}
 use Rattle.std.proofs.lemmas.List.{get_or-replicate, length-replicate}
 use Rattle.std.proofs.lemmas.Bool.{eqb-false}
-use Rattle.integers.specs.BitsLaws.{bit-none}
+use Rattle.integers.proofs.BitsLaws.{bit-none}
 use Rattle.integers.specs.First.{any_of}
-use Rattle.integers.specs.FirstLaws.{any_append}
+use Rattle.integers.proofs.FirstLaws.{any_append}
 use Rattle.book.specs.declared.Engagement.{Engagement}
 use Rattle.book.specs.Register.{excludes}
 use Rattle.book.specs.Engagements.{engagement_at}

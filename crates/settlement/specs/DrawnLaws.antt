@@ -10,7 +10,7 @@ use Rattle.quarters.specs.declared.Calendar.{Calendar}
 use Rattle.book.specs.declared.Engagement.{Engagement}
 use Rattle.quarters.specs.Quarters.{quarters_of}
 use Rattle.quarters.specs.QuartersInner.{longest_day}
-use Rattle.quarters.specs.QuartersLaws.{days-few, quarters-most}
+use Rattle.quarters.proofs.QuartersLaws.{days-few, quarters-most}
 use Rattle.book.specs.Header.{calendar_of, point_count, calendar_section, table_section, register_section, reading_section}
 use Rattle.book.specs.HeaderLaws.{headed}
 use Rattle.book.specs.Tables.{category_at, x_at, y_at}
@@ -19,14 +19,14 @@ use Rattle.book.specs.Engagements.{engagement_at}
 use Rattle.volumes.specs.Baseline.{point_of, no_point}
 use Rattle.volumes.specs.Settlement.{refusal_number, row_refusal, row_width}
 use Rattle.volumes.specs.SoundInner.{XOfY, Placed}
-use Rattle.volumes.specs.SoundLaws.{passes}
-use Rattle.volumes.specs.SettlementLaws.{refusal_at, refusal-next, refusal-end}
+use Rattle.volumes.proofs.SoundLaws.{passes}
+use Rattle.volumes.proofs.SettlementLaws.{refusal_at, refusal-next, refusal-end}
 use Rattle.baseline.specs.ShownInner.{Shows, Fits}
 use Rattle.settlement.specs.SectionsInner.{engagement_count_in, engagements_in, book_with, shown_in, Opened}
 use Rattle.settlement.specs.SectionsLaws.{all_held, engaged-in}
 use Rattle.settlement.specs.DaysInner.{Gathered}
-use Rattle.integers.specs.BitsLaws.{bit-or}
-use Rattle.integers.specs.RangesLaws.{length-range, get_d-made, get_d-mem}
+use Rattle.integers.proofs.BitsLaws.{bit-or}
+use Rattle.integers.proofs.RangesLaws.{length-range, get_d-made, get_d-mem}
 
 -- what is shown of an engagement fits the sections and is the book's: all that judging and settling it ask
 pub record Drawn (bytes engagements masks : List ℕ) (i : ℕ) : Type 0 where

@@ -4,7 +4,7 @@ use Rattle.std.proofs.Math.Path.{sym, ap}
 use Rattle.std.proofs.Common.{◌∙◌}
 use mathlib.Core.List.{List, map}
 use native.Mathlib.Omega.{arith}
-use Rattle.integers.specs.TestsLaws.{both}
+use Rattle.integers.proofs.TestsLaws.{both}
 use Rattle.integers.specs.Ranges.{range}
 use Rattle.wire.specs.Readings.{reading_at}
 use Rattle.book.specs.declared.Point.{Point}
@@ -12,15 +12,15 @@ use Rattle.quarters.specs.Quarters.{origin_of}
 use Rattle.book.specs.Book.{Book}
 use Rattle.volumes.specs.Quarters.{start, quarter_hours}
 use Rattle.volumes.specs.Baseline.{point_of, complete, own_reading}
-use Rattle.volumes.specs.BaselineLaws.{complete-append}
+use Rattle.volumes.proofs.BaselineLaws.{complete-append}
 use Rattle.volumes.specs.Settlement.{needed_by, needed, rows_of}
-use Rattle.volumes.specs.SettlementLaws.{settles}
+use Rattle.volumes.proofs.SettlementLaws.{settles}
 use Rattle.baseline.specs.declared.shown.Shown.{Shown}
 use Rattle.baseline.specs.ShownLaws.{start-at}
 use Rattle.baseline.specs.FilledInner.{Unrefused, LevelsFilled}
 use Rattle.settlement.specs.RowsInner.{readings_from, rows_from}
 use Rattle.settlement.specs.RowsLaws.{rows-from}
-use Rattle.integers.specs.RangesLaws.{map-range-cong}
+use Rattle.integers.proofs.RangesLaws.{map-range-cong}
 
 module _ {shown : Shown} {calendar readings : List ℕ} {book : Book} (s : Unrefused shown calendar readings book) where
   pub own_at : (first : ℕ) → first ≡ origin_of shown.c shown.e.point + start shown.c shown.e → (k : ℕ) → reading_at readings (first + k) ≡ own_reading book shown.e k

@@ -9,12 +9,12 @@ use Rattle.std.proofs.Math.Seq.{sets}
 use Rattle.integers.specs.Sums.{naturals, sum_of, sum_by}
 use Rattle.book.specs.declared.Engagement.{Engagement}
 use Rattle.book.specs.Engagements.{engagement_at}
-use Rattle.volumes.specs.SettlementLaws.{count_next}
+use Rattle.volumes.proofs.SettlementLaws.{count_next}
 use Rattle.settlement.specs.SectionsInner.{engagement_count_in, engagements_in, row_count_in}
 use Rattle.settlement.specs.StoresLaws.{sets-append}
-use Rattle.integers.specs.RangesLaws.{length-range, get_d-made}
-use Rattle.integers.specs.SumsLaws.{sum-append}
-use Rattle.integers.specs.ListsLaws.{flat_map-append}
+use Rattle.integers.proofs.RangesLaws.{length-range, get_d-made}
+use Rattle.integers.proofs.SumsLaws.{sum-append}
+use Rattle.integers.proofs.ListsLaws.{flat_map-append}
 
 -- how many rows the first i engagements have, and one more
 unfoldable pub row_count_to : List ℕ → ℕ → ℕ

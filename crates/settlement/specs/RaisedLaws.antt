@@ -1,9 +1,9 @@
 -- What raised numbers stand for, as equations and in ℕ: their differences need no sign.
 use Rattle.std.specs.Prelude.{◌≡◌, refl, Bool, true, false, List, map, ℕ, zero, suc, ◌+◌, ◌-◌, ◌*◌, ◌≤◌, ◌<◌, eqb, ℤ, pos, negsuc, neg_ℤ, ◌-ℤ◌}
 use Rattle.std.proofs.Common.{sym, ap, ◌∙◌, ⊎_elim, eq-or-lt_of_le, arith}
-use Rattle.integers.specs.TestsLaws.{both}
+use Rattle.integers.proofs.TestsLaws.{both}
 use Rattle.integers.specs.Ranges.{range}
-use Rattle.integers.specs.ZLaws.{up, Over, over-sub, is-sub, mul, neg, dif}
+use Rattle.integers.proofs.ZLaws.{up, Over, over-sub, is-sub, mul, neg, dif}
 use Rattle.wire.specs.declared.Reading.{Reading}
 use Rattle.wire.specs.declared.Reading.TheVariants.{Watts}
 use Rattle.wire.specs.Readings.{watts_at, reading_of, reading_at, missing_if}
@@ -11,7 +11,7 @@ use Rattle.wire.specs.ReadingsLaws.{raised-over}
 use Rattle.grains.specs.Grains.{per_watt, grains, grains_z}
 use Rattle.volumes.specs.Baseline.{watts, known, complete}
 use Rattle.volumes.specs.SoundInner.{Bounded}
-use Rattle.volumes.specs.WidthsLaws.{most}
+use Rattle.volumes.proofs.WidthsLaws.{most}
 use Rattle.settlement.specs.RaisedInner.{bias, greatest, baseline_of, watts_of}
 use Rattle.wire.specs.ReadingsInner.{Raised, raise}
 

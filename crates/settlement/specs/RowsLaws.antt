@@ -1,9 +1,9 @@
 -- A book's rows are those made of its baselines and its readings.
 use Rattle.std.specs.Prelude.{◌≡◌, refl, true, List, map, ℕ, ◌+◌, ◌-◌, ◌*◌, ◌<◌, min, ℤ, pos, negsuc, neg_ℤ, ◌-ℤ◌, length, get_or}
 use Rattle.std.proofs.Common.{sym, ap, ◌∙◌, add_assoc, arith}
-use Rattle.integers.specs.TestsLaws.{both}
+use Rattle.integers.proofs.TestsLaws.{both}
 use Rattle.integers.specs.Ranges.{range}
-use Rattle.integers.specs.ZLaws.{up, Over, one-0, eq_z, neg, dif}
+use Rattle.integers.proofs.ZLaws.{up, Over, one-0, eq_z, neg, dif}
 use Rattle.wire.specs.Readings.{reading_at}
 use Rattle.grains.specs.Grains.{grains, grains_z}
 use Rattle.book.specs.declared.Direction.{Direction}
@@ -15,16 +15,16 @@ use Rattle.book.specs.Header.{calendar_of, reading_section}
 use Rattle.book.specs.Book.{Book, book_of}
 use Rattle.volumes.specs.Quarters.{quarter_hours, start}
 use Rattle.volumes.specs.Baseline.{point_of, watts, complete, own_reading, baseline}
-use Rattle.volumes.specs.BaselineLaws.{complete-append}
+use Rattle.volumes.proofs.BaselineLaws.{complete-append}
 use Rattle.volumes.specs.Settlement.{needed_by, needed, requested_at, limited, delivered_by, delivered, off_take_of, signed, source_correction, fsp_correction, injection_correction, corrections, row_width, row, rows_of}
-use Rattle.volumes.specs.SettlementLaws.{Settles}
-use Rattle.volumes.specs.SplitLaws.{off-take-is}
+use Rattle.volumes.proofs.SettlementLaws.{Settles}
+use Rattle.volumes.proofs.SplitLaws.{off-take-is}
 use Rattle.wire.specs.ReadingsInner.{raise}
 use Rattle.settlement.specs.RaisedInner.{bias, baseline_of, watts_of}
 use Rattle.settlement.specs.RaisedLaws.{over-level, over-grains, is-level}
 use Rattle.settlement.specs.RowsInner.{row_from, first_reading, readings_from, row_at, rows_from, largest}
 use Rattle.settlement.specs.StoresLaws.{flat_map-range-cong}
-use Rattle.integers.specs.RangesLaws.{map-range-cong}
+use Rattle.integers.proofs.RangesLaws.{map-range-cong}
 
 pub row-from : (book : Book) (e : Engagement) (k : ℕ) → row book e k ≡ row_from book.version e.direction (point_of book e) (requested_at e k) (baseline book e k) (watts (own_reading book e k))
 unfolding row corrections source_correction fsp_correction injection_correction delivered row_from

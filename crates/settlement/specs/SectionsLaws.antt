@@ -8,8 +8,8 @@ use Rattle.book.specs.Book.{book_of}
 use Rattle.book.specs.Judged.{refusal_of}
 use Rattle.volumes.specs.Baseline.{engaged}
 use Rattle.volumes.specs.Settlement.{settlement_refusal, row_count, book_refusal}
-use Rattle.volumes.specs.SoundLaws.{passes, sound}
-use Rattle.volumes.specs.SettlementLaws.{passing}
+use Rattle.volumes.proofs.SoundLaws.{passes, sound}
+use Rattle.volumes.proofs.SettlementLaws.{passing}
 use Rattle.settlement.specs.SectionsInner.{point_count_in, engagement_count_in, engagements_in, engaged_in, row_count_in, book_with, Opened}
 
 -- the sections, as a good layout says

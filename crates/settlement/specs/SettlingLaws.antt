@@ -4,7 +4,7 @@ use Rattle.std.proofs.Math.Option.{none}
 use Rattle.book.specs.Header.{calendar_section, reading_section}
 use Rattle.book.specs.Engagements.{engagement_at}
 use Rattle.volumes.specs.Settlement.{refusal_number, settlement_refusal, rows_of, rows}
-use Rattle.volumes.specs.SettlementLaws.{all-settle}
+use Rattle.volumes.proofs.SettlementLaws.{all-settle}
 use Rattle.baseline.specs.FilledInner.{Unrefused, Accepts}
 use Rattle.settlement.specs.SectionsInner.{engagement_count_in, book_with, shown_in, Opened}
 use Rattle.settlement.specs.DaysInner.{Gathered}

@@ -8,8 +8,8 @@ use Rattle.std.proofs.Math.Numerals.{add-two}
 use Rattle.std.proofs.Math.ListN.{length}
 use Rattle.std.proofs.lemmas.List.Edits.{sets}
 use Rattle.integers.specs.Ranges.{range}
-use Rattle.integers.specs.RangesLaws.{length-range, range-next}
-use Rattle.integers.specs.ListsLaws.{flat_map-append, length-flat_map}
+use Rattle.integers.proofs.RangesLaws.{length-range, range-next}
+use Rattle.integers.proofs.ListsLaws.{flat_map-append, length-flat_map}
 
 module _ {ℓ} {A : Type ℓ} where
   pub sets-append : (l : List A) (at : ℕ) (a b : List A) → sets (sets l at a) (at + length a) b ≡ sets l at (a ++ b)

@@ -4,7 +4,7 @@ use Rattle.std.proofs.Common.{sym, ap, ◌∙◌, add-zero, add-suc, suc-add, ad
 use Rattle.std.proofs.lemmas.List.{length-map}
 use Rattle.integers.specs.Ranges.{range}
 use Rattle.sheets.specs.AddsInner.{add_at, adds}
-use Rattle.integers.specs.RangesLaws.{length-range, map-range-next}
+use Rattle.integers.proofs.RangesLaws.{length-range, map-range-next}
 
 pub length-adds : (l : List ℤ) (at : ℕ) (zs : List ℤ) → length (adds l at zs) ≡ length l
 length-adds l at [] = refl

@@ -7,7 +7,7 @@ use Rattle.std.proofs.Math.ListN.{get_or-append}
 use Rattle.integers.specs.Ranges.{range}
 use Rattle.sheets.specs.AddsInner.{add_at, adds}
 use Rattle.sheets.specs.AddsLaws.{length-adds, adds-before, adds-behind, adds-within}
-use Rattle.integers.specs.RangesLaws.{length-range, range-shift, get_d-made}
+use Rattle.integers.proofs.RangesLaws.{length-range, range-shift, get_d-made}
 
 -- what stands behind is left
 pub adds-front : (a rest : List ℤ) (at : ℕ) (zs : List ℤ) → at + length zs ≤ length a → adds (a ++ rest) at zs ≡ adds a at zs ++ rest

@@ -20,9 +20,9 @@ use Rattle.volumes.specs.Sheets.{parties_of, parties}
 use Rattle.settlement.specs.SectionsInner.{point_count_in}
 use Rattle.settlement.specs.SectionsLaws.{points-counted}
 use Rattle.sheets.specs.PartiesInner.{parties_to, parties_in}
-use Rattle.integers.specs.CountsLaws.{times-append, mem-times}
-use Rattle.integers.specs.RangesLaws.{range-more}
-use Rattle.integers.specs.ListsLaws.{flat_map-append}
+use Rattle.integers.proofs.CountsLaws.{times-append, mem-times}
+use Rattle.integers.proofs.RangesLaws.{range-more}
+use Rattle.integers.proofs.ListsLaws.{flat_map-append}
 
 -- in the columns of one point
 module _ (version party : ℕ) (point : Point) where

@@ -13,13 +13,13 @@ use Rattle.book.specs.Book.{Book}
 use Rattle.volumes.specs.Quarters.{quarter_hours}
 use Rattle.volumes.specs.Baseline.{point_of}
 use Rattle.volumes.specs.Settlement.{row_width, source_correction, fsp_correction, injection_correction, corrections, row, rows_of}
-use Rattle.volumes.specs.SettlementLaws.{row-length, rows_of-length}
+use Rattle.volumes.proofs.SettlementLaws.{row-length, rows_of-length}
 use Rattle.volumes.specs.Sheets.{start_position, correction_at}
-use Rattle.volumes.specs.SheetsLaws.{correction-inside}
+use Rattle.volumes.proofs.SheetsLaws.{correction-inside}
 use Rattle.volumes.specs.SoundInner.{OnTerms, Sound}
-use Rattle.volumes.specs.WidthsLaws.{bounded-more, source-bounded, fsp-bounded, injection-bounded}
+use Rattle.volumes.proofs.WidthsLaws.{bounded-more, source-bounded, fsp-bounded, injection-bounded}
 use Rattle.sheets.specs.SharesInner.{gets, source_in, fsp_in, injection_in, gets_at, gets_of, RowsSmall, corrections_for}
-use Rattle.integers.specs.RangesLaws.{map-range-cong}
+use Rattle.integers.proofs.RangesLaws.{map-range-cong}
 
 -- the j-th of the k-th part, where all parts have one width
 get_d_part : {A : Type 0} (w : ℕ) (f : ℕ → List A) (a n k j : ℕ) (d : A) → ((i : ℕ) → length (f i) ≡ w) → k < n → j < w → get_or (flat_map f (range a n)) (w * k + j) d ≡ get_or (f (a + k)) j d

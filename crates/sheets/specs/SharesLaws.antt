@@ -8,16 +8,16 @@ use Rattle.std.proofs.Math.ListN.{length, length-map}
 use Rattle.std.specs.Int.{w64}
 use Rattle.integers.specs.Ranges.{range}
 use Rattle.integers.specs.Sums.{sum_by}
-use Rattle.integers.specs.ZLaws.{eq_z, sum}
+use Rattle.integers.proofs.ZLaws.{eq_z, sum}
 use Rattle.book.specs.declared.Point.{Point}
 use Rattle.book.specs.Header.{splits}
 use Rattle.volumes.specs.Sheets.{parties_of, share_of}
 use Rattle.volumes.specs.SoundInner.{Bounded}
-use Rattle.volumes.specs.WidthsLaws.{bounded-zero}
+use Rattle.volumes.proofs.WidthsLaws.{bounded-zero}
 use Rattle.sheets.specs.AddsInner.{adds, Addable}
 use Rattle.sheets.specs.AddsLaws.{adds-next, adds-behind}
 use Rattle.sheets.specs.SharesInner.{gets, gets_at, gets_of}
-use Rattle.integers.specs.RangesLaws.{length-range, get_d-made}
+use Rattle.integers.proofs.RangesLaws.{length-range, get_d-made}
 
 -- three summands and 0, regrouped
 thrice : (a b c : ℤ) → a +ℤ (b +ℤ (c +ℤ pos 0)) ≡ a +ℤ b +ℤ c

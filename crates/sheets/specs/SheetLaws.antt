@@ -13,19 +13,19 @@ use Rattle.quarters.specs.declared.Calendar.{Calendar}
 use Rattle.book.specs.declared.Engagement.{Engagement}
 use Rattle.book.specs.Book.{Book}
 use Rattle.quarters.specs.Quarters.{month_quarters}
-use Rattle.quarters.specs.QuartersLaws.{cell-position}
+use Rattle.quarters.proofs.QuartersLaws.{cell-position}
 use Rattle.volumes.specs.Quarters.{quarter_hours}
-use Rattle.volumes.specs.QuartersLaws.{position-inside}
+use Rattle.volumes.proofs.QuartersLaws.{position-inside}
 use Rattle.volumes.specs.Sheets.{start_position, covers, correction_at, sheet_at, sheet}
-use Rattle.volumes.specs.SheetsLaws.{covers-before, covers-after}
+use Rattle.volumes.proofs.SheetsLaws.{covers-before, covers-after}
 use Rattle.volumes.specs.SoundInner.{Placed, Sound}
-use Rattle.volumes.specs.WidthsLaws.{sheet-part-fits}
+use Rattle.volumes.proofs.WidthsLaws.{sheet-part-fits}
 use Rattle.sheets.specs.AddsInner.{adds, Addable}
 use Rattle.sheets.specs.SharesInner.{corrections_for, first_cell}
 use Rattle.sheets.specs.CellsLaws.{cells-length, cell, cells-zero, adds-cells}
 use Rattle.sheets.specs.PartsInner.{part_at, sheet_to}
-use Rattle.integers.specs.RangesLaws.{length-range, get_d-made, map-range-cong}
-use Rattle.integers.specs.SumsLaws.{sum-append}
+use Rattle.integers.proofs.RangesLaws.{length-range, get_d-made, map-range-cong}
+use Rattle.integers.proofs.SumsLaws.{sum-append}
 
 -- no engagement, and all of them
 part_none : (book : Book) (party p : ℕ) → part_at book party 0 p ≡ pos 0

@@ -11,7 +11,7 @@ use Rattle.message.specs.declared.ReadAnswer.TheVariants.{File, Refused}
 use Rattle.message.specs.Rows.{numbers}
 use Rattle.message.specs.Messages.{read_message}
 use Rattle.message.specs.Calls.{read_refusal, message_in, read_answer, ReadCalled}
-use Rattle.message.specs.CallsLaws.{called-refused, one-reading}
+use Rattle.message.proofs.CallsLaws.{called-refused, one-reading}
 use Rattle.message.specs.declared.WriteAnswer.{WriteAnswer}
 use Rattle.writer.specs.WriteCalls.{WriteCalled}
 use Rattle.settlement.specs.declared.settle.Settled.{Settled}

@@ -16,7 +16,7 @@ use Rattle.integers.specs.Sums.{naturals, sum_by, sum_of}
 use Rattle.integers.specs.All.{All}
 use Rattle.integers.specs.Keep.{keep}
 use Rattle.integers.specs.Ascending.{ascending}
-use Rattle.integers.specs.AscendingLaws.{ascending-once}
+use Rattle.integers.proofs.AscendingLaws.{ascending-once}
 use Rattle.grains.specs.Grains.{per_watt}
 use Rattle.book.specs.declared.Supply.{Supply}
 use Rattle.book.specs.declared.Supply.TheVariants.{OffTake, Injection}
@@ -31,31 +31,31 @@ use Rattle.volumes.specs.Baseline.{point_of}
 use Rattle.volumes.specs.Settlement.{delivered, row_count, book_refusal}
 use Rattle.volumes.specs.SoundInner.{Sound}
 use Rattle.refusals.specs.RefusalsLaws.{not_first}
-use Rattle.volumes.specs.SoundLaws.{sound}
+use Rattle.volumes.proofs.SoundLaws.{sound}
 use Rattle.volumes.specs.Sheets.{start_position, covers, quarter_at}
 use Rattle.volumes.specs.declared.Series.{Series}
 use Rattle.volumes.specs.Series.{Kind, takes, receiver_of, partner_of, same_supply, same_direction, is_point, is_engagement, grains_of, grains_at, series_watts, series_of}
-use Rattle.volumes.specs.SettlementLaws.{passing}
+use Rattle.volumes.proofs.SettlementLaws.{passing}
 use Rattle.message.specs.Contents.{Partner}
 use Rattle.message.specs.Valid.{IsPartner}
 use Rattle.message.specs.Group.{spread}
 use Rattle.message.specs.Rows.{Row, series_rows, partner_rows, rows_of}
-use Rattle.message.specs.SizeLaws.{file-most}
+use Rattle.message.proofs.SizeLaws.{file-most}
 use Rattle.reports.specs.RegisteredInner.{Registered}
-use Rattle.reports.specs.RegisteredLaws.{registered}
+use Rattle.reports.proofs.RegisteredLaws.{registered}
 use Rattle.reports.specs.FileRows.{is_taken, partner_numbers, directions, partners_of, file_of, file_text, file_rows, observation_by}
-use Rattle.reports.specs.CarryLaws.{row_at, rows-sum}
-use Rattle.reports.specs.FormLaws.{partners-few, partners-valid, file-valid}
+use Rattle.reports.proofs.CarryLaws.{row_at, rows-sum}
+use Rattle.reports.proofs.FormLaws.{partners-few, partners-valid, file-valid}
 use Rattle.series.specs.VolumesLaws.{volumes-most}
 use Rattle.reports.specs.Calls.{text_of, file_refusal, file_says, file_answer}
-use Rattle.reports.specs.CallsLaws.{kind-is, InForm, file-in-form}
+use Rattle.reports.proofs.CallsLaws.{kind-is, InForm, file-in-form}
 use Rattle.reports.specs.Demand3.{is_file}
 use Rattle.kinds.specs.Numbers.{kind_numbered, kind_number}
 use Rattle.kinds.specs.NumbersLaws.{kind-numbered}
 use Rattle.toe_c.specs.FileSizeInner.{file_most}
-use Rattle.integers.specs.AllLaws.{all_map, all_of_map, all_append}
-use Rattle.integers.specs.CountsLaws.{times-mem}
-use Rattle.integers.specs.SumsLaws.{sum-zero, sum-all, sum-swap, sum-once, sum-absent}
+use Rattle.integers.proofs.AllLaws.{all_map, all_of_map, all_append}
+use Rattle.integers.proofs.CountsLaws.{times-mem}
+use Rattle.integers.proofs.SumsLaws.{sum-zero, sum-all, sum-swap, sum-once, sum-absent}
 use Rattle.reports.specs.FileRowsInner.{positions, observation_at}
 
 -- ---- sums

@@ -6,7 +6,7 @@ use Rattle.quarters.specs.Quarters.{month_quarters}
 use Rattle.refusals.specs.Refusals.{Refusal}
 use Rattle.refusals.specs.RefusalsLaws.{Each, each-under, each-unless, each-short}
 use Rattle.book.specs.Book.{book_of}
-use Rattle.volumes.specs.NumbersLaws.{Listed, settling-listed}
+use Rattle.volumes.proofs.NumbersLaws.{Listed, settling-listed}
 use Rattle.volumes.specs.Settlement.{row_count, settling_refusal}
 use Rattle.settlement.specs.declared.settle.Settled.{Settled}
 use Rattle.settlement.specs.Calls.{settle_says, settle_answer, SettleCalled}
@@ -26,7 +26,7 @@ use Rattle.writer.specs.WriteCalls.{text_from, write_refusal, write_says, write_
 use Rattle.toe_c.specs.Codes.{Reply, counts, refuses, settle_reply, sheet_reply, file_reply, read_reply, write_reply, refusal_code, Decoded, with_facts}
 use Rattle.reports.specs.declared.SheetAnswer.{SheetAnswer}
 use Rattle.reports.specs.declared.FileAnswer.{FileAnswer}
-use Rattle.reports.specs.NumbersLaws.{sheet-listed, file-listed}
+use Rattle.reports.proofs.NumbersLaws.{sheet-listed, file-listed}
 use Rattle.reports.specs.Calls.{sheet_refusal, sheet_says, sheet_answer, SheetCalled, text_of, file_refusal, file_says, file_answer, FileCalled}
 use Rattle.volumes.specs.Series.{Kind}
 use Rattle.toe_c.specs.SmallInner.{Small, SmallReply}

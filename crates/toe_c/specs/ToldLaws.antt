@@ -9,10 +9,10 @@ use Rattle.formats.specs.Format.{Res, got, bad}
 use Rattle.moments.specs.Ids.{is_transaction_id}
 use Rattle.book.specs.Book.{book_of}
 use Rattle.quarters.specs.Quarters.{month_quarters}
-use Rattle.quarters.specs.QuartersLaws.{month-quarters-most}
+use Rattle.quarters.proofs.QuartersLaws.{month-quarters-most}
 use Rattle.volumes.specs.Settlement.{row_count, book_refusal, settling_refusal}
-use Rattle.volumes.specs.SettlementLaws.{passing}
-use Rattle.volumes.specs.SoundLaws.{sound}
+use Rattle.volumes.proofs.SettlementLaws.{passing}
+use Rattle.volumes.proofs.SoundLaws.{sound}
 use Rattle.volumes.specs.Series.{Kind}
 use Rattle.settlement.specs.declared.settle.Settled.{Settled}
 use Rattle.settlement.specs.Calls.{settle_answer, SettleCalled}
@@ -22,8 +22,8 @@ use Rattle.message.specs.declared.WriteAnswer.{WriteAnswer}
 use Rattle.message.specs.Valid.{is_moment}
 use Rattle.message.specs.Rows.{Row, Message, contents}
 use Rattle.message.specs.Messages.{message_bytes, read_message}
-use Rattle.message.specs.FileLaws.{read-is-written}
-use Rattle.message.specs.SizeLaws.{file-least}
+use Rattle.message.proofs.FileLaws.{read-is-written}
+use Rattle.message.proofs.SizeLaws.{file-least}
 use Rattle.message.specs.RowsLaws.{rows-undo}
 use Rattle.message.specs.Calls.{facts_of, read_refusal, message_in, read_answer}
 use Rattle.writer.specs.Rows.{is_rows, rows_message}

@@ -1,7 +1,7 @@
 -- What a book has that passes refusals 1 to 7 (document 01, "The book"): the ranges on which its volumes rest.
 use mathlib.Core.List.{Memᴰ}
 use Rattle.std.specs.Prelude.{ℕ, ◌+◌, ◌^◌, ◌≤◌, ◌<◌, length, ℤ}
-use Rattle.integers.specs.ZLaws.{up, dn}
+use Rattle.integers.proofs.ZLaws.{up, dn}
 use Rattle.quarters.specs.declared.Calendar.{Calendar}
 use Rattle.book.specs.declared.Point.{Point}
 use Rattle.book.specs.declared.Engagement.{Engagement}

@@ -1,6 +1,6 @@
 -- A reading raised by 2^31 watts, which has no sign; a missing one is 0.
 use Rattle.std.specs.Prelude.{◌≡◌, ℕ, List, pos, ◌+ℤ◌}
-use Rattle.integers.specs.ZLaws.{up, Within}
+use Rattle.integers.proofs.ZLaws.{up, Within}
 use Rattle.wire.specs.declared.Reading.{Reading}
 use Rattle.wire.specs.declared.Reading.TheVariants.{Watts, Missing}
 use Rattle.wire.specs.Readings.{watts_at, reading_at}

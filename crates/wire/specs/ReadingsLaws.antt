@@ -3,7 +3,7 @@ use Rattle.std.specs.Prelude.{◌≡◌, ℕ, suc, ◌+◌, ◌%◌, ◌^◌, �
 use Rattle.std.proofs.Common.{arith, to_z, eqb-true, ltb-true, ltb-false}
 use Rattle.std.specs.Int.{w32}
 use Rattle.std.proofs.lemmas.Bool.{eqb-false}
-use Rattle.integers.specs.ZLaws.{sum, Over, Within, low, high}
+use Rattle.integers.proofs.ZLaws.{sum, Over, Within, low, high}
 use Rattle.wire.specs.Readings.{reading_of, missing_if}
 use Rattle.wire.specs.declared.Reading.TheVariants.{Watts, Missing}
 use Rattle.wire.specs.ReadingsInner.{raised, raise}

@@ -1,1 +1,10 @@
 mod Cited
+pub mod CalledLaws
+pub mod CaseFWrittenLaws
+pub mod ContentsLaws
+pub mod OrderLaws
+pub mod RoundTripLaws
+pub mod RowsLaws
+pub mod RunsLaws
+pub mod StepsLaws
+pub mod WriteCallsLaws

@@ -1,16 +1,7 @@
 pub mod Order
-pub mod OrderLaws
 pub mod Rows
 pub mod RowsInner
-pub mod RowsLaws
 pub mod WriteCalls
-pub mod WriteCallsLaws
 pub mod RoundTrip
-pub mod RoundTripLaws
-pub mod CaseFWrittenLaws
-pub mod StepsLaws
 pub mod RunsInner
-pub mod RunsLaws
 pub mod ContentsInner
-pub mod ContentsLaws
-pub mod CalledLaws

@@ -1,6 +1,6 @@
 -- `change` is safe: the next month is a month, and its lead days are this one's.
 use Rattle.std.proofs.Common.{arith, rules}
-use Rattle.calendar.specs.DatesLaws.{month-length, next-is-month}
+use Rattle.calendar.proofs.DatesLaws.{month-length, next-is-month}
 use Rattle.calendar_vectors.proofs.change.Goals as goal
 
 pub clock_of-requires-2 : goal.clock_of-requires-2

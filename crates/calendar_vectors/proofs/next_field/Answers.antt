@@ -1,6 +1,6 @@
 -- `next_field` is safe: the next month is a month.
 use Rattle.std.proofs.Common.{rules}
-use Rattle.calendar.specs.DatesLaws.{next-is-month}
+use Rattle.calendar.proofs.DatesLaws.{next-is-month}
 use Rattle.calendar_vectors.proofs.next_field.Goals as goal
 
 pub offset_hours-requires : goal.offset_hours-requires

@@ -1,6 +1,6 @@
 -- A counter is a number that isn't 0.
 use native.Mathlib.Omega.{arith}
-use Rattle.cursor.specs.MovesLaws.{counter-none, counter-some}
+use Rattle.cursor.proofs.MovesLaws.{counter-none, counter-some}
 use Rattle.cursor.proofs.counter_by.Goals as goal
 
 pub returns-then-n-eq0 : goal.returns-then-n-eq0

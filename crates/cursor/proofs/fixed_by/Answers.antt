@@ -1,6 +1,6 @@
 -- The digits are read where the cursor stands; more than 18 find none.
 use mathlib.Core.Path.{◌∙◌}
-use Rattle.cursor.specs.MovesLaws.{fixed-is, fixed_off}
+use Rattle.cursor.proofs.MovesLaws.{fixed-is, fixed_off}
 use Rattle.cursor.proofs.fixed_by.Goals as goal
 
 pub returns-then-n-gt18 : goal.returns-then-n-gt18

@@ -1,6 +1,6 @@
 -- The name is read where the cursor stands.
 use mathlib.Core.Path.{◌∙◌}
-use Rattle.cursor.specs.MovesLaws.{name-is}
+use Rattle.cursor.proofs.MovesLaws.{name-is}
 use Rattle.cursor.proofs.name_by.Goals as goal
 
 pub returns : goal.returns

@@ -1,6 +1,6 @@
 -- The number is read where the cursor stands; a limit below 9 finds none.
 use mathlib.Core.Path.{◌∙◌}
-use Rattle.cursor.specs.MovesLaws.{number_is, number-off}
+use Rattle.cursor.proofs.MovesLaws.{number_is, number-off}
 use Rattle.cursor.proofs.number_by.Goals as goal
 
 pub returns-then-max-lt9 : goal.returns-then-max-lt9

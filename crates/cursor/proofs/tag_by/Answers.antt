@@ -1,6 +1,6 @@
 -- The tag is read where the cursor stands.
 use mathlib.Core.Path.{◌∙◌}
-use Rattle.cursor.specs.MovesLaws.{tag_is}
+use Rattle.cursor.proofs.MovesLaws.{tag_is}
 use Rattle.cursor.proofs.tag_by.Goals as goal
 
 pub returns : goal.returns

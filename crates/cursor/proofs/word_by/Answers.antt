@@ -1,6 +1,6 @@
 -- The word is read where the cursor stands.
 use mathlib.Core.Path.{◌∙◌}
-use Rattle.cursor.specs.MovesLaws.{word-is}
+use Rattle.cursor.proofs.MovesLaws.{word-is}
 use Rattle.cursor.proofs.word_by.Goals as goal
 
 pub returns : goal.returns

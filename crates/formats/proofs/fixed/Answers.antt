@@ -1,5 +1,5 @@
 -- Where n digits stand, `fixed_at` says their value.
-use Rattle.formats.specs.PlaceLaws.{fixed-there, fixed-none}
+use Rattle.formats.proofs.PlaceLaws.{fixed-there, fixed-none}
 use Rattle.formats.proofs.fixed.Goals as goal
 
 pub returns-in_default-fixed_at : goal.returns-in_default-fixed_at

@@ -7,7 +7,7 @@ use Rattle.formats.specs.declared.Mark.TheVariants.{At}
 use Rattle.formats.specs.Combine.{strip}
 use Rattle.formats.specs.Name.{name_byte, name_parse}
 use Rattle.formats.specs.PlaceInner.{Parsed}
-use Rattle.formats.specs.PlaceLaws.{not_there, span-room, name-short, name-long, name-there}
+use Rattle.formats.proofs.PlaceLaws.{not_there, span-room, name-short, name-long, name-there}
 use Rattle.formats.proofs.name.Goals as goal
 
 pub returns-then-n-least : goal.returns-then-n-least

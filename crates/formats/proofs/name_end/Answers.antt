@@ -4,7 +4,7 @@ use lib.ListN.{length}
 use native.Mathlib.Omega.{arith}
 use borrow.Author.Rules.{rules}
 use Rattle.formats.specs.Name.{name_byte}
-use Rattle.formats.specs.PlaceLaws.{span-short, span-stop, span-step}
+use Rattle.formats.proofs.PlaceLaws.{span-short, span-stop, span-step}
 use Rattle.formats.proofs.name_end.Goals as goal
 
 pub returns-then-not-is_name_byte : goal.returns-then-not-is_name_byte

@@ -10,12 +10,12 @@ use native.Mathlib.Omega.{arith}
 use borrow.Author.Rules.{rules}
 use borrow.Author.Tests.{eq-eqb, ne_eqb, le-leb, lt-leb, lt-ltb, le-ltb}
 use Rattle.text.specs.Decimal.{digit}
-use Rattle.text.specs.DecimalLaws.{digit-is}
+use Rattle.text.proofs.DecimalLaws.{digit-is}
 use Rattle.formats.specs.Format.{got, bad, pick}
 use Rattle.formats.specs.declared.Mark.TheVariants.{At, No}
 use Rattle.formats.specs.Numbers.{number_parse, more_parse}
 use Rattle.formats.specs.PlaceInner.{Parsed}
-use Rattle.formats.specs.PlaceLaws.{parsed, not_there, number_short, number_step, more-short, more-step}
+use Rattle.formats.proofs.PlaceLaws.{parsed, not_there, number_short, number_step, more-short, more-step}
 use Rattle.formats.proofs.number_at.Goals as goal
 
 -- the loop's equation, one byte on

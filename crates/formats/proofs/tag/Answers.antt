@@ -1,6 +1,6 @@
 -- The tag stands at the place exactly where `matches` says so.
 use mathlib.Core.Path.{sym, ◌∙◌}
-use Rattle.formats.specs.PlaceLaws.{tag-there, tag-none}
+use Rattle.formats.proofs.PlaceLaws.{tag-there, tag-none}
 use Rattle.formats.proofs.tag.Goals as goal
 
 pub returns-then-not-matches : goal.returns-then-not-matches

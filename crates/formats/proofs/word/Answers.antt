@@ -1,5 +1,5 @@
 -- The second word is looked for where the first is not.
-use Rattle.formats.specs.PlaceLaws.{word_first, word-second}
+use Rattle.formats.proofs.PlaceLaws.{word_first, word-second}
 use Rattle.formats.proofs.word.Goals as goal
 
 pub returns-in-At : goal.returns-in-At

@@ -4,7 +4,7 @@ use mathlib.Core.Bool.{true, false}
 use Prim.Native.Nat.{ℕ, ◌+◌, ◌-◌}
 use lib.ListN.{take, drop}
 use Rattle.message.specs.Valid.{is_real, is_moment}
-use Rattle.formats.specs.ExactlyLaws.{exactly-there, exactly-none, exactly-short}
+use Rattle.formats.proofs.ExactlyLaws.{exactly-there, exactly-none, exactly-short}
 use native.Mathlib.Omega.{arith}
 use Rattle.message.proofs.moment_at.Goals as goal
 

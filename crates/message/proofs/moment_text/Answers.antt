@@ -1,6 +1,6 @@
 -- The write fills the whole array.
 use mathlib.Core.Path.{◌∙◌}
-use Rattle.text.specs.WrittenLaws.{written-whole}
+use Rattle.text.proofs.WrittenLaws.{written-whole}
 use Rattle.moments.specs.MomentsLaws.{length-moment}
 use Rattle.message.proofs.moment_text.Goals as goal
 

@@ -2,7 +2,7 @@
 use mathlib.Core.Path.{◌≡◌, ap}
 use Prim.Native.Nat.{ℕ, ◌-◌, ◌*◌}
 use Rattle.calendar.specs.Dates.{day_number}
-use Rattle.calendar.specs.DatesLaws.{number-most}
+use Rattle.calendar.proofs.DatesLaws.{number-most}
 use Rattle.moments.specs.MomentsLaws.{real-is, real-month, real-day, instant-clock}
 use native.Mathlib.Omega.{arith}
 use Rattle.moments.specs.MomentsInner.{millis, clock, instant}

@@ -1,5 +1,5 @@
 -- `period_end` meets its contract: the start of the next month.
-use Rattle.calendar.specs.DatesLaws.{next-is-month}
+use Rattle.calendar.proofs.DatesLaws.{next-is-month}
 use Rattle.moments.specs.Moments.{period_end}
 use Rattle.moments.proofs.period_end.Goals as goal
 

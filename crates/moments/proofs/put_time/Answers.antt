@@ -2,7 +2,7 @@
 use Rattle.text.specs.Ascii.{bytes}
 use Rattle.text.specs.Decimal.{fixed}
 use Rattle.moments.specs.Moments.{time_bytes}
-use Rattle.text.specs.WrittenLaws.{and_then}
+use Rattle.text.proofs.WrittenLaws.{and_then}
 use native.Mathlib.Omega.{arith}
 use Rattle.moments.proofs.put_time.Goals as goal
 

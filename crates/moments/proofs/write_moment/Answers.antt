@@ -1,7 +1,7 @@
 -- `write_moment` meets its contract: three writes, one behind the other.
 use Rattle.text.specs.Ascii.{bytes}
 use Rattle.text.specs.Decimal.{fixed}
-use Rattle.text.specs.WrittenLaws.{and_then}
+use Rattle.text.proofs.WrittenLaws.{and_then}
 use Rattle.moments.specs.Moments.{date_bytes, time_bytes, moment_bytes}
 use native.Mathlib.Omega.{arith}
 use Rattle.moments.proofs.write_moment.Goals as goal

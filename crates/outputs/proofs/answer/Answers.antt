@@ -1,5 +1,5 @@
 -- The line is judged, then the length of the input, then the file call.
-use Rattle.outputs.specs.OutputLaws.{no_line, too_long}
+use Rattle.outputs.proofs.OutputLaws.{no_line, too_long}
 use borrow.Author.Rules.{rules}
 use Rattle.outputs.proofs.answer.Goals as goal
 

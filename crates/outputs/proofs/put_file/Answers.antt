@@ -1,5 +1,5 @@
 -- The parts of the input are lent to the file call; where it refuses, the line of its refusal is written over what it left unchanged.
-use Rattle.outputs.specs.OutputLaws.{inside, parts-on, file-accepted, file-refused}
+use Rattle.outputs.proofs.OutputLaws.{inside, parts-on, file-accepted, file-refused}
 use native.Mathlib.Omega.{arith}
 use Rattle.outputs.proofs.put_file.Goals as goal
 

@@ -1,8 +1,8 @@
 -- Five writes, one behind the other; a number of 64 bits has at most 20 digits.
 use Rattle.text.specs.Ascii.{bytes}
-use Rattle.text.specs.WrittenLaws.{and_then}
+use Rattle.text.proofs.WrittenLaws.{and_then}
 use Rattle.outputs.specs.Output.{refused_line}
-use Rattle.outputs.specs.OutputLaws.{digits-few}
+use Rattle.outputs.proofs.OutputLaws.{digits-few}
 use native.Mathlib.Omega.{arith}
 use Rattle.outputs.proofs.put_refused.Goals as goal
 

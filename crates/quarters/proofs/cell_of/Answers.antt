@@ -1,7 +1,7 @@
 -- The quarter-hour of the calendar, counted from the month's first.
 use native.Mathlib.Omega.{arith}
 use Rattle.quarters.specs.Quarters.{position}
-use Rattle.quarters.specs.QuartersLaws.{day-start-mono}
+use Rattle.quarters.proofs.QuartersLaws.{day-start-mono}
 use Rattle.quarters.proofs.cell_of.Goals as goal
 
 pub overflow_sub-result : goal.overflow_sub-result

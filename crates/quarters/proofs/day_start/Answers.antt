@@ -1,6 +1,6 @@
 -- 96 a day, 4 fewer or more after the change.
 use borrow.Author.Tests.{lt-ltb, le-ltb}
-use Rattle.quarters.specs.QuartersLaws.{closed_by, day-start-is}
+use Rattle.quarters.proofs.QuartersLaws.{closed_by, day-start-is}
 use Rattle.quarters.proofs.day_start.Goals as goal
 
 pub returns-in-Same : goal.returns-in-Same

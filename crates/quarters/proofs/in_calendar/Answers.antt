@@ -1,5 +1,5 @@
 -- The start of its day, and so many more.
-use Rattle.quarters.specs.QuartersLaws.{day-start-few}
+use Rattle.quarters.proofs.QuartersLaws.{day-start-few}
 use native.Mathlib.Omega.{arith}
 use Rattle.quarters.proofs.in_calendar.Goals as goal
 

@@ -3,9 +3,9 @@ use mathlib.Core.Path.{ap₂}
 use Prim.Native.Nat.{◌-◌}
 use native.Mathlib.Omega.{arith}
 use Rattle.quarters.specs.Quarters.{days_of}
-use Rattle.quarters.specs.QuartersLaws.{days-few}
+use Rattle.quarters.proofs.QuartersLaws.{days-few}
 use Rattle.quarters.specs.Quarters.{month_quarters}
-use Rattle.quarters.specs.QuartersLaws.{day-start-mono}
+use Rattle.quarters.proofs.QuartersLaws.{day-start-mono}
 use Rattle.quarters.proofs.month_quarters.Goals as goal
 
 pub overflow_sub-result : goal.overflow_sub-result

@@ -1,7 +1,7 @@
 -- Each point before it has the calendar's quarter-hours.
 use mathlib.Core.Path.{ap}
 use Prim.Native.Nat.{ℕ, ◌*◌}
-use Rattle.quarters.specs.QuartersLaws.{origin-few}
+use Rattle.quarters.proofs.QuartersLaws.{origin-few}
 use native.Mathlib.Omega.{arith}
 use Rattle.quarters.proofs.origin_of.Goals as goal
 

@@ -2,7 +2,7 @@
 use native.Mathlib.Omega.{arith}
 use borrow.Author.Tests.{eq-eqb, ne_eqb}
 use Rattle.quarters.specs.Quarters.{quarters_in_month}
-use Rattle.quarters.specs.QuartersLaws.{days-most}
+use Rattle.quarters.proofs.QuartersLaws.{days-most}
 use Rattle.quarters.proofs.quarters_in_month.Goals as goal
 
 pub returns-then-month-eq3 : goal.returns-then-month-eq3

@@ -1,5 +1,5 @@
 -- The calendar ends where the day after its last would start.
-use Rattle.quarters.specs.QuartersLaws.{days-few}
+use Rattle.quarters.proofs.QuartersLaws.{days-few}
 use native.Mathlib.Omega.{arith}
 use Rattle.quarters.proofs.quarters_of.Goals as goal
 

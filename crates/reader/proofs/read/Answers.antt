@@ -1,6 +1,6 @@
 -- A refusal leaves the rows; what was judged a file fills them in its second reading.
 use mathlib.Core.Path.{sym, ◌∙◌}
-use Rattle.message.specs.CallsLaws.{called-refused}
+use Rattle.message.proofs.CallsLaws.{called-refused}
 use Rattle.reader.specs.FactsLaws.{read-filled}
 use Rattle.reader.proofs.read.Goals as goal
 

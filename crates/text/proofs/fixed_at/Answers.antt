@@ -11,7 +11,7 @@ use borrow.Author.Rules.{rules}
 use borrow.Author.Tests.{le-leb, lt-leb, not-true, not-false}
 use Rattle.text.specs.declared.Number.TheVariants.{Value, NotDigits}
 use Rattle.text.specs.Decimal.{digit, digits, value_from, fixed_at}
-use Rattle.text.specs.DecimalLaws.{digit-is, above_zero, above-push, below-within}
+use Rattle.text.proofs.DecimalLaws.{digit-is, above_zero, above-push, below-within}
 use Rattle.text.proofs.fixed_at.Invariants.{number_from, part}
 use Rattle.text.proofs.fixed_at.Goals as goal
 

@@ -8,7 +8,7 @@ use native.Mathlib.Omega.{arith}
 use borrow.Author.Rules.{rules}
 use borrow.Author.Tests.{ne_eqb}
 use Rattle.text.specs.Tag.{begins}
-use Rattle.text.specs.TagLaws.{begins-no-room, begins-end, begins-step}
+use Rattle.text.proofs.TagLaws.{begins-no-room, begins-end, begins-step}
 use Rattle.text.proofs.matches.Goals as goal
 
 pub returns-then-s-tag : goal.returns-then-s-tag

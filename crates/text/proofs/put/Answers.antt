@@ -8,7 +8,7 @@ use native.Mathlib.Omega.{arith}
 use native.Mathlib.Numerals.{add-one}
 use borrow.Author.Rules.{rules}
 use Rattle.text.specs.WrittenInner.{written}
-use Rattle.text.specs.WrittenLaws.{written-nil, written-snoc}
+use Rattle.text.proofs.WrittenLaws.{written-nil, written-snoc}
 use Rattle.text.proofs.put.Goals as goal
 
 -- one byte more

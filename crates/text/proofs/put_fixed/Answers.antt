@@ -6,9 +6,9 @@ use lib.ListN.{length, set, length-set}
 use native.Mathlib.Omega.{arith}
 use borrow.Author.Rules.{rules}
 use Rattle.text.specs.Decimal.{above, fixed}
-use Rattle.text.specs.DecimalLaws.{above_zero, above-suc, length-fixed}
+use Rattle.text.proofs.DecimalLaws.{above_zero, above-suc, length-fixed}
 use Rattle.text.specs.WrittenInner.{written}
-use Rattle.text.specs.WrittenLaws.{written-nil, written-cons}
+use Rattle.text.proofs.WrittenLaws.{written-nil, written-cons}
 use Rattle.text.proofs.put_fixed.Goals as goal
 
 -- one digit more

@@ -1,5 +1,5 @@
 -- A number without leading zeros is one of as many digits as it has.
-use Rattle.text.specs.DecimalLaws.{plain-fixed}
+use Rattle.text.proofs.DecimalLaws.{plain-fixed}
 use Rattle.text.proofs.put_plain.Goals as goal
 
 pub returns : goal.returns

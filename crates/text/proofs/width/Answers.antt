@@ -6,7 +6,7 @@ use native.Mathlib.Omega.{arith}
 use native.Mathlib.Numerals.{add-one}
 use borrow.Author.Rules.{rules}
 use Rattle.text.specs.Decimal.{above, plain}
-use Rattle.text.specs.DecimalLaws.{above_zero, above-suc, fewer, plain-is, length-fixed}
+use Rattle.text.proofs.DecimalLaws.{above_zero, above-suc, fewer, plain-is, length-fixed}
 use Rattle.text.proofs.width.Goals as goal
 
 counted : (n v : ℕ) → 1 ≤ n → above n v ≡ 0 → (1 < n → 0 < above (n - 1) v) → n ≡ length (plain v)

@@ -1,7 +1,7 @@
 -- The output lies in the buffer that it was written to.
 use mathlib.Core.Path.{sym}
 use lib.Seq.{length-take-le}
-use Rattle.outputs.specs.OutputLaws.{printed-fits}
+use Rattle.outputs.proofs.OutputLaws.{printed-fits}
 use native.Mathlib.Omega.{arith}
 use borrow.Author.Rules.{rules}
 use Rattle.toe_vectors.proofs.answer.Statement.{statement}

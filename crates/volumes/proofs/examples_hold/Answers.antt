@@ -1,5 +1,5 @@
 -- P1 to P10 hold by computation.
-use Rattle.volumes.specs.ExamplesLaws.{checked}
+use Rattle.volumes.proofs.ExamplesLaws.{checked}
 use Rattle.volumes.proofs.examples_hold.Goals as goal
 
 pub returns : goal.returns

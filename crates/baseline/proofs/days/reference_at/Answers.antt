@@ -1,9 +1,9 @@
 -- The day's start, and the quarter-hour that stands for the engagement's: its number is at most 4 more.
 use mathlib.Core.Path.{ap₂}
 use Prim.Native.Nat.{◌+◌}
-use Rattle.quarters.specs.QuartersLaws.{day-start-few}
+use Rattle.quarters.proofs.QuartersLaws.{day-start-few}
 use Rattle.volumes.specs.Quarters.{reference}
-use Rattle.volumes.specs.QuartersLaws.{reference-near}
+use Rattle.volumes.proofs.QuartersLaws.{reference-near}
 use native.Mathlib.Omega.{arith}
 use Rattle.baseline.proofs.days.reference_at.Goals as goal
 

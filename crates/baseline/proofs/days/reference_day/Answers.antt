@@ -6,12 +6,12 @@ use Prim.Native.Nat.{ℕ, ◌+◌, ◌<◌}
 use lib.Dec.{eqb}
 use lib.ListN.{length, get_or}
 use borrow.Author.Tests.{not-true}
-use Rattle.integers.specs.TestsLaws.{both}
+use Rattle.integers.proofs.TestsLaws.{both}
 use Rattle.quarters.specs.Quarters.{is_clock_change, day_start}
-use Rattle.quarters.specs.QuartersLaws.{days-few}
+use Rattle.quarters.proofs.QuartersLaws.{days-few}
 use Rattle.book.specs.Register.{excludes}
 use Rattle.volumes.specs.Quarters.{reference}
-use Rattle.volumes.specs.QuartersLaws.{reference-most, day-before-inside}
+use Rattle.volumes.proofs.QuartersLaws.{reference-most, day-before-inside}
 use Rattle.volumes.specs.Baseline.{windowed, clear}
 use Rattle.baseline.specs.TallyInner.{Tallied}
 use Rattle.baseline.specs.RunsInner.{standing, StandsOn}

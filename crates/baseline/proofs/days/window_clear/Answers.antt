@@ -5,7 +5,7 @@ use Prim.Native.Nat.{suc, ◌-◌}
 use lib.Dec.{ltb}
 use borrow.Author.Tests.{le-ltb, lt-ltb}
 use native.Mathlib.Omega.{arith}
-use Rattle.volumes.specs.WindowsLaws.{changes_before, touches-is}
+use Rattle.volumes.proofs.WindowsLaws.{changes_before, touches-is}
 use Rattle.baseline.proofs.days.window_clear.Goals as goal
 
 pub returns-then-place-ge24 : goal.returns-then-place-ge24

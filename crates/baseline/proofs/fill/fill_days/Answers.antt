@@ -6,7 +6,7 @@ use Prim.Native.Nat.{ℕ, ◌+◌, ◌≤◌}
 use Rattle.wire.specs.declared.Reading.{Reading}
 use Rattle.volumes.specs.Quarters.{start, reference_quarter}
 use Rattle.quarters.specs.Quarters.{origin_of}
-use Rattle.volumes.specs.QuartersLaws.{start_is}
+use Rattle.volumes.proofs.QuartersLaws.{start_is}
 use Rattle.baseline.specs.declared.shown.Shown.{Shown}
 use Rattle.baseline.specs.NeedsInner.{looks_back}
 use Rattle.baseline.specs.RanksInner.{RankedTo}

@@ -1,7 +1,7 @@
 -- The one reading of method 0 is there, so it lies in the calendar.
 use mathlib.Core.Path.{refl, sym, ◌∙◌}
 use Prim.Native.Nat.{ℕ, ◌+◌}
-use Rattle.volumes.specs.QuartersLaws.{start_is}
+use Rattle.volumes.proofs.QuartersLaws.{start_is}
 use Rattle.baseline.specs.ShownInner.{before_in}
 use Rattle.baseline.specs.ShownLaws.{stands}
 use Rattle.baseline.specs.LevelsInner.{Lasts}

@@ -2,7 +2,7 @@
 use mathlib.Core.Path.{sym, ap, ap₂, ◌∙◌}
 use mathlib.Core.Bool.{◌&&◌}
 use Prim.Native.Nat.{ℕ, ◌+◌}
-use Rattle.volumes.specs.QuartersLaws.{start_is}
+use Rattle.volumes.proofs.QuartersLaws.{start_is}
 use Rattle.volumes.specs.Baseline.{complete}
 use Rattle.baseline.specs.TallyInner.{in_run}
 use Rattle.baseline.specs.ShownLaws.{stands}

@@ -4,7 +4,7 @@ use Prim.Native.Nat.{ℕ, ◌+◌, ◌-◌, ◌*◌, ◌≤◌}
 use lib.IntN.{pos, ◌*ℤ◌}
 use lib.ListN.{take}
 use Rattle.integers.specs.Sums.{sum_z}
-use Rattle.integers.specs.ZLaws.{Over}
+use Rattle.integers.proofs.ZLaws.{Over}
 use Rattle.volumes.specs.Baseline.{watts}
 use Rattle.grains.specs.Grains.{grains, share}
 use Rattle.baseline.specs.ShownInner.{window_in}

@@ -6,7 +6,7 @@ use mathlib.Core.Path.{subst, ◌∙◌}
 use lib.ListN.{take}
 use Prim.Native.Nat.{ℕ, ◌*◌}
 use native.Mathlib.Nat.{mul-one}
-use Rattle.integers.specs.ZLaws.{Over}
+use Rattle.integers.proofs.ZLaws.{Over}
 use Rattle.grains.specs.GrainsLaws.{shares-x, mean-over, mean-small}
 use native.Mathlib.Omega.{arith}
 use Rattle.wire.specs.ReadingsInner.{raise}

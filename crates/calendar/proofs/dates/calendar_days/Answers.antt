@@ -2,7 +2,7 @@
 use mathlib.Core.Path.{ap}
 use Prim.Native.Nat.{◌+◌}
 use Rattle.calendar.specs.Dates.{calendar_days}
-use Rattle.calendar.specs.DatesLaws.{month-length}
+use Rattle.calendar.proofs.DatesLaws.{month-length}
 use native.Mathlib.Omega.{arith}
 use Rattle.calendar.proofs.dates.calendar_days.Goals as goal
 

@@ -3,9 +3,9 @@ use mathlib.Core.Path.{refl, sym, ◌∙◌}
 use Prim.Native.Nat.{◌+◌}
 use lib.Dec.{lit≤, leb, ltb}
 use borrow.Author.Tests.{leb-true}
-use Rattle.integers.specs.TestsLaws.{both}
+use Rattle.integers.proofs.TestsLaws.{both}
 use Rattle.calendar.specs.Dates.{march_sunday, october_sunday}
-use Rattle.calendar.specs.DatesLaws.{number-most, calendar-most, inner-most, march-inner, october-inner}
+use Rattle.calendar.proofs.DatesLaws.{number-most, calendar-most, inner-most, march-inner, october-inner}
 use Rattle.calendar.specs.Clocks.{clock_of}
 use native.Mathlib.Omega.{arith}
 use Rattle.calendar.proofs.dates.clock_of.Goals as goal

@@ -1,6 +1,6 @@
 -- `day_number` meets its contract: the three sums are its summands, and their bounds keep it in range.
 use Rattle.calendar.specs.Dates.{day_number}
-use Rattle.calendar.specs.DatesLaws.{before-year, before-month}
+use Rattle.calendar.proofs.DatesLaws.{before-year, before-month}
 use native.Mathlib.Omega.{arith}
 use borrow.Author.Rules.{rules}
 use Rattle.calendar.proofs.dates.day_number.Goals as goal

@@ -3,7 +3,7 @@ use Prim.Native.Nat.{◌-◌}
 use mathlib.Core.Path.{◌≡◌, sym}
 use native.Mathlib.Omega.{arith}
 use borrow.Author.Rules.{rules}
-use Rattle.calendar.specs.DatesLaws.{Length, month-length, first-before, next-before}
+use Rattle.calendar.proofs.DatesLaws.{Length, month-length, first-before, next-before}
 use Rattle.calendar.proofs.dates.days_before_month.Goals.{After-month_length-days}
 use Rattle.calendar.proofs.dates.days_before_month.Goals as goal
 

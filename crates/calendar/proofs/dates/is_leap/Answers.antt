@@ -1,6 +1,6 @@
 -- `is_leap` meets its contract: the test by 100 says which of the other two decides.
 use mathlib.Core.Path.{sym}
-use Rattle.calendar.specs.DatesLaws.{leap-century, leap-other}
+use Rattle.calendar.proofs.DatesLaws.{leap-century, leap-other}
 use Rattle.calendar.proofs.dates.is_leap.Goals as goal
 
 pub returns-then-year-eq0 : goal.returns-then-year-eq0

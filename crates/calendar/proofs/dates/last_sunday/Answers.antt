@@ -2,7 +2,7 @@
 use mathlib.Core.Path.{◌≡◌}
 use Prim.Native.Nat.{◌+◌}
 use Rattle.calendar.specs.Dates.{last_sunday}
-use Rattle.calendar.specs.DatesLaws.{month-length, last-sunday}
+use Rattle.calendar.proofs.DatesLaws.{month-length, last-sunday}
 use native.Mathlib.Omega.{arith}
 use Rattle.calendar.proofs.dates.last_sunday.Goals.{After-weekday}
 use Rattle.calendar.proofs.dates.last_sunday.Goals as goal

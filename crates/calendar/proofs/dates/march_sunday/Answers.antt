@@ -2,7 +2,7 @@
 use lib.Dec.{lit≤}
 use mathlib.Core.Path.{ap, ◌∙◌}
 use Rattle.calendar.specs.Dates.{day_number, march_sunday}
-use Rattle.calendar.specs.DatesLaws.{sunday-most}
+use Rattle.calendar.proofs.DatesLaws.{sunday-most}
 use native.Mathlib.Omega.{arith}
 use borrow.Author.Rules.{rules}
 use Rattle.calendar.proofs.dates.march_sunday.Goals as goal

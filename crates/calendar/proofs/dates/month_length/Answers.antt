@@ -1,6 +1,6 @@
 -- `month_length` meets its contract: month 0 and those above 12 have no days, February is tested, and the rest is the definition's formula.
 use mathlib.Core.Path.{sym}
-use Rattle.calendar.specs.DatesLaws.{month-zero, no-month, not-february, february}
+use Rattle.calendar.proofs.DatesLaws.{month-zero, no-month, not-february, february}
 use borrow.Author.Rules.{rules}
 use Rattle.calendar.proofs.dates.month_length.Goals as goal
 

@@ -3,7 +3,7 @@ use mathlib.Core.Path.{sym, ap, ◌∙◌}
 use Prim.Native.Nat.{ℕ}
 use lib.ListN.{length}
 use Rattle.text.specs.Decimal.{fixed}
-use Rattle.text.specs.DecimalLaws.{length-fixed}
+use Rattle.text.proofs.DecimalLaws.{length-fixed}
 use Rattle.emitter.specs.LaidLaws.{ahead, laid-dry, laid-full, laid-nowhere, laid-live, room_for}
 use Rattle.emitter.proofs.laying.lay_fixed.Goals as goal
 

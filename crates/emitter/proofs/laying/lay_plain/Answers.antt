@@ -2,7 +2,7 @@
 use mathlib.Core.Path.{sym, ap, ◌∙◌}
 use Prim.Native.Nat.{ℕ}
 use Rattle.text.specs.Decimal.{fixed, plain}
-use Rattle.text.specs.DecimalLaws.{plain-fixed}
+use Rattle.text.proofs.DecimalLaws.{plain-fixed}
 use Rattle.emitter.specs.LaidLaws.{laid-is}
 use Rattle.emitter.proofs.laying.lay_plain.Goals as goal
 

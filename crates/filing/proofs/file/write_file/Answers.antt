@@ -1,5 +1,5 @@
 -- Measured without a place behind it, the file has no room and nothing changed; else it is written as it was measured.
-use Rattle.volumes.specs.SettlementLaws.{passing}
+use Rattle.volumes.proofs.SettlementLaws.{passing}
 use Rattle.filing.specs.FileCallLaws.{file-short, file-fits}
 use Rattle.filing.proofs.file.write_file.Goals as goal
 

@@ -6,14 +6,14 @@ use native.Mathlib.Nat.{zero-add}
 use lib.ListN.{length}
 use Rattle.quarters.specs.declared.Calendar.{Calendar}
 use Rattle.book.specs.Book.{book_of}
-use Rattle.volumes.specs.SettlementLaws.{passing}
+use Rattle.volumes.proofs.SettlementLaws.{passing}
 use Rattle.message.specs.Bytes.{partner_bytes}
 use Rattle.message.specs.Rows.{rows_from}
 use Rattle.emitter.specs.LaidLaws.{laid-is}
 use Rattle.writer.specs.ContentsInner.{partners_in}
 use Rattle.series.specs.SumsLaws.{parts-of}
 use Rattle.partners.specs.ObservationsLaws.{period-of, dated}
-use Rattle.reports.specs.RegisteredLaws.{registered}
+use Rattle.reports.proofs.RegisteredLaws.{registered}
 use Rattle.partners.specs.PartnerRowsInner.{partner_rows_of}
 use Rattle.partners.specs.PartnerRowsLaws.{filled-stand, filled-length, partner-writable, partner-bytes, partner-count}
 use native.Mathlib.Omega.{arith}

@@ -4,12 +4,12 @@ use Prim.Native.Nat.{◌+◌, ◌-◌, ◌≤◌}
 use native.Mathlib.Nat.{zero-add}
 use lib.ListN.{length}
 use Rattle.book.specs.Book.{book_of}
-use Rattle.volumes.specs.SettlementLaws.{passing}
+use Rattle.volumes.proofs.SettlementLaws.{passing}
 use Rattle.emitter.specs.LaidLaws.{laid-stands, laying-none, laying-then, laying-all}
-use Rattle.reports.specs.RegisteredLaws.{registered}
+use Rattle.reports.proofs.RegisteredLaws.{registered}
 use Rattle.partners.specs.PartnersInner.{partner_column, Next}
 use Rattle.partners.specs.PartnersLaws.{partners-all, partners-end}
-use Rattle.reports.specs.FormLaws.{partners-few}
+use Rattle.reports.proofs.FormLaws.{partners-few}
 use Rattle.filing.specs.LayingLaws.{next-in, scan-falls, partners-bytes, partners-end-bytes, partners-count}
 use Rattle.partners.specs.PartnerRowsLaws.{next_known}
 use borrow.Author.Rules.{rules}

@@ -9,7 +9,7 @@ use borrow.Author.Tests.{not-true, not-false}
 use Rattle.book.specs.Book.{book_of}
 use Rattle.book.specs.Judged.{refusal_of}
 use Rattle.volumes.specs.Settlement.{book_refusal}
-use Rattle.volumes.specs.SettlementLaws.{passing}
+use Rattle.volumes.proofs.SettlementLaws.{passing}
 use Rattle.volumes.specs.Sheets.{parties}
 use Rattle.settlement.specs.VerdictsInner.{refusal_in}
 use Rattle.settlement.specs.SectionsLaws.{bytes-long}

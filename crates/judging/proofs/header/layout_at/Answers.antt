@@ -1,7 +1,7 @@
 -- The places are sums of small numbers.
 use mathlib.Core.Path.{ap}
 use Prim.Native.Nat.{ℕ, ◌*◌, ◌≤◌}
-use Rattle.quarters.specs.QuartersLaws.{days-few, quarters-few, readings-few}
+use Rattle.quarters.proofs.QuartersLaws.{days-few, quarters-few, readings-few}
 use native.Mathlib.Omega.{arith}
 use Rattle.quarters.specs.QuartersInner.{longest_calendar, most_reading_bytes}
 use Rattle.judging.proofs.header.layout_at.Goals.{After-quarters_of-quarters}

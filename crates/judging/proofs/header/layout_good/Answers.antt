@@ -1,5 +1,5 @@
 -- The extents are compared with the places and sizes that the header gives.
-use Rattle.quarters.specs.QuartersLaws.{quarters-few}
+use Rattle.quarters.proofs.QuartersLaws.{quarters-few}
 use native.Mathlib.Omega.{arith}
 use Rattle.judging.proofs.header.layout_good.Goals as goal
 

@@ -4,7 +4,7 @@ use mathlib.Core.List.{List}
 use Prim.Native.Nat.{ℕ, ◌*◌, ◌≤◌}
 use Rattle.integers.specs.First.{first}
 use Rattle.quarters.specs.Quarters.{days_of, quarters_of}
-use Rattle.quarters.specs.QuartersLaws.{days-few, quarters-some}
+use Rattle.quarters.proofs.QuartersLaws.{days-few, quarters-some}
 use Rattle.book.specs.Register.{bad_point}
 use Rattle.book.specs.Metering.{bad_reading, point_of_reading, first_bad_reading}
 use Rattle.book.specs.Judged.{rows_refusal}

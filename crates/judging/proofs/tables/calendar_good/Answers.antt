@@ -8,7 +8,7 @@ use Rattle.integers.specs.First.{any_below}
 use Rattle.book.specs.Tables.{bad_day, calendar_good}
 use borrow.Author.Rules.{rules}
 use native.Mathlib.Omega.{arith}
-use Rattle.integers.specs.FirstLaws.{any-of, any-more}
+use Rattle.integers.proofs.FirstLaws.{any-of, any-more}
 use Rattle.judging.proofs.tables.calendar_good.Goals as goal
 
 pub loop-day-init : goal.loop-day-init

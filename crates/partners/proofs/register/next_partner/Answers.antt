@@ -4,7 +4,7 @@ use Prim.Native.Nat.{◌-◌}
 use borrow.Author.Rules.{rules}
 use Rattle.settlement.specs.SectionsInner.{point_count_in}
 use Rattle.volumes.specs.Series.{partner_of}
-use Rattle.volumes.specs.SeriesLaws.{told_at}
+use Rattle.volumes.proofs.SeriesLaws.{told_at}
 use Rattle.reports.specs.FileRows.{is_taken}
 use Rattle.partners.specs.PartnersLaws.{scanned-none, scanned-more, scanned-all}
 use Rattle.partners.proofs.register.next_partner.Goals as goal

@@ -2,7 +2,7 @@
 use mathlib.Core.Path.{sym, ◌∙◌}
 use Rattle.book.specs.Engagements.{bad_engagement}
 use borrow.Author.Rules.{rules}
-use Rattle.integers.specs.FirstLaws.{first-here, first-later, first-end}
+use Rattle.integers.proofs.FirstLaws.{first-here, first-later, first-end}
 use Rattle.searches.proofs.engagements.judge_engagements.Goals as goal
 
 pub returns-then-bad_engagement : goal.returns-then-bad_engagement

@@ -6,7 +6,7 @@ use Rattle.integers.specs.First.{any_below}
 use Rattle.book.specs.Metering.{bad_reading}
 use Rattle.searches.specs.MeteringLaws.{outside-is}
 use borrow.Author.Rules.{rules}
-use Rattle.integers.specs.FirstLaws.{any_next}
+use Rattle.integers.proofs.FirstLaws.{any_next}
 use Rattle.searches.proofs.metering.any_outside.Goals as goal
 
 pub loop-i-init : goal.loop-i-init

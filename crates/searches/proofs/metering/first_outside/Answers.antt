@@ -3,7 +3,7 @@ use mathlib.Core.Path.{sym, ◌∙◌}
 use Rattle.book.specs.Metering.{bad_reading}
 use Rattle.searches.specs.MeteringLaws.{outside-is}
 use borrow.Author.Rules.{rules}
-use Rattle.integers.specs.FirstLaws.{first-here, first-later, first-end}
+use Rattle.integers.proofs.FirstLaws.{first-here, first-later, first-end}
 use Rattle.searches.proofs.metering.first_outside.Goals as goal
 
 pub returns-then-outside : goal.returns-then-outside

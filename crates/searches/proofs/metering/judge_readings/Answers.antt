@@ -5,7 +5,7 @@ use native.Mathlib.Omega.{arith}
 use Rattle.integers.specs.First.{first}
 use Rattle.book.specs.Metering.{bad_reading}
 use borrow.Author.Rules.{rules}
-use Rattle.integers.specs.FirstLaws.{first-behind}
+use Rattle.integers.proofs.FirstLaws.{first-behind}
 use Rattle.searches.proofs.metering.judge_readings.Goals as goal
 
 pub loop-at-preserved : goal.loop-at-preserved

@@ -3,7 +3,7 @@ use mathlib.Core.Path.{refl, sym, ◌∙◌}
 use Rattle.integers.specs.First.{any_below}
 use Rattle.book.specs.Register.{differs}
 use borrow.Author.Rules.{rules}
-use Rattle.integers.specs.FirstLaws.{any-of, any-more}
+use Rattle.integers.proofs.FirstLaws.{any-of, any-more}
 use Rattle.searches.proofs.register.differs_earlier.Goals as goal
 
 pub loop-j-init : goal.loop-j-init

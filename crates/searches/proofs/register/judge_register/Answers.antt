@@ -5,7 +5,7 @@ use native.Mathlib.Omega.{arith}
 use borrow.Author.Count.{below_more}
 use borrow.Author.Rules.{rules}
 use Rattle.book.specs.Register.{access_in, register_row, bad_point}
-use Rattle.integers.specs.FirstLaws.{first-here, first-later, first-end}
+use Rattle.integers.proofs.FirstLaws.{first-here, first-later, first-end}
 use Rattle.searches.proofs.register.judge_register.Goals as goal
 
 pub returns-then-bad_point : goal.returns-then-bad_point

@@ -7,7 +7,7 @@ use lib.ListN.{length, replicate, length-replicate}
 use lib.Seq.{sets}
 use native.Mathlib.Omega.{arith}
 use Rattle.integers.specs.Ranges.{range}
-use Rattle.integers.specs.ZLaws.{up, dn}
+use Rattle.integers.proofs.ZLaws.{up, dn}
 use Rattle.book.specs.declared.Engagement.{Engagement}
 use Rattle.book.specs.Engagements.{engagement_at}
 use Rattle.volumes.specs.Settlement.{row_width}

@@ -6,7 +6,7 @@ use Prim.Native.Nat.{ℕ}
 use lib.Seq.{sets}
 use Rattle.book.specs.Book.{Book}
 use Rattle.book.specs.Judged.{refusal_of}
-use Rattle.volumes.specs.SettlementLaws.{passing}
+use Rattle.volumes.proofs.SettlementLaws.{passing}
 use Rattle.settlement.specs.SectionsInner.{book_with, Opened}
 use Rattle.settlement.specs.SectionsLaws.{bytes-headed, same-book, opened, count-book, own-settled}
 use Rattle.settlement.specs.DaysLaws.{gatherable, gathered}

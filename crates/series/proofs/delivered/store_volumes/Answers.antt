@@ -7,7 +7,7 @@ use lib.Seq.{sets, length-sets}
 use native.Mathlib.Omega.{arith}
 use borrow.Author.Rules.{rules}
 use Rattle.integers.specs.Ranges.{range}
-use Rattle.integers.specs.ZLaws.{up}
+use Rattle.integers.proofs.ZLaws.{up}
 use Rattle.series.specs.VolumesInner.{volume_in}
 use Rattle.series.specs.VolumesLaws.{set_next}
 use Rattle.series.proofs.delivered.store_volumes.Goals as goal

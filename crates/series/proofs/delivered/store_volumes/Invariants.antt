@@ -4,7 +4,7 @@ use mathlib.Core.List.{map}
 use Prim.Native.Nat.{◌-◌, ◌≤◌}
 use lib.Seq.{sets}
 use Rattle.integers.specs.Ranges.{range}
-use Rattle.integers.specs.ZLaws.{up}
+use Rattle.integers.proofs.ZLaws.{up}
 use Rattle.series.specs.VolumesInner.{volume_in}
 use Rattle.series.proofs.delivered.store_volumes.Given as goal
 

@@ -7,7 +7,7 @@ use lib.ListN.{length}
 use borrow.Author.Rules.{rules}
 use Rattle.book.specs.declared.Engagement.{Engagement}
 use Rattle.quarters.specs.Quarters.{month_quarters}
-use Rattle.quarters.specs.QuartersLaws.{days-few, cell-position}
+use Rattle.quarters.proofs.QuartersLaws.{days-few, cell-position}
 use Rattle.book.specs.Engagements.{engagement_at}
 use Rattle.book.specs.Book.{Book}
 use Rattle.volumes.specs.Sheets.{start_position}

@@ -8,7 +8,7 @@ use Rattle.book.specs.Header.{calendar_of, register_section, engagement_section}
 use Rattle.book.specs.Judged.{refusal_of}
 use Rattle.book.specs.Book.{book_of}
 use Rattle.quarters.specs.Quarters.{month_quarters}
-use Rattle.volumes.specs.SettlementLaws.{passing}
+use Rattle.volumes.proofs.SettlementLaws.{passing}
 use Rattle.volumes.specs.Series.{grains_at}
 use Rattle.settlement.specs.SectionsLaws.{bytes-headed}
 use Rattle.series.specs.SumsInner.{by_position, Parts}

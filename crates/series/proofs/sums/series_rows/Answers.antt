@@ -1,6 +1,6 @@
 -- By the test that tells the series' engagements; the point is one of the register.
 use mathlib.Core.Path.{sym, ◌∙◌}
-use Rattle.volumes.specs.SeriesLaws.{told_at}
+use Rattle.volumes.proofs.SeriesLaws.{told_at}
 use Rattle.series.proofs.sums.series_rows.Goals as goal
 
 pub is_engagement-requires : goal.is_engagement-requires

@@ -2,7 +2,7 @@
 use mathlib.Core.Path.{refl, ap, ◌∙◌}
 use borrow.Author.Tests.{not-true, not-false}
 use Rattle.cursor.specs.MovesInner.{standing, cursor_at, keep}
-use Rattle.cursor.specs.MovesLaws.{mark-lost, mark-found}
+use Rattle.cursor.proofs.MovesLaws.{mark-lost, mark-found}
 use native.Mathlib.Omega.{arith}
 use Rattle.text.specs.Ascii.{bytes}
 use Rattle.series_reader.proofs.series.end_by.Goals as goal

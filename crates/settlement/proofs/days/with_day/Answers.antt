@@ -5,7 +5,7 @@ use Prim.Native.Nat.{ℕ, ◌*◌, ◌%◌, ◌^◌}
 use native.Mathlib.Nat.{one-mul}
 use native.Mathlib.Omega.{arith}
 use lib.Pow.{shl_exact}
-use Rattle.integers.specs.BitsLaws.{bit-or, bit-one}
+use Rattle.integers.proofs.BitsLaws.{bit-or, bit-one}
 use Rattle.book.specs.Register.{excludes}
 use Rattle.settlement.proofs.days.with_day.Goals as goal
 

@@ -2,7 +2,7 @@
 use mathlib.Core.Path.{sym, ap, ap₂, ◌∙◌}
 use Prim.Native.Nat.{◌+◌}
 use lib.Seq.{sets}
-use Rattle.volumes.specs.QuartersLaws.{start_is}
+use Rattle.volumes.proofs.QuartersLaws.{start_is}
 use Rattle.baseline.specs.ShownLaws.{stands}
 use Rattle.settlement.specs.RowsInner.{rows_from}
 use Rattle.settlement.specs.FillLaws.{own-whole, rows_are}

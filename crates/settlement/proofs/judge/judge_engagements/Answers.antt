@@ -5,7 +5,7 @@ use mathlib.Core.Option.{Option}
 use Prim.Native.Nat.{ℕ, ◌+◌, ◌<◌}
 use Rattle.book.specs.Engagements.{engagement_at}
 use Rattle.volumes.specs.Settlement.{refusal_number, settlement_refusal, row_refusal}
-use Rattle.volumes.specs.SettlementLaws.{refusal_at, refusal-all}
+use Rattle.volumes.proofs.SettlementLaws.{refusal_at, refusal-all}
 use Rattle.baseline.specs.declared.judge.Lack.{Lack}
 use Rattle.baseline.specs.NeedsInner.{number_of}
 use Rattle.settlement.specs.SectionsInner.{engagement_count_in, book_with, Opened}

@@ -2,7 +2,7 @@
 use mathlib.Core.Path.{◌≡◌}
 use Prim.Native.Nat.{◌-◌, ◌≤◌}
 use Rattle.volumes.specs.Settlement.{settlement_refusal}
-use Rattle.volumes.specs.SettlementLaws.{refusal_at}
+use Rattle.volumes.proofs.SettlementLaws.{refusal_at}
 use Rattle.settlement.specs.SectionsInner.{book_with}
 use Rattle.settlement.proofs.judge.judge_engagements.Given as goal
 

@@ -8,7 +8,7 @@ use mir.Syntax.{w64}
 use mir.Val.{to_z, of_z}
 use Rattle.grains.specs.Grains.{grains, grains_z}
 use Rattle.volumes.specs.Settlement.{limited, delivered_by, source_by, injection_by, signed}
-use Rattle.volumes.specs.SplitLaws.{shares_whole, source-most}
+use Rattle.volumes.proofs.SplitLaws.{shares_whole, source-most}
 use Rattle.settlement.specs.RaisedInner.{baseline_of, watts_of}
 use Rattle.settlement.specs.RowsInner.{row_from}
 use Rattle.settlement.specs.RowsLaws.{delivered-by, rest_of}

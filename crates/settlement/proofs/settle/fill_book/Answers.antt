@@ -5,7 +5,7 @@ use Prim.Native.Nat.{ℕ}
 use lib.Seq.{sets}
 use Rattle.book.specs.Book.{Book}
 use Rattle.volumes.specs.Settlement.{rows}
-use Rattle.volumes.specs.SettlementLaws.{passing}
+use Rattle.volumes.proofs.SettlementLaws.{passing}
 use Rattle.settlement.specs.SectionsInner.{book_with, Opened}
 use Rattle.settlement.specs.SectionsLaws.{bytes-headed, same-book, opened, count-book, own-settled}
 use Rattle.settlement.specs.DaysLaws.{gatherable, gathered}

@@ -1,6 +1,6 @@
 -- Refused, the rows are as they were; accepted and with room, they are filled.
 use mathlib.Core.Path.{sym, ap, ◌∙◌}
-use Rattle.volumes.specs.SettlementLaws.{passing}
+use Rattle.volumes.proofs.SettlementLaws.{passing}
 use Rattle.settlement.specs.VerdictsInner.{refusal_in}
 use Rattle.settlement.specs.CallsLaws.{call-refused, call-short, call-filled}
 use Rattle.settlement.proofs.settle.settle.Goals as goal

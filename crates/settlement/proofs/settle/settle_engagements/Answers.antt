@@ -7,7 +7,7 @@ use lib.ListN.{length}
 use lib.Seq.{sets, length-sets}
 use Rattle.book.specs.Engagements.{engagement_at}
 use Rattle.volumes.specs.Settlement.{row_width, rows_of}
-use Rattle.volumes.specs.SettlementLaws.{rows_of-length}
+use Rattle.volumes.proofs.SettlementLaws.{rows_of-length}
 use Rattle.settlement.specs.SectionsInner.{book_with}
 use Rattle.settlement.specs.PartsLaws.{count_none, count-more, count_most, parts_to, parts_none, parts_more}
 use Rattle.settlement.specs.SettlingLaws.{rows-all, not-refused}

@@ -6,7 +6,7 @@ use mathlib.Core.List.{List}
 use Prim.Native.Nat.{◌-◌}
 use lib.IntN.{ℤ, pos}
 use lib.ListN.{length, set, length-append, length-replicate, length-drop}
-use Rattle.integers.specs.ListsLaws.{same_next}
+use Rattle.integers.proofs.ListsLaws.{same_next}
 use Rattle.sheets.proofs.cells.clear.Goals.{At-loop-i}
 use Rattle.sheets.proofs.cells.clear.Goals as goal
 

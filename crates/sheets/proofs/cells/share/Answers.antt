@@ -8,7 +8,7 @@ use Prim.Native.Nat.{◌+◌}
 use mir.Syntax.{w64}
 use mir.Val.{to_z, of_z, SFits}
 use Rattle.volumes.specs.SoundInner.{Bounded}
-use Rattle.volumes.specs.WidthsLaws.{bounded-add, bounded-fits}
+use Rattle.volumes.proofs.WidthsLaws.{bounded-add, bounded-fits}
 use Rattle.sheets.specs.SharesInner.{correction_most}
 use Rattle.sheets.specs.SharesLaws.{pick, pick-bounded, gets-two, gets-three}
 use Rattle.sheets.proofs.cells.share.Goals.{After-amount, After-amount-2, After-amount-3}

@@ -8,7 +8,7 @@ use Rattle.book.specs.Book.{Book, book_of}
 use Rattle.book.specs.Judged.{refusal_of}
 use Rattle.quarters.specs.Quarters.{month_quarters}
 use Rattle.volumes.specs.Sheets.{sheet}
-use Rattle.volumes.specs.SettlementLaws.{passing}
+use Rattle.volumes.proofs.SettlementLaws.{passing}
 use Rattle.settlement.specs.SectionsInner.{book_with, Opened}
 use Rattle.settlement.specs.SectionsLaws.{bytes-headed, same-book, opened, own-settled}
 use Rattle.settlement.specs.DaysLaws.{gatherable, gathered}

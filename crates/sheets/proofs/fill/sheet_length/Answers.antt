@@ -3,7 +3,7 @@ use mathlib.Core.Path.{ap, ◌∙◌}
 use Rattle.book.specs.HeaderLaws.{headed}
 use Rattle.book.specs.Book.{book_of}
 use Rattle.quarters.specs.Quarters.{month_quarters}
-use Rattle.volumes.specs.SoundLaws.{passes}
+use Rattle.volumes.proofs.SoundLaws.{passes}
 use Rattle.settlement.specs.SectionsLaws.{bytes-headed}
 use Rattle.sheets.proofs.fill.sheet_length.Goals as goal
 

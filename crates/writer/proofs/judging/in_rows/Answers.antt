@@ -3,7 +3,7 @@ use mathlib.Core.Path.{sym, ◌∙◌}
 use Prim.Native.Nat.{◌+◌, ◌-◌, ◌/◌}
 use lib.ListN.{length}
 use native.Mathlib.Omega.{arith}
-use Rattle.writer.specs.StepsLaws.{six-directions, behind-none, behind-not-six, behind-not-before, behind-next}
+use Rattle.writer.proofs.StepsLaws.{six-directions, behind-none, behind-not-six, behind-not-before, behind-next}
 use Rattle.writer.proofs.judging.in_rows.Goals as goal
 
 pub returns-then-not-six_at-2 : goal.returns-then-not-six_at-2

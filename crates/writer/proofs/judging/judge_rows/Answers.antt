@@ -5,7 +5,7 @@ use Prim.Native.Nat.{ℕ, ◌-◌, ◌/◌}
 use lib.ListN.{length}
 use native.Mathlib.Omega.{arith}
 use Rattle.message.specs.Valid.{last_position}
-use Rattle.writer.specs.StepsLaws.{rows-far, rows-odd, rows_none, rows-some}
+use Rattle.writer.proofs.StepsLaws.{rows-far, rows-odd, rows_none, rows-some}
 use Rattle.writer.specs.RowsInner.{six_at, behind}
 use Rattle.writer.proofs.judging.judge_rows.Goals as goal
 

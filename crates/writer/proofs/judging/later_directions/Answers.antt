@@ -1,7 +1,7 @@
 -- By positions in the same directions, or else by the directions.
 use Prim.Native.Nat.{◌+◌}
 use Rattle.writer.specs.Rows.{later_directions}
-use Rattle.writer.specs.StepsLaws.{directions-same, directions-other}
+use Rattle.writer.proofs.StepsLaws.{directions-same, directions-other}
 use Rattle.writer.specs.RowsInner.{row_at}
 use Rattle.writer.proofs.judging.later_directions.Goals as goal
 

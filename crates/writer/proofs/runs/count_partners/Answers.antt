@@ -1,5 +1,5 @@
 -- Each run is one partner: the partners counted and those of the rows left are all.
-use Rattle.writer.specs.RunsLaws.{no-partners}
+use Rattle.writer.proofs.RunsLaws.{no-partners}
 use native.Mathlib.Omega.{arith}
 use Rattle.writer.proofs.runs.count_partners.Goals as goal
 

@@ -1,5 +1,5 @@
 -- Each run is one series: the series counted and those of the rows left are all.
-use Rattle.writer.specs.RunsLaws.{no-series}
+use Rattle.writer.proofs.RunsLaws.{no-series}
 use native.Mathlib.Omega.{arith}
 use Rattle.writer.proofs.runs.count_series.Goals as goal
 

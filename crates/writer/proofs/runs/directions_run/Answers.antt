@@ -2,7 +2,7 @@
 use mathlib.Core.Path.{sym}
 use Prim.Native.Nat.{◌+◌, ◌*◌}
 use lib.ListN.{get_or}
-use Rattle.writer.specs.RunsLaws.{directions-run}
+use Rattle.writer.proofs.RunsLaws.{directions-run}
 use borrow.Author.Tests.{eq-eqb, ne_eqb}
 use native.Mathlib.Omega.{arith}
 use Rattle.writer.proofs.runs.directions_run.Goals as goal

@@ -1,7 +1,7 @@
 -- The rows passed have the first one's directions; the run ends at a row of another direction, or with the rows.
 use Prim.Native.Nat.{◌+◌, ◌-◌, ◌≤◌}
 use lib.ListN.{get_or}
-use Rattle.writer.specs.RunsLaws.{OneKey}
+use Rattle.writer.proofs.RunsLaws.{OneKey}
 use Rattle.writer.proofs.runs.directions_run.Given as goal
 
 abbrev pub invariant-loop-run : goal.invariant-loop-run

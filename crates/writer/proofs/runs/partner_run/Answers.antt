@@ -1,6 +1,6 @@
 -- The rows passed are of the first one's partner; the run ends at another partner's row, or with the rows.
 use mathlib.Core.Path.{sym}
-use Rattle.writer.specs.RunsLaws.{partner-run}
+use Rattle.writer.proofs.RunsLaws.{partner-run}
 use borrow.Author.Tests.{ne_eqb}
 use native.Mathlib.Omega.{arith}
 use Rattle.writer.proofs.runs.partner_run.Goals as goal

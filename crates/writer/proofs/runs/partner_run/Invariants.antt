@@ -1,7 +1,7 @@
 -- The rows passed are of the first one's partner; the run ends at another partner's row, or with the rows.
 use Prim.Native.Nat.{◌-◌, ◌≤◌}
 use lib.ListN.{get_or}
-use Rattle.writer.specs.RunsLaws.{OneKey}
+use Rattle.writer.proofs.RunsLaws.{OneKey}
 use Rattle.writer.proofs.runs.partner_run.Given as goal
 
 abbrev pub invariant-loop-run : goal.invariant-loop-run

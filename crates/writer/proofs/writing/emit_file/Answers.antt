@@ -3,7 +3,7 @@ use mathlib.Core.Path.{sym, ap, ◌∙◌}
 use Prim.Native.Nat.{◌/◌}
 use lib.ListN.{length}
 use Rattle.message.specs.Messages.{message_bytes}
-use Rattle.writer.specs.ContentsLaws.{partners-count, message-parts, rows-writable}
+use Rattle.writer.proofs.ContentsLaws.{partners-count, message-parts, rows-writable}
 use Rattle.writer.specs.Rows.{rows_message}
 use Rattle.writer.specs.ContentsInner.{partners_in}
 use Rattle.emitter.specs.PartsInner.{file_head}

@@ -4,7 +4,7 @@ use Prim.Native.Nat.{◌+◌, ◌-◌}
 use native.Mathlib.Omega.{arith}
 use Rattle.message.specs.Bytes.{observation_bytes}
 use Rattle.writer.specs.ContentsInner.{observations_in}
-use Rattle.writer.specs.ContentsLaws.{observations-none, observations-step}
+use Rattle.writer.proofs.ContentsLaws.{observations-none, observations-step}
 use Rattle.emitter.specs.LaidLaws.{laying-none, laying-then, laying-all}
 use Rattle.writer.proofs.writing.emit_observations.Goals as goal
 

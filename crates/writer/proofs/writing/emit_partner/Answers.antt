@@ -3,7 +3,7 @@ use mathlib.Core.Path.{sym, ap₂, ◌∙◌}
 use Prim.Native.Nat.{ℕ}
 use lib.ListN.{length}
 use Rattle.message.specs.Bytes.{supply_of, partner_bytes}
-use Rattle.writer.specs.ContentsLaws.{series-count, series-supply}
+use Rattle.writer.proofs.ContentsLaws.{series-count, series-supply}
 use Rattle.writer.specs.ContentsInner.{partner_at}
 use Rattle.emitter.specs.PartsInner.{partner_head}
 use Rattle.emitter.specs.PartsLaws.{partner-parts}

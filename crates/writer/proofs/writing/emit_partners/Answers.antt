@@ -5,7 +5,7 @@ use Prim.Native.Nat.{◌+◌, ◌-◌, ◌*◌}
 use native.Mathlib.Omega.{arith}
 use Rattle.message.specs.Bytes.{partner_bytes}
 use Rattle.writer.specs.ContentsInner.{partners_in}
-use Rattle.writer.specs.ContentsLaws.{partners-none, partners-step, writable-part}
+use Rattle.writer.proofs.ContentsLaws.{partners-none, partners-step, writable-part}
 use Rattle.emitter.specs.LaidLaws.{laying-none, laying-then, laying-all}
 use Rattle.writer.proofs.writing.emit_partners.Goals as goal
 

@@ -3,7 +3,7 @@ use mathlib.Core.Path.{sym, ap}
 use Prim.Native.Nat.{ℕ}
 use lib.ListN.{length}
 use Rattle.message.specs.Bytes.{series_bytes}
-use Rattle.writer.specs.ContentsLaws.{observations-length}
+use Rattle.writer.proofs.ContentsLaws.{observations-length}
 use Rattle.writer.specs.ContentsInner.{series_at}
 use Rattle.emitter.specs.PartsInner.{series_head}
 use Rattle.emitter.specs.PartsLaws.{series-parts}

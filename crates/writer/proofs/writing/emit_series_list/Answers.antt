@@ -5,7 +5,7 @@ use Prim.Native.Nat.{◌+◌, ◌-◌, ◌*◌}
 use native.Mathlib.Omega.{arith}
 use Rattle.message.specs.Bytes.{series_bytes}
 use Rattle.writer.specs.ContentsInner.{series_in}
-use Rattle.writer.specs.ContentsLaws.{series-none, series-step, writable-part}
+use Rattle.writer.proofs.ContentsLaws.{series-none, series-step, writable-part}
 use Rattle.emitter.specs.LaidLaws.{laying-none, laying-then, laying-all}
 use Rattle.writer.proofs.writing.emit_series_list.Goals as goal
 

@@ -1,6 +1,6 @@
 -- A number that is no kind's is refused; else the file is written of its kind.
 use mathlib.Core.Path.{sym, ap, ◌∙◌}
-use Rattle.writer.specs.WriteCallsLaws.{wrote-no-kind}
+use Rattle.writer.proofs.WriteCallsLaws.{wrote-no-kind}
 use Rattle.kinds.specs.NumbersInner.{kind_in}
 use Rattle.writer.proofs.writing.write.Goals as goal
 

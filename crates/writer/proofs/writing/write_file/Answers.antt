@@ -1,5 +1,5 @@
 -- The place that the measuring run ends at is the number of bytes, or there is none and the buffer is too short; the second run writes them from the first place on.
-use Rattle.writer.specs.CalledLaws.{called-short, called-file}
+use Rattle.writer.proofs.CalledLaws.{called-short, called-file}
 use Rattle.writer.proofs.writing.write_file.Goals as goal
 
 pub returns-in_default : goal.returns-in_default

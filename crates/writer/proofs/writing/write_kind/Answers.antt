@@ -2,7 +2,7 @@
 use mathlib.Core.Path.{sym, ◌∙◌}
 use Rattle.kinds.specs.Numbers.{kind_number}
 use Rattle.kinds.specs.NumbersLaws.{kind-numbered}
-use Rattle.writer.specs.WriteCallsLaws.{wrote-no-rows, wrote-malformed}
+use Rattle.writer.proofs.WriteCallsLaws.{wrote-no-rows, wrote-malformed}
 use Rattle.writer.proofs.writing.write_kind.Goals as goal
 
 pub returns-then-not-judge_rows : goal.returns-then-not-judge_rows

@@ -1,0 +1,2 @@
+pub mod ClocksLaws
+pub mod DatesLaws

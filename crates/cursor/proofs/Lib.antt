@@ -1,0 +1,2 @@
+pub mod MovesLaws
+pub mod ParsedLaws

@@ -1,0 +1,2 @@
+pub mod ExactlyLaws
+pub mod PlaceLaws

@@ -1,0 +1,15 @@
+pub mod AllLaws
+pub mod AscendingLaws
+pub mod BitsLaws
+pub mod CountsLaws
+pub mod FirstLaws
+pub mod KeepLaws
+pub mod ListsLaws
+pub mod OnceLaws
+pub mod RangesLaws
+pub mod RisesLaws
+pub mod RunningLaws
+pub mod ScanLaws
+pub mod SumsLaws
+pub mod TestsLaws
+pub mod ZLaws

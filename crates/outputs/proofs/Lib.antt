@@ -1,0 +1,2 @@
+pub mod CutLaws
+pub mod OutputLaws

@@ -1,0 +1,15 @@
+pub mod CallsLaws
+pub mod CarryLaws
+pub mod Demand3Laws
+pub mod FormLaws
+pub mod GivenLaws
+pub mod MarchLaws
+pub mod NumbersLaws
+pub mod PointsLaws
+pub mod PoolLaws
+pub mod PossibleLaws
+pub mod ReadLaws
+pub mod RegisteredLaws
+pub mod SmallLaws
+pub mod TotalsLaws
+pub mod VersionLaws
