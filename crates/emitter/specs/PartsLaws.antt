@@ -9,7 +9,7 @@ use Rattle.kinds.specs.declared.Kind.{Kind}
 use Rattle.message.specs.Bytes.{opening, closing, element, root, counter, group, partner, digits, quantity_bytes, observation_bytes, period_bytes, supplies, supply_bytes, deliveries, volume_bytes}
 use Rattle.message.specs.Bytes.{with_partner, series_bytes, supply_of, partner_bytes, file_bytes}
 use Rattle.message.specs.Contents.{TimeSeries, Partner, File}
-use Rattle.message.specs.ObservationForm.{observed}
+use Rattle.message.specs.Reading.{observed}
 use Rattle.emitter.specs.PartsInner.{delivery_bytes, head_bytes, series_head, series_end, partner_head, partner_end, origin_bytes, file_head, file_end}
 
 -- ---- in the order in which they are laid

@@ -4,7 +4,7 @@ ghost use Rattle.text.specs.Decimal.{fixed};
 ghost use Rattle.message.specs.Bytes.{opening, closing, element, root, counter, group, partner, digits};
 ghost use Rattle.message.specs.Bytes.{quantity_bytes, observation_bytes, period_bytes, supply_bytes, in_series, with_partner};
 ghost use Rattle.message.specs.Valid.{IsPeriod};
-ghost use Rattle.message.specs.ObservationForm.{observed};
+ghost use Rattle.message.specs.Reading.{observed};
 ghost use Rattle.emitter.specs.LaidLaws.{Laid};
 ghost use Rattle.emitter.specs.PartsInner.{delivery_bytes, head_bytes, series_head, series_end, partner_head, partner_end, origin_bytes, file_head, file_end};
 

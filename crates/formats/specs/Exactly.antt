@@ -9,7 +9,7 @@ use Rattle.std.proofs.Math.Dec.{leb}
 use Rattle.text.specs.Decimal.{digits, value_of, fixed}
 use Rattle.text.proofs.DecimalLaws.{length-fixed, digits-fixed, value-fixed, fixed-value, value-lt}
 use Rattle.formats.specs.Format.{Res, got, Sound, Format, pick}
-use Rattle.formats.specs.Combine.{Recast, recast}
+use Rattle.formats.specs.Combine.{map_parse, Recast, recast}
 
 unfoldable pub exactly_parse : ℕ → (List ℕ → Bool) → List ℕ → Res (List ℕ)
 exactly_parse n test s = pick (leb n (length s)) (pick (test (take n s)) (got (take n s) (drop n s)))
@@ -47,6 +47,9 @@ fixed-recast n =
       forth = λ v h. value-fixed n v h;
       same = λ v h. refl;
     }
+
+unfoldable pub fixed_parse : ℕ → List ℕ → Res ℕ
+fixed_parse n = map_parse value_of (exactly_parse n digits)
 
 abbrev pub fixed_digits : ℕ → Format ℕ
 fixed_digits n = recast (exactly n digits) (λ v. v < 10 ^ n) (fixed n) value_of (fixed n) (fixed-recast n)

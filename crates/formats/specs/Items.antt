@@ -8,10 +8,15 @@ use native.Mathlib.Omega.{arith}
 use Rattle.formats.specs.Format.{Res, got, bad, Sound, Format, bind, ends}
 use Rattle.formats.specs.FormatLaws.{ends-bind}
 
+-- n readings of f, each under the state that those before it leave
+module _ {A S : Type 0} (f : S → List ℕ → Res A) (next : S → A → S) where
+  unfoldable pub repeat_parse : ℕ → S → List ℕ → Res (List A)
+  repeat_parse zero st s = got [] s
+  repeat_parse (suc n) st s = bind (f st s) (λ a r. bind (repeat_parse n (next st a) r) (λ xs q. got (a ∷ xs) q))
+
 module _ {A S : Type 0} (F : S → Format A) (next : S → A → S) where
-  unfoldable pub items_parse : ℕ → S → List ℕ → Res (List A)
-  items_parse zero st s = got [] s
-  items_parse (suc n) st s = bind ((F st).parse s) (λ a r. bind (items_parse n (next st a) r) (λ xs q. got (a ∷ xs) q))
+  abbrev pub items_parse : ℕ → S → List ℕ → Res (List A)
+  items_parse n st s = repeat_parse (λ st. (F st).parse) next n st s
 
   unfoldable pub items_render : S → List A → List ℕ
   items_render st [] = []
@@ -40,12 +45,12 @@ module _ {A S : Type 0} (F : S → Format A) (next : S → A → S) where
   items-sound₁ n st s rec (got a r) h = items-sound₂ n st s a r h.0 h.1 (items_parse n (next st a) r) (rec (next st a) r)
 
   pub items-sound : (n : ℕ) (st : S) (s : List ℕ) → Sound (CountOk n st) (items_render st) s (items_parse n st s)
-  unfolding items_parse items_render ItemsOk
+  unfolding repeat_parse items_render ItemsOk
   items-sound zero st s = (refl, (refl, tt))
   items-sound (suc n) st s = items-sound₁ n st s (λ t r. items-sound n t r) ((F st).parse s) ((F st).sound s)
 
   pub items-complete : (xs : List A) (n : ℕ) (st : S) (rest : List ℕ) → CountOk n st xs → items_parse n st (items_render st xs ++ rest) ≡ got xs rest
-  unfolding items_parse items_render ItemsOk
+  unfolding repeat_parse items_render ItemsOk
   items-complete [] zero st rest ok = refl
   items-complete [] (suc n) st rest ok = absurd (omega arith)
   items-complete (a ∷ xs) zero st rest ok = absurd (omega arith)
@@ -66,16 +71,16 @@ items-bytes F next bytes h st (a ∷ l) = rw (h st a) (ap (λ (r : List ℕ). by
 
 module _ {A S : Type 0} (F : S → Format A) (next : S → A → S) (n i : ℕ) (st : S) (s : List ℕ) where
   pub items-end : n ≤ i → items_parse F next (n - i) st s ≡ got [] s
-  unfolding items_parse
+  unfolding repeat_parse
   items-end h = let e : n - i ≡ 0 = omega arith in rw e
 
   pub items-bad : i < n → (F st).parse s ≡ bad → items_parse F next (n - i) st s ≡ bad
-  unfolding items_parse
+  unfolding repeat_parse
   items-bad h f = let e : n - i ≡ suc (n - (i + 1)) = omega arith in rw (e, f)
 
   pub items-step : (a : A) (r : List ℕ) → i < n → (F st).parse s ≡ got a r
       → items_parse F next (n - i) st s ≡ bind (items_parse F next (n - (i + 1)) (next st a) r) (λ xs q. got (a ∷ xs) q)
-  unfolding items_parse
+  unfolding repeat_parse
   items-step a r h f = let e : n - i ≡ suc (n - (i + 1)) = omega arith in rw (e, f)
 
   pub ends-step : (a : A) (r : List ℕ) → i < n → (F st).parse s ≡ got a r

@@ -4,9 +4,15 @@ use mathlib.Core.List.{List, [], ◌∷◌, map, flat_map}
 use Rattle.integers.proofs.TestsLaws.{and_left, and_right, and_both}
 use Rattle.integers.specs.Rises.{rises}
 use Rattle.integers.specs.All.{All}
-use Rattle.formats.specs.Format.{Format}
-use Rattle.formats.specs.Combine.{Recast, recast, only}
-use Rattle.formats.specs.Items.{items, items_render, ItemsOk, items-bytes}
+use Rattle.formats.specs.Format.{Res, Format}
+use Rattle.formats.specs.Combine.{map_parse, Recast, recast, only_parse, only}
+use Rattle.formats.specs.Items.{repeat_parse, items, items_render, ItemsOk, items-bytes}
+
+-- n readings of f under states, each of a key of at least `low` and above those before it
+module _ {A S : Type 0} (f : S → List ℕ → Res A) (key : A → ℕ) (next : S → A → S) where
+  unfoldable pub rising_parse : ℕ → ℕ → S → List ℕ → Res (List A)
+  rising_parse n low st =
+      map_parse (λ l. l) (repeat_parse (λ (t : ℕ × S). only_parse (λ a. leb t.0 (key a)) (f t.1)) (λ t a. (suc (key a), next t.1 a)) n (low, st))
 
 module _ {A S : Type 0} (F : S → Format A) (key : A → ℕ) (next : S → A → S) where
   -- an item under the least key that it may have and the state of the items

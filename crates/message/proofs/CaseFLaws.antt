@@ -22,7 +22,7 @@ use Rattle.kinds.specs.declared.Kind.TheVariants.{Toe01}
 use Rattle.message.specs.Contents.{Observation, TimeSeries, File}
 use Rattle.message.specs.Bytes.{element, opening, ending, closing, root, counter, group, partner, digits, quantity_bytes, observation_bytes, period_bytes, supplies, deliveries, supply_bytes, volume_bytes, series_bytes, supply_of, partner_bytes, file_bytes}
 use Rattle.message.specs.Valid.{is_moment, last_position, periods, first_of, IsVolume, IsFile}
-use Rattle.message.specs.FileForm.{file}
+use Rattle.message.proofs.FileForm.{file}
 
 -- the first of a month from April to September is in summer, here June and July
 june-march : (year : ℕ) → march_sunday year ≤ day_number year 6 1

@@ -11,8 +11,8 @@ use Rattle.message.specs.Bytes.{opening, ending, closing, root, file_bytes}
 use Rattle.message.specs.Valid.{periods, first_of}
 use Rattle.message.specs.Group.{spread}
 use Rattle.message.specs.Rows.{row_numbers, numbers, rows_of, message, IsMessage}
-use Rattle.message.specs.FileForm.{file}
-use Rattle.message.specs.MessageForm.{message-recast}
+use Rattle.message.proofs.FileForm.{file}
+use Rattle.message.proofs.MessageForm.{message-recast}
 use Rattle.message.specs.Messages.{message_bytes, read_message}
 use Rattle.message.proofs.FileLaws.{written-is-read}
 use Rattle.message.proofs.CaseFLaws.{observations, series, case_f, text, renders, valid}

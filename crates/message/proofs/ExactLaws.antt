@@ -8,9 +8,9 @@ use Rattle.message.specs.declared.ReadAnswer.TheVariants.{Refused}
 use Rattle.message.specs.Contents.{File}
 use Rattle.message.specs.Bytes.{file_bytes}
 use Rattle.message.specs.Valid.{IsFile}
-use Rattle.message.specs.FileForm.{file}
+use Rattle.message.proofs.FileForm.{file}
 use Rattle.message.specs.Rows.{Message, contents, message, IsMessage}
-use Rattle.message.specs.MessageForm.{message-recast}
+use Rattle.message.proofs.MessageForm.{message-recast}
 use Rattle.message.specs.Messages.{message_bytes, read_message}
 use Rattle.message.proofs.FileLaws.{written-is-read, read-is-written, refused-is-none}
 use Rattle.message.specs.Calls.{ReadCalled}

@@ -2,6 +2,17 @@ pub mod CallsLaws
 pub mod CaseFLaws
 pub mod CaseFReadLaws
 pub mod ExactLaws
+pub mod FileForm
 pub mod FileLaws
+pub mod GroupLaws
+pub mod MessageForm
+pub mod MonthsLaws
+pub mod ObservationForm
+pub mod PartnerForm
+pub mod PositionsLaws
+pub mod ReadingLaws
+pub mod RowsLaws
+pub mod SeriesForm
+pub mod SeriesListForm
 pub mod SixesLaws
 pub mod SizeLaws

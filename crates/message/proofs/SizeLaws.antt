@@ -21,8 +21,8 @@ use Rattle.kinds.specs.declared.Kind.TheVariants.{Toe01, Toe02, Toe03}
 use Rattle.message.specs.Contents.{Observation, TimeSeries, Partner, File, place}
 use Rattle.message.specs.Bytes.{opening, ending, closing, element, root, counter, group, partner, digits, quantity_bytes, observation_bytes, period_bytes, supplies, deliveries, supply_bytes, volume_bytes, in_series, with_partner, series_bytes, supply_of, partner_bytes, file_bytes}
 use Rattle.message.specs.Valid.{most, last_position, IsObservation, IsSeries, IsPartner, IsFile}
-use Rattle.message.specs.PositionsLaws.{position-small}
-use Rattle.message.specs.FileForm.{moment-length}
+use Rattle.message.proofs.PositionsLaws.{position-small}
+use Rattle.message.proofs.FileForm.{moment-length}
 use Rattle.message.specs.Group.{spread}
 use Rattle.message.specs.Rows.{series_rows, partner_rows, rows_of}
 use Rattle.integers.proofs.AllLaws.{all_map, all_of_map}

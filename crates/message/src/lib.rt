@@ -6,7 +6,7 @@ ghost use Rattle.formats.specs.Exactly.{exactly_parse};
 ghost use Rattle.formats.specs.PlaceInner.{Within, Parsed, left};
 ghost use Rattle.moments.specs.Moments.{moment_bytes};
 ghost use Rattle.message.specs.Valid.{is_moment, last_position};
-ghost use Rattle.message.specs.ObservationForm.{is_period};
+ghost use Rattle.message.specs.Reading.{is_period};
 ghost use Rattle.message.specs.Exact.{ReaderExact};
 
 use formats::Mark;

@@ -3,7 +3,7 @@ use Rattle.std.specs.Prelude.{List, [], ◌∷◌, map, ℕ}
 use Rattle.integers.specs.Ranges.{range}
 use Rattle.integers.specs.Keep.{keep}
 use Rattle.message.specs.Contents.{Observation}
-use Rattle.message.specs.ObservationForm.{observed}
+use Rattle.message.specs.Reading.{observed}
 use Rattle.reports.specs.FileRows.{is_written}
 use Rattle.series.specs.SumsInner.{cell_at}
 

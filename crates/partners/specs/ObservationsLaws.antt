@@ -14,7 +14,7 @@ use Rattle.volumes.specs.Series.{Kind, series_watts}
 use Rattle.settlement.specs.SectionsLaws.{bytes-headed}
 use Rattle.message.specs.Contents.{Observation}
 use Rattle.message.specs.Valid.{IsPeriod}
-use Rattle.message.specs.ObservationForm.{observed}
+use Rattle.message.specs.Reading.{observed}
 use Rattle.integers.specs.Keep.{keep}
 use Rattle.integers.proofs.KeepLaws.{keep_append}
 use Rattle.reports.specs.FileRows.{is_written, observation_by, observations_by}

@@ -34,10 +34,10 @@ use Rattle.settlement.specs.StoresLaws.{sets-append}
 use Rattle.message.specs.Contents.{Observation, TimeSeries, Partner, number}
 use Rattle.message.specs.Valid.{month_of, periods, IsPartner, IsPeriod}
 use Rattle.message.specs.Bytes.{partner_bytes}
-use Rattle.message.specs.ObservationForm.{observed}
+use Rattle.message.specs.Reading.{observed}
 use Rattle.message.specs.Group.{spread}
 use Rattle.message.specs.Rows.{Row, row_numbers, numbers, rows_from, series_rows, rows_of, partners_of as regrouped}
-use Rattle.message.specs.RowsLaws.{partners-undo}
+use Rattle.message.proofs.RowsLaws.{partners-undo}
 use Rattle.message.proofs.SixesLaws.{length-numbers}
 use Rattle.writer.specs.ContentsInner.{partners_in, Writable}
 use Rattle.reports.specs.FileRows.{supply_number, delivery_number, directions, partner_numbers, is_written, partners_of, Volumes, observations_by, time_series_by, partner_by, partners_by}
@@ -52,7 +52,7 @@ use Rattle.quarters.specs.Quarters.{month_quarters}
 use Rattle.integers.proofs.AllLaws.{each_all, all-each, all_append}
 use Rattle.integers.proofs.CountsLaws.{times-mem}
 use Rattle.integers.proofs.RangesLaws.{length-range}
-use Rattle.message.specs.GroupLaws.{first_group}
+use Rattle.message.proofs.GroupLaws.{first_group}
 use Rattle.reports.specs.FileRowsInner.{observations_of, partner_at}
 use Rattle.writer.specs.RowsInner.{row_at, Directed}
 use Rattle.integers.proofs.ListsLaws.{flat_map-append}

@@ -1,7 +1,7 @@
 // A partner's file rows, filled from a book's delivered volumes: six numbers each, as the write call takes them.
 ghost use Rattle.std.specs.Prelude.{◌≡◌, ◌∷◌, [], ◌+◌, ◌*◌, ◌≤◌, length};
 ghost use Rattle.book.specs.Book.{book_of};
-ghost use Rattle.message.specs.ObservationForm.{observed};
+ghost use Rattle.message.specs.Reading.{observed};
 ghost use Rattle.reports.specs.FileRows.{supply_number, delivery_number};
 ghost use Rattle.series.specs.SumsInner.{DeliveredIn};
 ghost use Rattle.partners.specs.ObservationsInner.{observation_if, observations_in};

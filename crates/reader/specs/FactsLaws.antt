@@ -12,7 +12,8 @@ use Rattle.cursor.proofs.MovesLaws.{stands}
 use Rattle.message.specs.declared.FileFacts.{FileFacts}
 use Rattle.message.specs.declared.ReadAnswer.TheVariants.{File, Refused}
 use Rattle.message.specs.Bytes.{opening, ending}
-use Rattle.message.specs.FileForm.{Parts, file_body}
+use Rattle.message.specs.Reading.{Parts}
+use Rattle.message.proofs.FileForm.{file_body}
 use Rattle.message.specs.Rows.{Row, numbers}
 use Rattle.message.specs.Messages.{read_message}
 use Rattle.refusals.specs.Buffers.{over, afterwards}

@@ -8,7 +8,8 @@ use Rattle.kinds.specs.declared.Kind.{Kind}
 use Rattle.message.specs.Bytes.{opening, ending, root}
 use Rattle.message.specs.Contents.{Partner}
 use Rattle.message.specs.Rows.{Row, rows_of}
-use Rattle.message.specs.FileForm.{Parts, file_body}
+use Rattle.message.specs.Reading.{Parts}
+use Rattle.message.proofs.FileForm.{file_body}
 use Rattle.message.specs.declared.FileFacts.{FileFacts}
 use Rattle.series_reader.specs.ReadingInner.{folded}
 use Rattle.reader.specs.declared.file.FileRead.{FileRead}

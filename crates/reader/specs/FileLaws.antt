@@ -20,8 +20,9 @@ use Rattle.message.specs.Bytes.{opening, closing, root}
 use Rattle.message.specs.Valid.{month_of, periods, first_of, IsFile}
 use Rattle.message.specs.Group.{spread}
 use Rattle.message.specs.Rows.{Row, series_rows, partner_rows, rows_of}
-use Rattle.message.specs.SeriesListForm.{after}
-use Rattle.message.specs.FileForm.{roots, kind_of, kind_form, partners_form, file_body}
+use Rattle.message.specs.Months.{after}
+use Rattle.message.specs.Reading.{roots, kind_of}
+use Rattle.message.proofs.FileForm.{kind_form, partners_form, file_body}
 use Rattle.series_reader.specs.ItemsLaws.{unview}
 use Rattle.series_reader.specs.ReadingInner.{folded}
 use Rattle.series_reader.specs.SeriesInner.{counting}

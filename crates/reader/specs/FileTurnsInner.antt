@@ -11,9 +11,9 @@ use Rattle.cursor.specs.MovesInner.{standing, past_tag}
 use Rattle.kinds.specs.declared.Kind.{Kind}
 use Rattle.kinds.specs.declared.Kind.TheVariants.{Toe01, Toe02, Toe03}
 use Rattle.message.specs.Bytes.{opening, ending, closing, counter}
-use Rattle.message.specs.ObservationForm.{plain_number}
+use Rattle.message.proofs.ObservationForm.{plain_number}
 use Rattle.message.specs.Valid.{is_moment}
-use Rattle.message.specs.FileForm.{kind_form, file_body}
+use Rattle.message.proofs.FileForm.{kind_form, file_body}
 use Rattle.series_reader.specs.FillingInner.{Fills}
 use Rattle.reader.specs.declared.file.Root.{Root}
 use Rattle.reader.specs.declared.file.Receiver.{Receiver}

@@ -17,7 +17,8 @@ use Rattle.kinds.specs.declared.Kind.{Kind}
 use Rattle.kinds.specs.declared.Kind.TheVariants.{Toe01, Toe02, Toe03}
 use Rattle.message.specs.Bytes.{opening, closing, ending, root, counter}
 use Rattle.message.specs.Valid.{is_moment}
-use Rattle.message.specs.FileForm.{kind_of, kind_form, partners_form}
+use Rattle.message.specs.Reading.{kind_of}
+use Rattle.message.proofs.FileForm.{kind_form, partners_form}
 use Rattle.passages.specs.declared.MessageFound.{MessageFound}
 use Rattle.passages.specs.declared.ReceiverFound.{ReceiverFound}
 use Rattle.reader.specs.declared.partners.PartnersTodo.{PartnersTodo}

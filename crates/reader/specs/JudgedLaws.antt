@@ -13,8 +13,10 @@ use Rattle.message.specs.declared.ReadAnswer.TheVariants.{File, Refused}
 use Rattle.message.specs.Contents.{Partner}
 use Rattle.message.specs.Bytes.{opening, ending, closing, root}
 use Rattle.message.specs.Valid.{IsFile}
-use Rattle.message.specs.FileForm.{Parts, file_of, file_body, file}
-use Rattle.message.specs.MessageForm.{message_form}
+use Rattle.message.specs.Reading.{Parts, file_of}
+use Rattle.message.proofs.FileForm.{file_body, file}
+use Rattle.message.proofs.MessageForm.{message_form}
+use Rattle.message.proofs.ReadingLaws.{read-message}
 use Rattle.message.specs.Rows.{rows_of, Message, message}
 use Rattle.message.specs.Messages.{read_message}
 use Rattle.message.specs.Calls.{id_place, moment_place, facts_of, read_answer}
@@ -28,7 +30,7 @@ use Rattle.reader.specs.FileLaws.{partners-rows, partners-month}
 module _ (s : List ℕ) where
   whole-file : (p : Parts) → file_body.parse s ≡ got p [] → read_message s ≡ got (message (file_of p)) []
   unfolding read_all message_form file map_parse
-  whole-file p e = rw e
+  whole-file p e = read-message s ∙ rw e
 
   valid-file : (p : Parts) (r : List ℕ) → file_body.parse s ≡ got p r → IsFile (file_of p)
   unfolding file map_parse
@@ -36,11 +38,11 @@ module _ (s : List ℕ) where
 
   no_body : file_body.parse s ≡ bad → read_message s ≡ bad
   unfolding read_all message_form file map_parse
-  no_body e = rw e
+  no_body e = read-message s ∙ rw e
 
   bytes_left : (p : Parts) (x : ℕ) (r : List ℕ) → file_body.parse s ≡ got p (x ∷ r) → read_message s ≡ bad
   unfolding read_all message_form file map_parse
-  bytes_left p x r e = rw e
+  bytes_left p x r e = read-message s ∙ rw e
 
 -- ---- 13
 

@@ -14,9 +14,9 @@ use Rattle.kinds.specs.declared.Kind.{Kind}
 use Rattle.kinds.specs.declared.Kind.TheVariants.{Toe01, Toe02, Toe03}
 use Rattle.message.specs.Contents.{TimeSeries}
 use Rattle.message.specs.Bytes.{opening, ending, closing, group, partner, digits, supplies}
-use Rattle.message.specs.SeriesForm.{counted, apart-supplies}
-use Rattle.message.specs.SeriesListForm.{series_list}
-use Rattle.message.specs.PartnerForm.{own_partner, own_partner_body, shared_partner, shared_partner_body, partner_form}
+use Rattle.message.proofs.SeriesForm.{counted, apart-supplies}
+use Rattle.message.proofs.SeriesListForm.{series_list}
+use Rattle.message.proofs.PartnerForm.{own_partner, own_partner_body, shared_partner, shared_partner_body, partner_form}
 use Rattle.cursor.specs.MovesInner.{keep}
 use Rattle.series_reader.specs.ItemsLaws.{run-same, viewed, read-long}
 use Rattle.series_reader.specs.ReadingInner.{folded}

@@ -10,7 +10,7 @@ use Rattle.cursor.specs.declared.Cursor.{Cursor}
 use Rattle.cursor.specs.MovesInner.{keep, standing, cursor_at, lost, past_tag}
 use Rattle.kinds.specs.declared.Kind.{Kind}
 use Rattle.kinds.specs.declared.Kind.TheVariants.{Toe01, Toe02, Toe03}
-use Rattle.message.specs.FileForm.{partners_form}
+use Rattle.message.proofs.FileForm.{partners_form}
 use Rattle.series_reader.specs.declared.series.SeriesTodo.{SeriesTodo}
 use Rattle.reader.specs.declared.partners.Head.{Head}
 use Rattle.reader.specs.declared.partners.PartnersTodo.{PartnersTodo}

@@ -17,7 +17,7 @@ use Rattle.cursor.proofs.ParsedLaws.{tag-parsed, fixed-fits}
 use Rattle.kinds.specs.declared.Kind.{Kind}
 use Rattle.kinds.specs.declared.Kind.TheVariants.{Toe01, Toe02, Toe03}
 use Rattle.message.specs.Bytes.{opening, closing, ending, group, partner}
-use Rattle.message.specs.PartnerForm.{partner_form}
+use Rattle.message.proofs.PartnerForm.{partner_form}
 use Rattle.series_reader.specs.declared.series.SeriesTodo.{SeriesTodo}
 use Rattle.reader.specs.declared.partners.PartnersTodo.{PartnersTodo}
 use Rattle.reader.specs.PassagesLaws.{company-read, access-read, access-fits}

@@ -16,8 +16,8 @@ use Rattle.message.specs.Contents.{Observation, TimeSeries, Partner}
 use Rattle.message.specs.Bytes.{closing, group}
 use Rattle.message.specs.Rows.{Row, rows_of, series_rows}
 use Rattle.message.specs.Group.{spread}
-use Rattle.message.specs.PartnerForm.{partner_form}
-use Rattle.message.specs.FileForm.{partners_form}
+use Rattle.message.proofs.PartnerForm.{partner_form}
+use Rattle.message.proofs.FileForm.{partners_form}
 use Rattle.series_reader.specs.ItemsLaws.{viewed, view-bad, unview}
 use Rattle.series_reader.specs.ReadingInner.{folded}
 use Rattle.series_reader.specs.SeriesInner.{counting, list_form}

@@ -4,7 +4,7 @@ use Rattle.formats.specs.Format.{Format}
 use Rattle.formats.specs.Rising.{from_low}
 use Rattle.kinds.specs.declared.Kind.{Kind}
 use Rattle.message.specs.Contents.{TimeSeries, Partner, number}
-use Rattle.message.specs.PartnerForm.{partner_form}
+use Rattle.message.proofs.PartnerForm.{partner_form}
 use Rattle.message.specs.Months.{next_months}
 use Rattle.series_reader.specs.ReadingInner.{folded}
 use Rattle.series_reader.specs.SeriesInner.{counting}

@@ -13,10 +13,10 @@ use Rattle.formats.specs.declared.Mark.{Mark}
 use Rattle.kinds.specs.declared.Kind.{Kind}
 use Rattle.message.specs.Contents.{TimeSeries, Partner, number}
 use Rattle.message.specs.Valid.{month_of}
-use Rattle.message.specs.SeriesListForm.{after}
-use Rattle.message.specs.PartnerForm.{partner_form}
+use Rattle.message.specs.Months.{after}
+use Rattle.message.proofs.PartnerForm.{partner_form}
 use Rattle.message.specs.Months.{next_months}
-use Rattle.message.specs.FileForm.{partners_form}
+use Rattle.message.proofs.FileForm.{partners_form}
 use Rattle.cursor.specs.MovesInner.{keep}
 use Rattle.series_reader.specs.ItemsLaws.{run-same, viewed, view-bad, view-only, fold_parse, fold_end, fold-bad, fold_step}
 use Rattle.series_reader.specs.ReadingInner.{folded}

@@ -13,8 +13,8 @@ use Rattle.formats.specs.declared.Mark.TheVariants.{At, No}
 use Rattle.kinds.specs.declared.Kind.{Kind}
 use Rattle.message.specs.Bytes.{opening, ending, closing, root, counter}
 use Rattle.message.specs.Valid.{is_moment}
-use Rattle.message.specs.ObservationForm.{plain_number}
-use Rattle.message.specs.FileForm.{kind_form, partners_form}
+use Rattle.message.proofs.ObservationForm.{plain_number}
+use Rattle.message.proofs.FileForm.{kind_form, partners_form}
 use Rattle.series_reader.specs.ReadingInner.{folded}
 use Rattle.series_reader.specs.ItemsLaws.{read-long}
 use Rattle.reader.specs.PartnerLaws.{tag_form}

@@ -1,7 +1,7 @@
 // A file is judged, its rows are counted, and they fill the lent numbers as far as these go: one cursor goes through it, from its first byte on.
 ghost use Rattle.std.specs.Prelude.{◌≡◌, ◌++◌, suc};
 ghost use Rattle.message.specs.Bytes.{opening, ending, closing, counter};
-ghost use Rattle.message.specs.FileForm.{kind_of};
+ghost use Rattle.message.specs.Reading.{kind_of};
 ghost use Rattle.passages.specs.PassagesInner.{receiver_found};
 ghost use Rattle.reader.specs.FileTurnsInner.{Rooted, Received, root_end, FileDone};
 

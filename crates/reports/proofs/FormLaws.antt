@@ -35,7 +35,7 @@ use Rattle.volumes.proofs.SoundLaws.{mem-range}
 use Rattle.volumes.proofs.WidthsLaws.{most, delivered-most}
 use Rattle.message.specs.Contents.{Observation, TimeSeries, Partner, place, position, number}
 use Rattle.message.specs.Bytes.{digits, supply_of}
-use Rattle.message.specs.PositionsLaws.{last-is}
+use Rattle.message.proofs.PositionsLaws.{last-is}
 use Rattle.message.specs.Valid.{last_position, IsObservation, IsVolume, IsSeries, OneSupply, IsPartner, is_moment, month_of, periods, first_of, IsFile}
 use Rattle.reports.specs.FileRows.{supply_number, delivery_number, is_taken, partner_numbers, directions, is_written, partners_of, file_of, observation_by, observations_by, time_series_by, partner_by, partners_by}
 use Rattle.reports.specs.Roles.{receivers}

@@ -36,7 +36,7 @@ use Rattle.volumes.specs.Sheets.{covers, quarter_at}
 use Rattle.volumes.specs.declared.Series.{Series}
 use Rattle.volumes.specs.Series.{Kind, Toe01, takes, receiver_of, partner_of, same_supply, same_direction, is_point, is_engagement, grains_of, grains_at, series_watts, series_of}
 use Rattle.volumes.proofs.ClockExamplesLaws.{march as month, clocks-ranged}
-use Rattle.message.specs.PositionsLaws.{march-last}
+use Rattle.message.proofs.PositionsLaws.{march-last}
 use Rattle.reports.proofs.GivenLaws.{words-length, word_at, none_first, Parts, Good, book_by, passes, says, carries-by, accepted-by}
 use Rattle.reports.specs.Small.{table, register, Carries}
 use Rattle.reports.specs.March.{header, calendar, watt_at, readings, engagements, march, MarchShown}

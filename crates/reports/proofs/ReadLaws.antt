@@ -14,9 +14,9 @@ use Rattle.message.specs.Contents.{Partner}
 use Rattle.message.specs.Bytes.{file_bytes}
 use Rattle.message.specs.Valid.{is_moment, periods, first_of}
 use Rattle.message.specs.Rows.{Row, rows_of, partners_of as regrouped, message}
-use Rattle.message.specs.RowsLaws.{partners-undo, first-month}
-use Rattle.message.specs.FileForm.{file}
-use Rattle.message.specs.MessageForm.{message-recast}
+use Rattle.message.proofs.RowsLaws.{partners-undo, first-month}
+use Rattle.message.proofs.FileForm.{file}
+use Rattle.message.proofs.MessageForm.{message-recast}
 use Rattle.message.specs.Messages.{read_message}
 use Rattle.message.proofs.FileLaws.{written-is-read}
 use Rattle.reports.specs.FileRows.{partners_of, file_of, file_text, file_rows, month_in, message_of}

@@ -18,7 +18,7 @@ use Rattle.formats.proofs.PlaceLaws.{no-at, same_at}
 use Rattle.formats.specs.declared.Mark.{Mark}
 use Rattle.formats.specs.declared.Mark.TheVariants.{At, No}
 use Rattle.message.specs.Rows.{Row, row_numbers, numbers}
-use Rattle.message.specs.ObservationForm.{observed}
+use Rattle.message.specs.Reading.{observed}
 use Rattle.message.proofs.SixesLaws.{length-numbers}
 use Rattle.series_reader.specs.FillingInner.{Fills, Stored}
 

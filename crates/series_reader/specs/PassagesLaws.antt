@@ -14,8 +14,9 @@ use Rattle.cursor.proofs.ParsedLaws.{tag-parsed, number-parsed, fixed-parsed, wo
 use Rattle.cursor.proofs.ParsedLaws as moves
 use Rattle.moments.specs.Moments.{moment_bytes, period_start, period_end}
 use Rattle.message.specs.Bytes.{opening, ending, closing, element, supplies, deliveries}
-use Rattle.message.specs.ObservationForm.{plain_number, observation_body, behind_month}
-use Rattle.message.specs.SeriesForm.{counted}
+use Rattle.message.specs.Reading.{behind_month}
+use Rattle.message.proofs.ObservationForm.{plain_number, observation_body}
+use Rattle.message.proofs.SeriesForm.{counted}
 use Rattle.passages.specs.PassagesInner.{observation_found, observation_to, month_found, month_to, volume_found, volume_to, behind_month_by, own_start, shared_start}
 use Rattle.series_reader.specs.ReadingLaws.{quantity-parsed, body-parsed, behind-parsed}
 

@@ -6,8 +6,9 @@ use Rattle.formats.specs.PlaceInner.{placed, Within, Parsed}
 use Rattle.formats.specs.declared.Mark.{Mark}
 use Rattle.message.specs.Contents.{Observation, TimeSeries}
 use Rattle.message.specs.Valid.{last_position}
-use Rattle.message.specs.ObservationForm.{observations, observable}
-use Rattle.message.specs.SeriesForm.{position-fits, volume_body}
+use Rattle.message.specs.Reading.{observable}
+use Rattle.message.proofs.ObservationForm.{observations}
+use Rattle.message.proofs.SeriesForm.{position-fits, volume_body}
 
 -- an observation of the month, from position low on
 abbrev pub in_order : ℕ → ℕ → ℕ × ℕ → Bool

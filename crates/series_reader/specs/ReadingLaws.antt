@@ -24,8 +24,9 @@ use Rattle.moments.specs.MomentsLaws.{length-moment}
 use Rattle.message.specs.Contents.{Observation, TimeSeries, position}
 use Rattle.message.specs.Bytes.{opening, ending, closing, element, supplies, deliveries}
 use Rattle.message.specs.Valid.{last_position}
-use Rattle.message.specs.ObservationForm.{is_period, month_body, behind_month, period, observation, observations, plain_number, quantity, observation_body, observable, observed}
-use Rattle.message.specs.SeriesForm.{position-fits, counted, Volume, volume_body, of_volume, volume_of, volume-back, own_body, shared_body}
+use Rattle.message.specs.Reading.{is_period, behind_month, observable, observed, Volume, of_volume}
+use Rattle.message.proofs.ObservationForm.{month_body, period, observation, observations, plain_number, quantity, observation_body}
+use Rattle.message.proofs.SeriesForm.{position-fits, counted, volume_body, volume_of, volume-back, own_body, shared_body}
 use Rattle.series_reader.specs.ReadingInner.{in_order, Passed, observations_of, VolumeRead, outline}
 
 -- how an observation of the month, from position low on, is read

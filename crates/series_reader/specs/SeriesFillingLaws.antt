@@ -18,9 +18,11 @@ use Rattle.message.specs.Contents.{Observation, TimeSeries, place}
 use Rattle.message.specs.Bytes.{opening, ending, closing, element, supplies, deliveries}
 use Rattle.message.specs.Valid.{last_position, month_of}
 use Rattle.message.specs.Rows.{Row, row_numbers, numbers}
-use Rattle.message.specs.ObservationForm.{observation, observations, period}
-use Rattle.message.specs.SeriesForm.{counted, Volume, volume_body, of_volume}
-use Rattle.message.specs.SeriesListForm.{follows, series_list}
+use Rattle.message.proofs.ObservationForm.{observation, observations, period}
+use Rattle.message.specs.Reading.{Volume, of_volume}
+use Rattle.message.proofs.SeriesForm.{counted, volume_body}
+use Rattle.message.specs.Months.{follows}
+use Rattle.message.proofs.SeriesListForm.{series_list}
 use Rattle.series_reader.specs.ReadingLaws.{observing, observation_item, observation_onto, volume-parsed, own_parse, own-body, own_read, shared_parse, shared-body, shared-read}
 use Rattle.series_reader.specs.ReadingInner.{Passed, observations_of, VolumeRead, Outline, outline}
 use Rattle.series_reader.specs.ItemsLaws.{viewed, view-bad}

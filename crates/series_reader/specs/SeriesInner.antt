@@ -9,9 +9,10 @@ use Rattle.kinds.specs.declared.Kind.TheVariants.{Toe01, Toe02, Toe03}
 use Rattle.message.specs.Contents.{TimeSeries, place}
 use Rattle.message.specs.Bytes.{series_bytes}
 use Rattle.message.specs.Valid.{month_of}
-use Rattle.message.specs.SeriesForm.{own_series, shared_series}
-use Rattle.message.specs.SeriesListForm.{follows, following, series_list}
-use Rattle.message.specs.PartnerForm.{own-01, own-02}
+use Rattle.message.proofs.SeriesForm.{own_series, shared_series}
+use Rattle.message.specs.Months.{follows}
+use Rattle.message.proofs.SeriesListForm.{following, series_list}
+use Rattle.message.proofs.PartnerForm.{own-01, own-02}
 use Rattle.series_reader.specs.ReadingInner.{Outline}
 
 -- a series with its own supply direction, or with x, that of its access point

@@ -20,7 +20,8 @@ use Rattle.kinds.specs.declared.Kind.TheVariants.{Toe01, Toe02, Toe03}
 use Rattle.message.specs.Contents.{Observation, TimeSeries, place}
 use Rattle.message.specs.Bytes.{opening, closing, element, deliveries, in_series, supply_bytes, observation_bytes, period_bytes, volume_bytes, series_bytes}
 use Rattle.message.specs.Valid.{month_of}
-use Rattle.message.specs.SeriesListForm.{follows, following, series_list}
+use Rattle.message.specs.Months.{follows}
+use Rattle.message.proofs.SeriesListForm.{following, series_list}
 use Rattle.cursor.specs.MovesInner.{keep}
 use Rattle.series_reader.specs.ReadingInner.{Outline, outline, folded}
 use Rattle.series_reader.specs.ItemsLaws.{run-same, only_same, viewed, view-bad, view-only, fold_parse, fold_end, fold-bad, fold_step, longer, longer-both, flat-long, read-long}

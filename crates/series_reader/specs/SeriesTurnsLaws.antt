@@ -18,7 +18,8 @@ use Rattle.cursor.proofs.MovesLaws.{standing-within, stands_at}
 use Rattle.kinds.specs.declared.Kind.{Kind}
 use Rattle.kinds.specs.declared.Kind.TheVariants.{Toe01, Toe02, Toe03}
 use Rattle.message.specs.Bytes.{opening, closing}
-use Rattle.message.specs.SeriesForm.{volume_body, of_volume}
+use Rattle.message.specs.Reading.{of_volume}
+use Rattle.message.proofs.SeriesForm.{volume_body}
 use Rattle.series_reader.specs.declared.series.SeriesTodo.{SeriesTodo}
 use Rattle.series_reader.specs.declared.elements.SeriesFound.{SeriesFound}
 use Rattle.passages.specs.PassagesInner.{own_start}

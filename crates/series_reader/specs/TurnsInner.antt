@@ -6,7 +6,7 @@ use Rattle.formats.specs.declared.Mark.TheVariants.{At, No}
 use Rattle.cursor.specs.declared.Cursor.{Cursor}
 use Rattle.cursor.specs.MovesInner.{standing, cursor_at, lost}
 use Rattle.message.specs.Valid.{last_position}
-use Rattle.message.specs.ObservationForm.{observed}
+use Rattle.message.specs.Reading.{observed}
 use Rattle.series_reader.specs.declared.elements.Wanted.{Wanted}
 use Rattle.series_reader.specs.declared.elements.Todo.{Todo}
 use Rattle.series_reader.specs.ReadingInner.{Passed, observations_of}

@@ -14,7 +14,8 @@ use Rattle.cursor.proofs.MovesLaws.{standing-within, stands_at}
 use Rattle.message.specs.Contents.{Observation}
 use Rattle.message.specs.Valid.{last_position}
 use Rattle.message.specs.Rows.{Row}
-use Rattle.message.specs.ObservationForm.{observation, observed}
+use Rattle.message.specs.Reading.{observed}
+use Rattle.message.proofs.ObservationForm.{observation}
 use Rattle.series_reader.specs.declared.elements.Key.{Key}
 use Rattle.series_reader.specs.declared.elements.Wanted.{Wanted}
 use Rattle.series_reader.specs.declared.elements.Todo.{Todo}

@@ -5,8 +5,8 @@ use Rattle.formats.specs.PlaceInner.{Parsed}
 use Rattle.formats.specs.declared.Mark.TheVariants.{No}
 use Rattle.cursor.specs.declared.Cursor.{Cursor}
 use Rattle.cursor.specs.MovesInner.{standing}
-use Rattle.message.specs.ObservationForm.{is_period, behind_month}
-use Rattle.message.specs.SeriesForm.{volume_body, of_volume}
+use Rattle.message.specs.Reading.{is_period, behind_month, of_volume}
+use Rattle.message.proofs.SeriesForm.{volume_body}
 use Rattle.passages.specs.declared.MonthFound.{MonthFound}
 use Rattle.series_reader.specs.declared.elements.VolumeTodo.{VolumeTodo}
 use Rattle.series_reader.specs.declared.elements.SeriesFound.{SeriesFound}

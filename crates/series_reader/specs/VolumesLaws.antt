@@ -7,7 +7,8 @@ use Rattle.cursor.specs.declared.Cursor.{Cursor}
 use Rattle.cursor.specs.MovesInner.{standing, lost, past_tag}
 use Rattle.moments.specs.Moments.{moment_bytes, period_start, period_end}
 use Rattle.message.specs.Valid.{IsPeriod}
-use Rattle.message.specs.ObservationForm.{is_period, period}
+use Rattle.message.specs.Reading.{is_period}
+use Rattle.message.proofs.ObservationForm.{period}
 use Rattle.passages.specs.declared.MonthFound.{MonthFound}
 use Rattle.passages.specs.declared.VolumeFound.{VolumeFound}
 use Rattle.series_reader.specs.declared.elements.VolumeTodo.{VolumeTodo}

@@ -1,7 +1,7 @@
 // A time series, from its observations up: the cursor that was lent is lent on, to passages, to the loop over observations and to the tags behind them.
 ghost use Rattle.std.specs.Prelude.{◌≡◌, ◌+◌, ◌-◌, ◌*◌, ◌≤◌, ◌<◌};
 ghost use Rattle.cursor.specs.MovesInner.{standing, keep};
-ghost use Rattle.message.specs.ObservationForm.{observed};
+ghost use Rattle.message.specs.Reading.{observed};
 ghost use Rattle.series_reader.specs.ReadingInner.{in_order};
 ghost use Rattle.series_reader.specs.FillingInner.{Stored};
 ghost use Rattle.series_reader.specs.TurnsInner.{at_first, After, Whole};

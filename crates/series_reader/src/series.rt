@@ -1,6 +1,6 @@
 // The series of a partner: the loop over them moves the cursor that was lent to it.
 ghost use Rattle.std.specs.Prelude.{◌≡◌, ◌+◌, ◌-◌, ◌*◌, ◌^◌, ◌≤◌, ◌<◌};
-ghost use Rattle.message.specs.SeriesListForm.{follows};
+ghost use Rattle.message.specs.Months.{follows};
 ghost use Rattle.series_reader.specs.SeriesInner.{joins};
 ghost use Rattle.series_reader.specs.SeriesTurnsInner.{series_start, series_none, series_next, SeriesEnd, SeriesStep, SeriesWhole};
 

@@ -24,7 +24,7 @@ use Rattle.message.specs.Rows.{Row, Message, contents}
 use Rattle.message.specs.Messages.{message_bytes, read_message}
 use Rattle.message.proofs.FileLaws.{read-is-written}
 use Rattle.message.proofs.SizeLaws.{file-least}
-use Rattle.message.specs.RowsLaws.{rows-undo}
+use Rattle.message.proofs.RowsLaws.{rows-undo}
 use Rattle.message.specs.Calls.{facts_of, read_refusal, message_in, read_answer}
 use Rattle.writer.specs.Rows.{is_rows, rows_message}
 use Rattle.writer.specs.WriteCalls.{text_from, write_refusal, write_answer, WriteCalled}

@@ -12,7 +12,8 @@ use Rattle.kinds.specs.declared.Kind.{Kind}
 use Rattle.message.specs.Contents.{Observation}
 use Rattle.message.specs.Valid.{last_position}
 use Rattle.message.specs.Bytes.{observation_bytes, series_bytes, supply_of, partner_bytes}
-use Rattle.message.specs.ObservationForm.{observed, is_period, to-period}
+use Rattle.message.specs.Reading.{observed, is_period}
+use Rattle.message.proofs.ObservationForm.{to-period}
 use Rattle.message.specs.Keys.{number_keys, directions_keys}
 use Rattle.message.specs.Group.{group}
 use Rattle.message.specs.Rows.{rows_from, rows_in, in_sixes, series_of, partner_of, partners_of, contents}
@@ -23,7 +24,7 @@ use Rattle.writer.specs.RunsInner.{PartnerRun, DirectionsRun}
 use Rattle.emitter.specs.PartsInner.{file_head, file_end}
 use Rattle.emitter.specs.PartsLaws.{file-parts}
 use Rattle.writer.specs.ContentsInner.{observations_in, series_at, series_in, partner_at, partners_in, Writable}
-use Rattle.message.specs.GroupLaws.{first_group}
+use Rattle.message.proofs.GroupLaws.{first_group}
 use Rattle.writer.specs.RowsInner.{row_at, Directed}
 
 -- ---- observations

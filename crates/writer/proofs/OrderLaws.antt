@@ -9,7 +9,7 @@ use Rattle.integers.specs.Rises.{rises}
 use Rattle.integers.specs.All.{All}
 use Rattle.message.specs.Group.{Keys, push, group}
 use Rattle.writer.specs.Order.{every, follow, ordered, both, by}
-use Rattle.message.specs.GroupLaws.{first_group}
+use Rattle.message.proofs.GroupLaws.{first_group}
 
 abbrev pub keys_of : {K A : Type 0} → List (K × A) → List K
 keys_of l = map (λ x. x.0) l

@@ -14,7 +14,7 @@ use Rattle.message.specs.declared.FileFacts.{FileFacts}
 use Rattle.message.specs.declared.ReadAnswer.{ReadAnswer}
 use Rattle.message.specs.declared.WriteAnswer.{WriteAnswer}
 use Rattle.message.specs.declared.WriteAnswer.TheVariants.{Bytes}
-use Rattle.message.specs.FileForm.{moment-length}
+use Rattle.message.proofs.FileForm.{moment-length}
 use Rattle.message.specs.Rows.{numbers, rows_in, in_sixes, Message, contents, IsMessage}
 use Rattle.message.proofs.SixesLaws.{numbers-rows, length-numbers, rows-numbers, numbers-sixes}
 use Rattle.message.specs.Messages.{message_bytes, read_message}

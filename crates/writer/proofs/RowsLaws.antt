@@ -16,17 +16,18 @@ use Rattle.kinds.specs.declared.Kind.TheVariants.{Toe01, Toe02, Toe03}
 use Rattle.message.specs.Contents.{Observation, TimeSeries, Partner, position, place, number}
 use Rattle.message.specs.Bytes.{digits, supply_of}
 use Rattle.message.specs.Valid.{most, last_position, IsObservation, IsPeriod, IsSeries, OneSupply, IsPartner, is_moment, month_of, periods, first_of}
-use Rattle.message.specs.PositionsLaws.{position-small}
-use Rattle.message.specs.ObservationForm.{is_period, to-period, from-period}
+use Rattle.message.proofs.PositionsLaws.{position-small}
+use Rattle.message.specs.Reading.{is_period}
+use Rattle.message.proofs.ObservationForm.{to-period, from-period}
 use Rattle.message.specs.Keys.{number_keys, directions_keys}
 use Rattle.message.specs.Group.{Keys, group}
 use Rattle.message.specs.Rows.{Row, rows_from, rows_in, zeros, in_sixes, series_of, partner_of, partners_of, Message, contents, IsMessage}
-use Rattle.message.specs.RowsLaws.{first-month}
+use Rattle.message.proofs.RowsLaws.{first-month}
 use Rattle.moments.specs.Ids.{is_transaction_id}
 use Rattle.writer.specs.Order.{every, follow, ordered, by, both}
 use Rattle.writer.specs.Rows.{is_observation, is_directions, is_number, one_supply, later_directions, later, is_row, row_before, of_month, is_rows, rows_message}
 use Rattle.integers.proofs.AllLaws.{all_map, all_of, all_append, all_both, all_of_map, map-all}
-use Rattle.message.specs.GroupLaws.{first_group}
+use Rattle.message.proofs.GroupLaws.{first_group}
 use Rattle.writer.proofs.OrderLaws.{every-group, full-groups, every-all, all-every, ordered-map, ordered-both, rises-follow, keys_of, in_order, order-groups}
 use Rattle.writer.specs.RowsInner.{row_at, six_at, behind}
 use Rattle.integers.proofs.RisesLaws.{rises-few}

@@ -8,7 +8,7 @@ use Rattle.integers.specs.All.{All}
 use Rattle.message.specs.Contents.{Observation}
 use Rattle.message.specs.Keys.{number_keys, directions_keys}
 use Rattle.message.specs.Group.{Keys, group}
-use Rattle.message.specs.GroupLaws.{Ends, leading}
+use Rattle.message.proofs.GroupLaws.{Ends, leading}
 use Rattle.message.specs.Rows.{Row, rows_from}
 use Rattle.writer.specs.RunsInner.{PartnerRun, DirectionsRun}
 use Rattle.writer.specs.RowsInner.{row_at}

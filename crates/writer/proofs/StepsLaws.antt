@@ -8,7 +8,7 @@ use Rattle.integers.proofs.TestsLaws.{and_left, and_right}
 use Rattle.kinds.specs.declared.Kind.{Kind}
 use Rattle.message.specs.Contents.{Observation}
 use Rattle.message.specs.Valid.{last_position}
-use Rattle.message.specs.ObservationForm.{is_period}
+use Rattle.message.specs.Reading.{is_period}
 use Rattle.message.specs.Rows.{rows_from, rows_in, zeros, in_sixes}
 use Rattle.writer.specs.Order.{every, follow, ordered}
 use Rattle.writer.specs.Rows.{is_observation, is_directions, is_number, is_row, later, later_directions, directions_before, row_before, of_month, is_rows}

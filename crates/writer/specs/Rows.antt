@@ -5,7 +5,7 @@ use Rattle.kinds.specs.declared.Kind.TheVariants.{Toe01, Toe02, Toe03}
 use Rattle.message.specs.Contents.{Observation}
 use Rattle.message.specs.Bytes.{digits}
 use Rattle.message.specs.Valid.{last_position}
-use Rattle.message.specs.ObservationForm.{is_period}
+use Rattle.message.specs.Reading.{is_period}
 use Rattle.message.specs.Keys.{number_keys, directions_keys}
 use Rattle.message.specs.Rows.{Row, rows_in, in_sixes, Message}
 use Rattle.writer.specs.Order.{every, ordered, by, both}

@@ -1,7 +1,7 @@
 -- The tests one after the other.
 use native.Mathlib.Omega.{arith}
 use borrow.Author.Tests.{le-leb, lt-leb}
-use Rattle.message.specs.ObservationForm.{is_period}
+use Rattle.message.specs.Reading.{is_period}
 use Rattle.message.proofs.is_period.Goals as goal
 
 pub returns-then-year-lt2018 : goal.returns-then-year-lt2018

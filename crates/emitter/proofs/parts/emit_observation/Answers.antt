@@ -1,7 +1,7 @@
 -- Five parts, one behind the other.
 use Rattle.text.specs.Ascii.{bytes}
 use Rattle.message.specs.Bytes.{opening, ending, closing, observation_bytes}
-use Rattle.message.specs.ObservationForm.{observed}
+use Rattle.message.specs.Reading.{observed}
 use Rattle.emitter.specs.LaidLaws.{laid_then, laid-is}
 use Rattle.emitter.specs.PartsLaws.{observation-parts}
 use Rattle.emitter.proofs.parts.emit_observation.Goals as goal

@@ -5,8 +5,9 @@ use Prim.Native.Nat.{ℕ}
 use lib.ListN.{take, drop}
 use native.Mathlib.Omega.{arith}
 use Rattle.moments.specs.Moments.{moment_bytes, period_start}
-use Rattle.message.specs.ObservationForm.{to-period}
-use Rattle.series_reader.specs.VolumesLaws.{is-month, month-behind}
+use borrow.Author.Tests.{not-true, not-false}
+use Rattle.message.proofs.ObservationForm.{to-period}
+use Rattle.series_reader.specs.VolumesLaws.{is-month, month-none, month-behind}
 use Rattle.series_reader.specs.ReadingLaws.{moment-part}
 use Rattle.series_reader.proofs.elements.month_by.Goals as goal
 

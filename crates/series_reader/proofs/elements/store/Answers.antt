@@ -1,5 +1,8 @@
 -- Six stores, one behind the other, where the test left room for them.
-use Rattle.series_reader.specs.FillingLaws.{stored-six}
+use lib.ListN.{length-set}
+use Rattle.message.specs.Reading.{observed}
+use Rattle.series_reader.specs.FillingLaws.{stored-none, stored-six}
+use native.Mathlib.Omega.{arith}
 use borrow.Author.Rules.{rules}
 use Rattle.series_reader.proofs.elements.store.Goals as goal
 

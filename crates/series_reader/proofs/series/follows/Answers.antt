@@ -1,6 +1,6 @@
 -- The tests one after the other.
 use borrow.Author.Tests.{eq-eqb, ne_eqb}
-use Rattle.message.specs.SeriesListForm.{follows}
+use Rattle.message.specs.Months.{follows}
 use Rattle.series_reader.proofs.series.follows.Goals as goal
 
 pub returns-then-seen_year-eq0 : goal.returns-then-seen_year-eq0

@@ -23,15 +23,13 @@ use Rattle.kinds.specs.declared.Kind.TheVariants.{Toe01, Toe02, Toe03}
 use Rattle.message.specs.Contents.{Partner, File, number}
 use Rattle.message.specs.Bytes.{opening, ending, closing, root, counter, partner_bytes, file_bytes}
 use Rattle.message.specs.Valid.{is_real, is_moment, periods, IsFile}
-use Rattle.message.specs.ObservationForm.{plain_number}
-use Rattle.message.specs.PartnerForm.{partner_form, partner-bytes}
+use Rattle.message.specs.Reading.{roots, kind_of, Parts, file_of}
+use Rattle.message.proofs.ObservationForm.{plain_number}
+use Rattle.message.proofs.PartnerForm.{partner_form, partner-bytes}
 use Rattle.message.specs.Months.{next_months}
-use Rattle.message.specs.MonthsLaws.{months-to, months-from, years, one-month, month-one}
+use Rattle.message.proofs.MonthsLaws.{months-to, months-from, years, one-month, month-one}
 
 -- ---- the kind, by the root's name
-
-unfoldable pub roots : List (List ℕ)
-roots = opening (root Toe01) ∷ opening (root Toe02) ∷ opening (root Toe03) ∷ []
 
 pub apart-roots : Apart roots
 unfolding roots Apart word_at opening root bytes strip begins
@@ -45,11 +43,6 @@ apart-roots = (first, (second, ((λ n rest h. absurd (omega arith)), tt)))
     second : (n : ℕ) (rest : List ℕ) → n < 1 → strip (opening (root Toe02)) (word_at (opening (root Toe03) ∷ []) n ++ rest) ≡ bad
     second zero rest h = refl
     second (suc n) rest h = absurd (omega arith)
-
-unfoldable pub kind_of : ℕ → Kind
-kind_of zero = Toe01
-kind_of (suc zero) = Toe02
-kind_of (suc (suc n)) = Toe03
 
 unfoldable pub index_of : Kind → ℕ
 index_of Toe01 = 0
@@ -99,12 +92,6 @@ file-join : (o r t i e m w c v x s d n a l f : List ℕ)
     → r ++ (t ++ (i ++ o ++ (e ++ m) ++ (w ++ (c ++ v) ++ (x ++ (s ++ d) ++ (n ++ o ++ a ++ (l ++ f))))))
     ≡ r ++ ((t ++ i ++ (o ++ e)) ++ (m ++ w ++ c) ++ (v ++ x ++ s) ++ (d ++ n ++ (o ++ a)) ++ l) ++ f
 file-join o r t i e m w c v x s d n a l f = simp append_assoc
-
-abbrev pub Parts : Type 0
-Parts = Kind × (List ℕ × (List ℕ × (ℕ × (ℕ × List Partner))))
-
-unfoldable pub file_of : Parts → File
-file_of p = record { kind = p.0; receiver = p.1.1.1.0; id = p.1.0; moment = p.1.1.0; partners = p.1.1.1.1.1 }
 
 unfoldable pub parts_of : File → Parts
 parts_of f = (f.kind, (f.id, (f.moment, (f.receiver, (length f.partners, f.partners)))))

@@ -14,8 +14,8 @@ use Rattle.kinds.specs.declared.Kind.TheVariants.{Toe01, Toe02, Toe03}
 use Rattle.message.specs.Contents.{TimeSeries, Partner}
 use Rattle.message.specs.Bytes.{opening, ending, closing, group, partner, digits, supplies, supply_bytes, supply_of, in_series, with_partner, series_bytes, partner_bytes}
 use Rattle.message.specs.Valid.{month_of, IsSeries, OneSupply, IsPartner}
-use Rattle.message.specs.SeriesForm.{counted, counted-to, counted-from, apart-supplies, own_series, Supplied, shared_series}
-use Rattle.message.specs.SeriesListForm.{agree, series_list}
+use Rattle.message.proofs.SeriesForm.{counted, counted-to, counted-from, apart-supplies, own_series, Supplied, shared_series}
+use Rattle.message.proofs.SeriesListForm.{agree, series_list}
 use Rattle.integers.proofs.AllLaws.{all_map}
 
 -- a valid partner whose series are of the month that was seen

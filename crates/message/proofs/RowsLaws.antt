@@ -13,7 +13,7 @@ use Rattle.message.specs.Keys.{number_keys, directions_keys}
 use Rattle.message.specs.Group.{group, spread}
 use Rattle.message.specs.Rows.{Row, series_rows, partner_rows, rows_of, series_of, partner_of, partners_of}
 use Rattle.integers.proofs.AllLaws.{all_map, all_of, all_left, all_right, map-all}
-use Rattle.message.specs.GroupLaws.{spread-group, group-spread, rising-groups, first_group}
+use Rattle.message.proofs.GroupLaws.{spread-group, group-spread, rising-groups, first_group}
 
 map-undo : {A B : Type 0} (f : A → B) (g : B → A) (l : List A) → All (λ a. g (f a) ≡ a) l → map g (map f l) ≡ l
 unfolding All

@@ -9,8 +9,9 @@ use Rattle.formats.specs.Items.{ItemsOk}
 use Rattle.kinds.specs.declared.Kind.{Kind}
 use Rattle.message.specs.Contents.{TimeSeries, Partner}
 use Rattle.message.specs.Valid.{month_of, periods, first_of, IsSeries, IsPartner}
-use Rattle.message.specs.SeriesListForm.{follows, agree, after}
-use Rattle.message.specs.PartnerForm.{partner_form, partner-to, partner-from}
+use Rattle.message.specs.Months.{follows, after}
+use Rattle.message.proofs.SeriesListForm.{agree}
+use Rattle.message.proofs.PartnerForm.{partner_form, partner-to, partner-from}
 use Rattle.integers.proofs.AllLaws.{all_append}
 use Rattle.message.specs.Months.{next_months}
 

@@ -10,20 +10,13 @@ use Rattle.formats.specs.Items.{ItemsOk}
 use Rattle.formats.specs.Rising.{rising_items}
 use Rattle.message.specs.Contents.{TimeSeries, place}
 use Rattle.message.specs.Valid.{month_of}
+use Rattle.message.specs.Months.{follows, after}
 
 -- ---- series of one month
-
--- the months of series, each like the one before; none was seen before while `seen` is of year 0
-unfoldable pub follows : ℕ × ℕ → ℕ × ℕ → Bool
-follows seen q = eqb seen.0 0 || (eqb q.0 seen.0 && eqb q.1 seen.1)
 
 unfoldable pub agree : ℕ × ℕ → List (ℕ × ℕ) → Bool
 agree seen [] = true
 agree seen (q ∷ l) = follows seen q && agree q l
-
-unfoldable pub after : ℕ × ℕ → List (ℕ × ℕ) → ℕ × ℕ
-after seen [] = seen
-after seen (q ∷ l) = after q l
 
 -- n series of a format F under the month that was seen
 module _ (F : Format TimeSeries) (bytes : TimeSeries → List ℕ) (same : (s : TimeSeries) → F.render s ≡ bytes s) where

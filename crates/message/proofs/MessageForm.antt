@@ -10,10 +10,10 @@ use Rattle.kinds.specs.declared.Kind.{Kind}
 use Rattle.message.specs.Contents.{Observation, Partner, File}
 use Rattle.message.specs.Bytes.{file_bytes}
 use Rattle.message.specs.Valid.{periods, first_of, IsPartner, IsFile}
-use Rattle.message.specs.FileForm.{file}
+use Rattle.message.proofs.FileForm.{file}
 use Rattle.message.specs.Group.{group, spread}
 use Rattle.message.specs.Rows.{Row, partner_rows, rows_of, partners_of, Message, contents, message, IsMessage}
-use Rattle.message.specs.RowsLaws.{some-rows, rows-undo, partners-undo, first-month}
+use Rattle.message.proofs.RowsLaws.{some-rows, rows-undo, partners-undo, first-month}
 
 contents-message : (f : File) → IsFile f → contents (message f) ≡ f
 unfolding contents message

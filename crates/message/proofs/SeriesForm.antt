@@ -13,9 +13,10 @@ use Rattle.kinds.specs.declared.Kind.{Kind}
 use Rattle.kinds.specs.declared.Kind.TheVariants.{Toe03}
 use Rattle.message.specs.Contents.{Observation, TimeSeries}
 use Rattle.message.specs.Bytes.{opening, ending, closing, element, observation_bytes, period_bytes, supplies, deliveries, supply_bytes, volume_bytes, series_bytes, in_series}
-use Rattle.message.specs.PositionsLaws.{position-small}
+use Rattle.message.proofs.PositionsLaws.{position-small}
 use Rattle.message.specs.Valid.{most, IsVolume, IsSeries, IsCounter, last_position}
-use Rattle.message.specs.ObservationForm.{plain_number, observations, observations-ok, ok-observations, period}
+use Rattle.message.specs.Reading.{Volume, of_volume}
+use Rattle.message.proofs.ObservationForm.{plain_number, observations, observations-ok, ok-observations, period}
 
 -- ---- a time series
 
@@ -34,20 +35,12 @@ position-fits year month = omega (arith, position-small year month)
 abbrev pub counted : Format ℕ
 counted = only (λ n. ltb 0 n) plain_number
 
--- delivery direction, how many observations, their month and they
-abbrev pub Volume : Type 0
-Volume = ℕ × (ℕ × ((ℕ × ℕ) × List Observation))
-
 unfoldable pub volume_body : Format Volume
 volume_body =
     pre (opening "DeliveryDirection")
     (seq (post (words deliveries apart-deliveries) (closing "DeliveryDirection" ++ element "UnitType" (bytes "KWT") ++ opening "ObservationCounter"))
     (seq_by (post counted (ending "ObservationCounter" ++ opening "TimeSeriesPeriod"))
     (λ n. seq_by period (λ q. post (observations (last_position q.0 q.1) (position-fits q.0 q.1) n) (closing "TimeSeriesPeriod")))))
-
--- a series of any supply direction
-unfoldable pub of_volume : ℕ → Volume → TimeSeries
-of_volume supply v = record { supply = supply; delivery = v.0; year = v.1.1.0.0; month = v.1.1.0.1; observations = v.1.1.1 }
 
 unfoldable pub volume_of : TimeSeries → Volume
 volume_of s = (s.delivery, (length s.observations, ((s.year, s.month), s.observations)))

@@ -17,6 +17,7 @@ use Rattle.moments.specs.Moments.{moment_bytes, date_bytes, time_bytes, tail_byt
 use Rattle.message.specs.Contents.{Observation, position}
 use Rattle.message.specs.Bytes.{opening, ending, closing, element, quantity_bytes, observation_bytes, period_bytes}
 use Rattle.message.specs.Valid.{most, IsObservation, IsPeriod}
+use Rattle.message.specs.Reading.{observable, observed, is_period, behind_month}
 
 -- a number without leading zeros and the < that ends it
 abbrev pub plain_number : Format ℕ
@@ -53,13 +54,6 @@ unfoldable pub observation_body : Format (ℕ × ℕ)
 observation_body =
     pre (opening "Observation" ++ opening "Position")
     (seq (post plain_number (ending "Position" ++ opening "Quantity")) (post quantity (closing "Quantity" ++ closing "Observation")))
-
--- a position of the month, and watts
-abbrev pub observable : ℕ → ℕ × ℕ → Bool
-observable last p = leb p.0 last && ltb 0 p.1
-
-abbrev pub observed : ℕ × ℕ → Observation
-observed p = record { position = p.0; watts = p.1 }
 
 module _ (last : ℕ) (fits : last ≤ most) where
   pub observation-recast : Recast (only (observable last) observation_body) (IsObservation last) observation_bytes
@@ -101,9 +95,6 @@ module _ (last : ℕ) (fits : last ≤ most) where
 
 -- ---- the period
 
-unfoldable pub is_period : ℕ × ℕ → Bool
-is_period q = (leb 2018 q.0 && leb q.0 2099) && (leb 1 q.1 && leb q.1 12)
-
 pub to-period : (q : ℕ × ℕ) → is_period q ≡ true → IsPeriod q.0 q.1
 unfolding is_period
 to-period q e =
@@ -124,12 +115,6 @@ from-period q p =
 -- year and month, and what follows them
 unfoldable pub month_body : Format (ℕ × ℕ)
 month_body = only is_period (pre (opening "PeriodStart") (seq (post (fixed_digits 4) (bytes "-")) (fixed_digits 2)))
-
-unfoldable pub behind_month : ℕ × ℕ → List ℕ
-behind_month q =
-    drop 7 (moment_bytes (period_start q.0 q.1)) ++ closing "PeriodStart"
-    ++ element "PeriodEnd" (moment_bytes (period_end q.0 q.1))
-    ++ element "PeriodResolution" (bytes "PT15M")
 
 -- the first bytes are the year and the month
 month-split : (year month : ℕ)
