@@ -7,7 +7,7 @@ use Rattle.std.proofs.lemmas.Bool.{lt-leb}
 use Rattle.formats.specs.Format.{Res, got, bad}
 use Rattle.formats.specs.FormatLaws.{got-bad, sound-of}
 use Rattle.requests.specs.Line.{Words, line}
-use Rattle.requests.specs.LineLaws.{line-length}
+use Rattle.requests.proofs.LineLaws.{line-length}
 use Rattle.outputs.specs.Output.{input_most, input_read, refused_line, refusal_for, output}
 
 -- ---- the line of a part of the input

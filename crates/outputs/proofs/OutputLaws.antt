@@ -13,7 +13,7 @@ use Rattle.refusals.specs.Refusals.{Refusal}
 use Rattle.requests.specs.declared.Asked.{Asked}
 use Rattle.requests.specs.declared.Request.TheVariants.{Line, NoLine}
 use Rattle.requests.specs.Line.{Words, line}
-use Rattle.requests.specs.LineLaws.{placed, found, found_none}
+use Rattle.requests.proofs.LineLaws.{placed, found, found_none}
 use Rattle.book.specs.Book.{book_of}
 use Rattle.volumes.specs.Settlement.{rows, row_count}
 use Rattle.refusals.specs.Buffers.{over, afterwards}

@@ -1,6 +1,9 @@
 -- What a line asks for, as the code takes it apart.
 use Rattle.std.specs.Prelude.{List, ℕ, ◌+◌, length}
 use Rattle.formats.specs.Format.{Res, got, bad}
+use Rattle.formats.specs.PlaceInner.{Parsed}
+use Rattle.formats.specs.declared.Mark.{Mark}
+use Rattle.formats.specs.declared.Mark.TheVariants.{At}
 use Rattle.requests.specs.declared.Asked.{Asked}
 use Rattle.requests.specs.declared.Request.{Request}
 use Rattle.requests.specs.declared.Request.TheVariants.{Line, NoLine}
@@ -25,3 +28,9 @@ request_by bad = NoLine
 -- "A program reads one line .. and then a book": what the line asks for, if the input begins with one
 unfoldable pub request_of : List ℕ → Request
 request_of input = request_by (line.parse input)
+
+-- a line was read from the first byte to the mark r, of this kind and receiver
+pub record Lined (s : List ℕ) (r : Mark) (kind receiver : ℕ) : Type 0 where
+  pub id : List ℕ
+  pub moment : List ℕ
+  pub parsed : Parsed line.parse s (At 0) r (kind, (receiver, (id, moment)))

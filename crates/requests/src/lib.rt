@@ -6,8 +6,7 @@ ghost use Rattle.formats.specs.Combine.{only_parse};
 ghost use Rattle.formats.specs.Exactly.{fixed_digits};
 ghost use Rattle.formats.specs.PlaceInner.{Within, Parsed};
 ghost use Rattle.kinds.specs.Numbers.{is_kind};
-ghost use Rattle.requests.specs.LineLaws.{Lined};
-ghost use Rattle.requests.specs.LineInner.{request_of};
+ghost use Rattle.requests.specs.LineInner.{Lined, request_of};
 
 use formats::{Mark, Val};
 use kinds::Numbered;

@@ -1,7 +1,7 @@
 -- A kind is a number of two digits that is a kind's.
 use mathlib.Core.Path.{sym, ap, ◌∙◌}
 use Rattle.kinds.specs.Numbers.{is_there}
-use Rattle.requests.specs.LineLaws.{kind-is, kind-none}
+use Rattle.requests.proofs.LineLaws.{kind-is, kind-none}
 use Rattle.kinds.specs.NumbersInner.{kind_in}
 use Rattle.requests.proofs.kind.Goals as goal
 

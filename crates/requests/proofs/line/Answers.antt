@@ -1,6 +1,6 @@
 -- The parts one after the other.
 use Rattle.text.specs.Ascii.{bytes}
-use Rattle.requests.specs.LineLaws.{lined}
+use Rattle.requests.proofs.LineLaws.{lined}
 use Rattle.requests.proofs.line.Goals as goal
 
 pub returns : goal.returns

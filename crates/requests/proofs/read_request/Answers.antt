@@ -1,5 +1,5 @@
 -- Where the line ends says where its words stand.
-use Rattle.requests.specs.LineLaws.{line-ended, line-there, no_line}
+use Rattle.requests.proofs.LineLaws.{line-ended, line-there, no_line}
 use native.Mathlib.Omega.{arith}
 use Rattle.requests.proofs.read_request.Goals as goal
 

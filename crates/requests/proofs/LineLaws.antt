@@ -22,7 +22,7 @@ use Rattle.requests.specs.declared.Request.TheVariants.{Line, NoLine}
 use Rattle.kinds.specs.Numbers.{is_kind}
 use Rattle.kinds.specs.NumbersLaws.{kind-most}
 use Rattle.requests.specs.Line.{Words, line}
-use Rattle.requests.specs.LineInner.{asked, request_by, request_of}
+use Rattle.requests.specs.LineInner.{Lined, asked, request_by, request_of}
 
 -- ---- a kind
 
@@ -34,12 +34,6 @@ module _ (s : List ℕ) (m r : Mark) (n : ℕ) (p : Parsed (fixed_digits 2).pars
   kind-none e = record { run = run-fail is_kind p.run e; within = tt }
 
 -- ---- the line
-
--- a line was read from the first byte to the mark r, of this kind and receiver
-pub record Lined (s : List ℕ) (r : Mark) (kind receiver : ℕ) : Type 0 where
-  pub id : List ℕ
-  pub moment : List ℕ
-  pub parsed : Parsed line.parse s (At 0) r (kind, (receiver, (id, moment)))
 
 module _ (s : List ℕ) {a b c d e f r : Mark} {kind receiver : ℕ} where
   pub lined : Parsed (only_parse is_kind (fixed_digits 2).parse) s (At 0) a kind → Parsed (strip (bytes " ")) s a b tt
