@@ -12,33 +12,38 @@ mod writing;
 ghost use Rattle.std.specs.Prelude.{◌≡◌, ◌≤◌, ◌<◌, length};
 
 use crate::words::clamp;
+use std::io;
 
 // A case's first letter says what it is: `read`, `write`, `part` of what is written, or `changes` of the base.
 fn run_case(
+    rt: &impl Print,
     line: &[u8],
     base: &[u8],
     file: &mut [u8],
     other: &mut [u8],
     rows: &mut [u64],
     again: &mut [u64],
-)
+) -> io::Result<()>
     requires { 0 < length line.now }
 {
     let name = line[0];
     let at = cases::words::next(line, cases::words::find(line, 0, b' '));
     if name == b'r' {
-        reading::read_case(line, at, base, file, rows, other);
+        reading::read_case(rt, line, at, base, file, rows, other)
     } else if name == b'w' {
-        writing::write_case(line, at, 0, 65536, file, rows, again);
+        writing::write_case(rt, line, at, 0, 65536, file, rows, again)
     } else if name == b'p' {
-        writing::part_case(line, at, file, rows, again);
+        writing::part_case(rt, line, at, file, rows, again)
     } else if name == b'c' {
-        changes::change_case(base, file, rows, other);
+        changes::change_case(rt, base, file, rows, other)
+    } else {
+        Ok(())
     }
 }
 
 // Runs the line from `at` to `end`; the base stands between two places of the text.
 fn run_line(
+    rt: &impl Print,
     text: &[u8],
     at: usize,
     end: usize,
@@ -48,21 +53,23 @@ fn run_line(
     other: &mut [u8],
     rows: &mut [u64],
     again: &mut [u64],
-)
+) -> io::Result<()>
     requires { (at ≤ end) × (end ≤ length text.now) }
 {
     if at < end {
         let base_end = clamp(to, text.len());
         let base = clamp(from, base_end);
         run_case(
+            rt,
             &text[at..end],
             &text[base..base_end],
             file,
             other,
             rows,
             again,
-        );
+        )?;
     }
+    Ok(())
 }
 
 // What a base's line says is new.
@@ -70,7 +77,14 @@ fn renewed(first: u8, new: usize, old: usize) -> usize {
     if first == b'<' { new } else { old }
 }
 
-fn run(text: &[u8], file: &mut [u8], other: &mut [u8], rows: &mut [u64], again: &mut [u64]) {
+fn run(
+    rt: &impl Print,
+    text: &[u8],
+    file: &mut [u8],
+    other: &mut [u8],
+    rows: &mut [u64],
+    again: &mut [u64],
+) -> io::Result<()> {
     let mut from = 0;
     let mut to = 0;
     let mut at = 0;
@@ -78,9 +92,10 @@ fn run(text: &[u8], file: &mut [u8], other: &mut [u8], rows: &mut [u64], again: 
         let end = cases::words::find(text, at, b'\n');
         from = renewed(text[at], at, from);
         to = renewed(text[at], end, to);
-        run_line(text, at, end, from, to, file, other, rows, again);
+        run_line(rt, text, at, end, from, to, file, other, rows, again)?;
         at = cases::words::next(text, end);
     }
+    Ok(())
 }
 
 // Room for the text of all cases, for a file, and for a file's rows.
@@ -102,12 +117,19 @@ fn rows_buffer() -> [u64; 1024]
     [0; 1024]
 }
 
-fn main() {
+fn main(rt: HostRuntime) -> io::Result<()> {
     let mut text = text_buffer();
     let mut file = file_buffer();
     let mut other = file_buffer();
     let mut rows = rows_buffer();
     let mut again = rows_buffer();
-    let n = io::read_full(0, &mut text);
-    run(&text[..n], &mut file, &mut other, &mut rows, &mut again);
+    let n = cases::input::read_full(&rt, &mut text)?;
+    run(
+        &rt,
+        &text[..n],
+        &mut file,
+        &mut other,
+        &mut rows,
+        &mut again,
+    )
 }

@@ -5,6 +5,7 @@ use crate::marks::{kept_numbers, mark_numbers, same_bytes};
 use crate::words::{append, bytes, clamp, numbers, row_numbers};
 use kinds::Kind;
 use message::{FileFacts, ReadAnswer, WriteAnswer};
+use std::io;
 
 // A kind's number as the write call takes it.
 pub fn kind_byte(kind: Kind) -> u8 {
@@ -35,63 +36,75 @@ pub fn written_back(facts: FileFacts, file: &[u8], rows: &[u64], again: &mut [u8
     same_bytes(file, &again[..n])
 }
 
-fn space(n: u64) {
-    cases::answers::number(n);
-    cases::answers::text(b" ");
+fn space(rt: &impl Print, n: u64) -> io::Result<()> {
+    cases::answers::number(rt, n)?;
+    cases::answers::text(rt, b" ")
 }
 
 // `file KIND RECEIVER YEAR MONTH ID-START ID-LENGTH MOMENT-START MOMENT-LENGTH ROWS`
-fn print_facts(facts: FileFacts) {
+fn print_facts(rt: &impl Print, facts: FileFacts) -> io::Result<()> {
     let kind = facts.kind;
-    cases::answers::text(b"file ");
-    space(kinds::kind_number(kind));
-    space(facts.receiver);
-    space(facts.year);
-    space(facts.month);
-    space(facts.id as u64);
-    space(facts.id_length as u64);
-    space(facts.moment as u64);
-    cases::answers::text(b"29 ");
-    cases::answers::number(facts.rows as u64);
-    cases::answers::text(b"\n");
+    cases::answers::text(rt, b"file ")?;
+    space(rt, kinds::kind_number(kind))?;
+    space(rt, facts.receiver)?;
+    space(rt, facts.year)?;
+    space(rt, facts.month)?;
+    space(rt, facts.id as u64)?;
+    space(rt, facts.id_length as u64)?;
+    space(rt, facts.moment as u64)?;
+    cases::answers::text(rt, b"29 ")?;
+    cases::answers::number(rt, facts.rows as u64)?;
+    cases::answers::text(rt, b"\n")
 }
 
 // The numbers of a row are parted by spaces, and a line feed ends it.
-fn print_rows(rows: &[u64]) {
-    let mut i = 0;
-    while i < rows.len() {
-        cases::answers::number(rows[i]);
+fn print_rows(rt: &impl Print, rows: &[u64]) -> io::Result<()> {
+    for (i, n) in rows.iter().enumerate() {
+        cases::answers::number(rt, *n)?;
         if i % 6 == 5 {
-            cases::answers::text(b"\n");
+            cases::answers::text(rt, b"\n")?;
         } else {
-            cases::answers::text(b" ");
+            cases::answers::text(rt, b" ")?;
         }
-        i += 1;
     }
+    Ok(())
 }
 
 // What was read, with the rows; the numbers behind them are to be kept.
-fn answer_file(facts: FileFacts, file: &[u8], rows: &[u64], again: &mut [u8]) {
-    print_facts(facts);
+fn answer_file(
+    rt: &impl Print,
+    facts: FileFacts,
+    file: &[u8],
+    rows: &[u64],
+    again: &mut [u8],
+) -> io::Result<()> {
+    print_facts(rt, facts)?;
     let n = row_numbers(facts.rows, rows.len());
-    print_rows(&rows[..n]);
-    kept_numbers(&rows[n..]);
+    print_rows(rt, &rows[..n])?;
+    kept_numbers(rt, &rows[n..])?;
     if !written_back(facts, file, &rows[..n], again) {
-        cases::answers::text(b"not written back\n");
+        cases::answers::text(rt, b"not written back\n")?;
     }
+    Ok(())
 }
 
 // Reads a file into the first `lent` numbers of rows.
-fn read_file(file: &[u8], rows: &mut [u64], lent: usize, again: &mut [u8])
+fn read_file(
+    rt: &impl Print,
+    file: &[u8],
+    rows: &mut [u64],
+    lent: usize,
+    again: &mut [u8],
+) -> io::Result<()>
     requires { lent ≤ length rows.old }
 {
     mark_numbers(rows);
     let answer = reader::read(file, &mut rows[..lent]);
     match answer {
-        ReadAnswer::File(facts) => answer_file(facts, file, rows, again),
+        ReadAnswer::File(facts) => answer_file(rt, facts, file, rows, again),
         ReadAnswer::Refused(number, item) => {
-            cases::answers::refused(number, item as u64);
-            kept_numbers(rows);
+            cases::answers::refused(rt, number, item as u64)?;
+            kept_numbers(rt, rows)
         }
     }
 }
@@ -136,18 +149,19 @@ fn edited(line: &[u8], at: usize, base: &[u8], out: &mut [u8]) -> usize
 
 // `ROWS START END HEX ..`: how many numbers are lent, and the edits of the base.
 pub fn read_case(
+    rt: &impl Print,
     line: &[u8],
     at: usize,
     base: &[u8],
     file: &mut [u8],
     rows: &mut [u64],
     again: &mut [u8],
-)
+) -> io::Result<()>
     requires { at ≤ length line.now }
 {
     let mut lent = [0; 1];
     let edits = numbers(line, at, &mut lent);
     let n = edited(line, edits, base, file);
     let most = clamp(lent[0] as usize, rows.len());
-    read_file(&file[..n], rows, most, again);
+    read_file(rt, &file[..n], rows, most, again)
 }

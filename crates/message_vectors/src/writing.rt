@@ -5,6 +5,7 @@ use crate::marks::{same_bytes, same_numbers};
 use crate::reading::kind_byte;
 use crate::words::{bytes, clamp, numbers, row_numbers};
 use message::{FileFacts, ReadAnswer, WriteAnswer};
+use std::io;
 
 // What a file is written of beside its rows, its ID and its moment.
 #[derive(Clone, Copy)]
@@ -64,15 +65,16 @@ fn read_back(
 }
 
 // The bytes of a file between two places, on a line.
-fn print_part(file: &[u8], from: usize, to: usize) {
+fn print_part(rt: &impl Print, file: &[u8], from: usize, to: usize) -> io::Result<()> {
     let end = clamp(to, file.len());
     let start = clamp(from, end);
-    cases::answers::text(&file[start..end]);
-    cases::answers::text(b"\n");
+    cases::answers::text(rt, &file[start..end])?;
+    cases::answers::text(rt, b"\n")
 }
 
 // The bytes between two places of those that were written, which are to be read back; the bytes behind them are to be kept.
 fn answer_bytes(
+    rt: &impl Print,
     head: FileHead,
     rows: &[u64],
     id: &[u8],
@@ -82,17 +84,19 @@ fn answer_bytes(
     from: usize,
     to: usize,
     again: &mut [u64],
-) {
+) -> io::Result<()> {
     let n = clamp(written, file.len());
-    print_part(&file[..n], from, to);
-    cases::lent::kept_bytes(&file[n..]);
+    print_part(rt, &file[..n], from, to)?;
+    cases::lent::kept_bytes(rt, &file[n..])?;
     if !read_back(head, rows, id, moment, &file[..n], again) {
-        cases::answers::text(b"not read back\n");
+        cases::answers::text(rt, b"not read back\n")?;
     }
+    Ok(())
 }
 
 // Writes from rows into the first `lent` bytes of file.
 fn write_rows(
+    rt: &impl Print,
     head: FileHead,
     rows: &[u64],
     id: &[u8],
@@ -102,7 +106,7 @@ fn write_rows(
     from: usize,
     to: usize,
     again: &mut [u64],
-) {
+) -> io::Result<()> {
     cases::lent::prepare_bytes(file);
     let most = clamp(lent, file.len());
     let answer = writer::writing::write(
@@ -116,10 +120,10 @@ fn write_rows(
         &mut file[..most],
     );
     match answer {
-        WriteAnswer::Bytes(n) => answer_bytes(head, rows, id, moment, file, n, from, to, again),
+        WriteAnswer::Bytes(n) => answer_bytes(rt, head, rows, id, moment, file, n, from, to, again),
         WriteAnswer::Refused(number, item) => {
-            cases::answers::refused(number, item as u64);
-            cases::lent::kept_bytes(file);
+            cases::answers::refused(rt, number, item as u64)?;
+            cases::lent::kept_bytes(rt, file)
         }
     }
 }
@@ -138,6 +142,7 @@ fn load_rows(line: &[u8], at: usize, rows: &mut [u64]) -> usize
 
 // `ID MOMENT COUNT NUMBER ..`, from `at` on.
 fn write_words(
+    rt: &impl Print,
     head: FileHead,
     line: &[u8],
     at: usize,
@@ -147,7 +152,7 @@ fn write_words(
     to: usize,
     rows: &mut [u64],
     again: &mut [u64],
-)
+) -> io::Result<()>
     requires { at ≤ length line.now }
 {
     let mut id = [0; 80];
@@ -159,6 +164,7 @@ fn write_words(
     let length = bytes(&line[start..end], &mut moment);
     let n = load_rows(line, cases::words::next(line, end), rows);
     write_rows(
+        rt,
         head,
         &rows[..n],
         &id[..id_length],
@@ -168,11 +174,12 @@ fn write_words(
         from,
         to,
         again,
-    );
+    )
 }
 
 // `KIND RECEIVER YEAR MONTH FILE ID MOMENT COUNT NUMBER ..`, from `at` on: prints the file's bytes between two places.
 pub fn write_case(
+    rt: &impl Print,
     line: &[u8],
     at: usize,
     from: usize,
@@ -180,7 +187,7 @@ pub fn write_case(
     file: &mut [u8],
     rows: &mut [u64],
     again: &mut [u64],
-)
+) -> io::Result<()>
     requires { at ≤ length line.now }
 {
     let mut said = [0; 5];
@@ -192,16 +199,23 @@ pub fn write_case(
         month: said[3],
     };
     let lent = said[4] as usize;
-    write_words(head, line, next, file, lent, from, to, rows, again);
+    write_words(rt, head, line, next, file, lent, from, to, rows, again)
 }
 
 // `FROM TO` and then the words of such a case.
-pub fn part_case(line: &[u8], at: usize, file: &mut [u8], rows: &mut [u64], again: &mut [u64])
+pub fn part_case(
+    rt: &impl Print,
+    line: &[u8],
+    at: usize,
+    file: &mut [u8],
+    rows: &mut [u64],
+    again: &mut [u64],
+) -> io::Result<()>
     requires { at ≤ length line.now }
 {
     let mut said = [0; 2];
     let next = numbers(line, at, &mut said);
     let from = said[0] as usize;
     let to = said[1] as usize;
-    write_case(line, next, from, to, file, rows, again);
+    write_case(rt, line, next, from, to, file, rows, again)
 }
