@@ -8,6 +8,7 @@ ghost use Rattle.file_vectors.specs.FitsInner.{FieldWithin, FileFits};
 
 use cases::Loaded;
 use reports::FileAnswer;
+use std::io;
 use text::Number;
 
 // What a line says at a place, and where its next word starts.
@@ -27,37 +28,45 @@ pub struct Case {
 }
 
 // The number of rows and bytes, the rows, and the file; what stands behind both is to be kept.
-fn answer_file(rows: &[i64], file: &[u8], count: usize, n: usize)
+fn answer_file(rt: &impl Print, rows: &[i64], file: &[u8], count: usize, n: usize) -> io::Result<()>
     requires { (row_width * count ≤ length rows.now) × (n ≤ length file.now) }
 {
-    cases::answers::text(b"file ");
-    cases::answers::number(count as u64);
-    cases::answers::text(b" ");
-    cases::answers::number(n as u64);
-    cases::answers::text(b"\n");
+    cases::answers::text(rt, b"file ")?;
+    cases::answers::number(rt, count as u64)?;
+    cases::answers::text(rt, b" ")?;
+    cases::answers::number(rt, n as u64)?;
+    cases::answers::text(rt, b"\n")?;
     let end = settlement::rows::ROW_WIDTH * count;
-    cases::answers::rows(&rows[..end]);
-    cases::answers::text(&file[..n]);
-    cases::answers::text(b"\n");
-    cases::lent::kept(&rows[end..]);
-    cases::lent::kept_bytes(&file[n..]);
+    cases::answers::rows(rt, &rows[..end])?;
+    cases::answers::text(rt, &file[..n])?;
+    cases::answers::text(rt, b"\n")?;
+    cases::lent::kept(rt, &rows[end..])?;
+    cases::lent::kept_bytes(rt, &file[n..])
 }
 
-fn answer(said: FileAnswer, rows: &[i64], file: &[u8])
+fn answer(rt: &impl Print, said: FileAnswer, rows: &[i64], file: &[u8]) -> io::Result<()>
     requires { FileFits said (length rows.now) (length file.now) }
 {
     match said {
-        FileAnswer::File(count, n) => answer_file(rows, file, count, n),
+        FileAnswer::File(count, n) => answer_file(rt, rows, file, count, n),
         FileAnswer::Refused(number, item) => {
-            cases::answers::refused(number, item as u64);
-            cases::lent::kept(rows);
-            cases::lent::kept_bytes(file);
+            cases::answers::refused(rt, number, item as u64)?;
+            cases::lent::kept(rt, rows)?;
+            cases::lent::kept_bytes(rt, file)
         }
     }
 }
 
 // Asks for the file with the first numbers of rows and the first bytes of file.
-fn file_case(book: &[u8], id: &[u8], moment: &[u8], asked: Case, rows: &mut [i64], file: &mut [u8])
+fn file_case(
+    rt: &impl Print,
+    book: &[u8],
+    id: &[u8],
+    moment: &[u8],
+    asked: Case,
+    rows: &mut [i64],
+    file: &mut [u8],
+) -> io::Result<()>
     requires { (asked.rows ≤ length rows.old) × (asked.file ≤ length file.old) }
 {
     cases::lent::prepare(rows);
@@ -73,11 +82,12 @@ fn file_case(book: &[u8], id: &[u8], moment: &[u8], asked: Case, rows: &mut [i64
         &mut rows[..r],
         &mut file[..f],
     );
-    answer(said, rows, file);
+    answer(rt, said, rows, file)
 }
 
 // The book is the words of the line from `at` on, as sparse bytes.
 fn run_book(
+    rt: &impl Print,
     line: &[u8],
     at: usize,
     id: &[u8],
@@ -86,19 +96,19 @@ fn run_book(
     book: &mut [u8],
     rows: &mut [i64],
     file: &mut [u8],
-)
+) -> io::Result<()>
     requires { (at ≤ length line.now) × (asked.rows ≤ length rows.old) × (asked.file ≤ length file.old) }
 {
     let loaded = cases::sparse::load(line, at, book);
     let Loaded::Bytes(size) = loaded else {
-        cases::answers::no_case();
-        return;
+        return cases::answers::no_case(rt);
     };
-    file_case(&book[..size], id, moment, asked, rows, file);
+    file_case(rt, &book[..size], id, moment, asked, rows, file)
 }
 
 // The moment, a hex word at `at`, and the book.
 fn run_timed(
+    rt: &impl Print,
     line: &[u8],
     at: usize,
     id: &[u8],
@@ -106,40 +116,39 @@ fn run_timed(
     book: &mut [u8],
     rows: &mut [i64],
     file: &mut [u8],
-)
+) -> io::Result<()>
     requires { (at ≤ length line.now) × (asked.rows ≤ length rows.old) × (asked.file ≤ length file.old) }
 {
     let mut moment = [0u8; 128];
     let end = cases::words::find(line, at, b' ');
     let read = cases::sparse::hex_word(&line[at..end], &mut moment);
     let Loaded::Bytes(m) = read else {
-        cases::answers::no_case();
-        return;
+        return cases::answers::no_case(rt);
     };
     let rest = cases::words::next(line, end);
-    run_book(line, rest, id, &moment[..m], asked, book, rows, file);
+    run_book(rt, line, rest, id, &moment[..m], asked, book, rows, file)
 }
 
 // The ID, a hex word at `at`, and what follows.
 fn run_named(
+    rt: &impl Print,
     line: &[u8],
     at: usize,
     asked: Case,
     book: &mut [u8],
     rows: &mut [i64],
     file: &mut [u8],
-)
+) -> io::Result<()>
     requires { (at ≤ length line.now) × (asked.rows ≤ length rows.old) × (asked.file ≤ length file.old) }
 {
     let mut id = [0u8; 128];
     let end = cases::words::find(line, at, b' ');
     let read = cases::sparse::hex_word(&line[at..end], &mut id);
     let Loaded::Bytes(n) = read else {
-        cases::answers::no_case();
-        return;
+        return cases::answers::no_case(rt);
     };
     let rest = cases::words::next(line, end);
-    run_timed(line, rest, &id[..n], asked, book, rows, file);
+    run_timed(rt, line, rest, &id[..n], asked, book, rows, file)
 }
 
 // The number that the word at `at` says.
@@ -157,6 +166,7 @@ fn field_at(line: &[u8], at: usize) -> Field
 
 // How many numbers and bytes are lent, from `at` on, and what follows.
 fn run_lent(
+    rt: &impl Print,
     line: &[u8],
     at: usize,
     kind: u8,
@@ -164,28 +174,24 @@ fn run_lent(
     book: &mut [u8],
     rows: &mut [i64],
     file: &mut [u8],
-)
+) -> io::Result<()>
     requires { at ≤ length line.now }
 {
     let first = field_at(line, at);
     let Field::Value(lent, behind) = first else {
-        cases::answers::no_case();
-        return;
+        return cases::answers::no_case(rt);
     };
     let second = field_at(line, behind);
     let Field::Value(room, rest) = second else {
-        cases::answers::no_case();
-        return;
+        return cases::answers::no_case(rt);
     };
     let r = lent as usize;
     let f = room as usize;
     if rows.len() < r {
-        cases::answers::no_case();
-        return;
+        return cases::answers::no_case(rt);
     }
     if file.len() < f {
-        cases::answers::no_case();
-        return;
+        return cases::answers::no_case(rt);
     }
     let asked = Case {
         kind,
@@ -193,43 +199,53 @@ fn run_lent(
         rows: r,
         file: f,
     };
-    run_named(line, rest, asked, book, rows, file);
+    run_named(rt, line, rest, asked, book, rows, file)
 }
 
 // The kind and the receiver, and what follows.
-fn run_case(line: &[u8], book: &mut [u8], rows: &mut [i64], file: &mut [u8]) {
+fn run_case(
+    rt: &impl Print,
+    line: &[u8],
+    book: &mut [u8],
+    rows: &mut [i64],
+    file: &mut [u8],
+) -> io::Result<()> {
     let first = field_at(line, 0);
     let Field::Value(kind, behind) = first else {
-        cases::answers::no_case();
-        return;
+        return cases::answers::no_case(rt);
     };
     if 255 < kind {
-        cases::answers::no_case();
-        return;
+        return cases::answers::no_case(rt);
     }
     let second = field_at(line, behind);
     let Field::Value(receiver, rest) = second else {
-        cases::answers::no_case();
-        return;
+        return cases::answers::no_case(rt);
     };
-    run_lent(line, rest, kind as u8, receiver, book, rows, file);
+    run_lent(rt, line, rest, kind as u8, receiver, book, rows, file)
 }
 
-fn run(text: &[u8], book: &mut [u8], rows: &mut [i64], file: &mut [u8]) {
+fn run(
+    rt: &impl Print,
+    text: &[u8],
+    book: &mut [u8],
+    rows: &mut [i64],
+    file: &mut [u8],
+) -> io::Result<()> {
     let mut at = 0;
     while at < text.len() {
         let end = cases::words::find(text, at, b'\n');
-        run_case(&text[at..end], book, rows, file);
+        run_case(rt, &text[at..end], book, rows, file)?;
         at = cases::words::next(text, end);
     }
+    Ok(())
 }
 
 // The text of all cases, and their largest book: 180 points, 33 days.
-fn main() {
+fn main(rt: HostRuntime) -> io::Result<()> {
     let mut text = [0u8; 400000];
     let mut book = [0u8; 2400000];
     let mut rows = [0; 8704];
     let mut file = [0u8; 66048];
-    let n = io::read_full(0, &mut text);
-    run(&text[..n], &mut book, &mut rows, &mut file);
+    let n = cases::input::read_full(&rt, &mut text)?;
+    run(&rt, &text[..n], &mut book, &mut rows, &mut file)
 }

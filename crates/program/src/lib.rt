@@ -1,9 +1,12 @@
 // The program, but for its name: a line and a book from standard input, and on standard output the file that the line asks for, or why there is none.
 #![tactic(auto)]
 
-ghost use Rattle.std.specs.Prelude.{◌≡◌, ◌+◌, ◌≤◌, length};
-ghost use Rattle.io.specs.Counts.{IsPrefixLen};
+ghost use Rattle.std.specs.Prelude.{◌≡◌, ◌+◌, ◌≤◌, length, IfOk};
+ghost use Rattle.program.specs.Prefix.{IsPrefixLen};
 ghost use Rattle.outputs.specs.Output.{input_read};
+
+use std::io;
+use std::io::Read;
 
 // Room for as much of the input as is read.
 fn input_buffer() -> [u8; 65537]
@@ -12,46 +15,40 @@ fn input_buffer() -> [u8; 65537]
     [0; 65537]
 }
 
-// One read of standard input, behind n bytes; answers how many bytes came, 0 where the input ends or the read fails. A failure is said on standard error.
-fn read_more(input: &mut [u8], n: usize) -> usize
+// One read of standard input, behind n bytes; answers how many bytes came, 0 where the input ends.
+fn read_more(rt: &impl Input, input: &mut [u8], n: usize) -> io::Result<usize>
     requires { n ≤ length input.old }
-    ensures { n + result ≤ length input.old }
+    ensures { IfOk result (λ more. n + more ≤ length input.old) }
 {
-    let got = libc::read(libc::STDIN_FILENO, &mut input[n..]);
-    if got < 0 {
-        os::fail(b"toe: standard input");
-    }
-    io::count(got, &input[n..])
+    rt.reader().read(&mut input[n..])
 }
 
-// Reads standard input until the buffer is full, the input ends or a read fails; answers how many bytes.
-fn read_input(input: &mut [u8]) -> usize
-    ensures { IsPrefixLen result input.new }
+// Reads standard input until the buffer is full or the input ends; answers how many bytes.
+fn read_input(rt: &impl Input, input: &mut [u8]) -> io::Result<usize>
+    ensures { IfOk result (λ n. IsPrefixLen n input.new) }
 {
     let mut n = 0;
     while n < input.len() {
-        let more = read_more(input, n);
+        let more = read_more(rt, input, n)?;
         if more == 0 {
             break;
         }
         n += more;
     }
-    n
+    Ok(n)
 }
 
-// Writes to standard output; that not all was written is said on standard error.
-fn print(said: &[u8]) {
-    if !io::write_all(libc::STDOUT_FILENO, said) {
-        os::fail(b"toe: standard output");
-    }
+// Writes to standard output.
+fn print(rt: &impl Print, said: &[u8]) -> io::Result<()> {
+    rt.write_all(said)
 }
 
-// Reads, answers and prints.
-pub fn run() {
+// Reads, answers and prints. A read or a write that fails ends it.
+pub fn run(rt: &(impl Input + Print)) -> io::Result<()> {
     let mut input = input_buffer();
     let mut rows = [0i64; 10240];
     let mut out = [0u8; 65536];
-    let n = read_input(&mut input);
+    let n = read_input(rt, &mut input)?;
     let count = outputs::answer(&input[..n], &mut rows, &mut out);
-    print(&out[..count]);
+    print(rt, &out[..count])
 }

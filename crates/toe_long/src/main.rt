@@ -1,6 +1,8 @@
 // The program `toe` on an input that is longer than it reads: the good line and book of 65,536 bytes, and bytes behind them.
 #![tactic(auto)]
 
-fn main() {
-    program::run();
+use std::io;
+
+fn main(rt: HostRuntime) -> io::Result<()> {
+    program::run(&rt)
 }
