@@ -7,7 +7,6 @@ use Rattle.quarters.specs.declared.Calendar.{Calendar}
 use Rattle.book.specs.declared.Engagement.{Engagement}
 use Rattle.book.specs.declared.Point.{Point}
 use Rattle.quarters.specs.Quarters.{month_quarters}
-use Rattle.quarters.proofs.QuartersLaws.{days-few, quarters-most}
 use Rattle.book.specs.Header.{version_of, calendar_of, register_section}
 use Rattle.book.specs.Register.{point_at}
 use Rattle.book.specs.Engagements.{engagement_at}

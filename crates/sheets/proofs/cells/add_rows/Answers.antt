@@ -2,16 +2,32 @@
 use borrow.Author.Rules.{rules}
 use native.Mathlib.Omega.{arith}
 use mathlib.Core.Path.{◌≡◌, refl, ap, ◌∙◌}
-use Prim.Native.Nat.{◌+◌, ◌-◌, ◌≤◌, ◌<◌}
+use mathlib.Core.List.{List}
+use Prim.Native.Nat.{ℕ, ◌<◌}
+use lib.IntN.{ℤ}
 use lib.ListN.{length}
 use mir.Syntax.{w64}
 use mir.Val.{to_z, of_z}
+use mir.ValLaws.{to_z-of_z}
 use Rattle.integers.specs.Ranges.{range}
+use Rattle.book.specs.declared.Point.{Point}
+use Rattle.volumes.specs.SoundInner.{Bounded}
+use Rattle.volumes.specs.WidthsLaws.{bounded-fits}
 use Rattle.sheets.specs.AddsLaws.{length-adds}
-use Rattle.sheets.specs.SharesInner.{source_in, fsp_in, injection_in, gets_at, gets_of}
+use Rattle.sheets.specs.SharesInner.{source_in, fsp_in, injection_in, correction_most, gets, gets_at, gets_of, RowsSmall}
 use Rattle.sheets.specs.SharesLaws.{gets-length, gets-next, gets-fits}
-use Rattle.sheets.proofs.cells.add_rows.Goals.{After-share-correction, At-loop-k}
 use Rattle.sheets.proofs.cells.add_rows.Goals as goal
+
+-- an i64 holds a correction
+held : (z : ℤ) → Bounded correction_most z → to_z w64 (of_z w64 z) ≡ z
+held z b = to_z-of_z w64 z (bounded-fits b (omega arith))
+
+-- what the party gets of row k, as an i64
+got : (version party : ℕ) (point : Point) (rows : List ℤ) (count k : ℕ) {r : ℤ} → RowsSmall rows count → k < count → to_z w64 (of_z w64 r) ≡ r
+    → r ≡ gets version party point (to_z w64 (of_z w64 (source_in rows k))) (to_z w64 (of_z w64 (fsp_in rows k))) (to_z w64 (of_z w64 (injection_in rows k)))
+    → to_z w64 (of_z w64 r) ≡ gets_at version party point rows k
+got version party point rows count k small h whole e =
+    whole ∙ e ∙ rw (held (source_in rows k) (small.source k h), held (fsp_in rows k) (small.fsp k h), held (injection_in rows k) (small.injection k h))
 
 pub loop-k-init : goal.loop-k-init
 unfolding gets_of range
@@ -19,28 +35,20 @@ loop-k-init c = (search rules, refl)
 
 pub add_at-requires : goal.add_at-requires
 add_at-requires c =
-    let room : c.args.at + c.args.count ≤ length c.loop-k.sums = let long : length c.loop-k.sums ≡ length c.args.sums.now = let a = c.args.sums.now in
-    ap length c.loop-k.invariant.1 ∙ length-adds a c.args.at (gets_of c.args.version c.args.party c.args.point c.args.rows.now c.loop-k.k) in
-    let a = c.args in omega (arith, long, c.requires.2.room, gets-length a.version a.party a.point a.rows.now a.count) in
-    let got : let a = c.args in
-    to_z w64 (of_z w64 c.share-correction.result) ≡ gets_at a.version a.party a.point a.rows.now c.loop-k.k = let a = c.args in
-    let x : to_z w64 (of_z w64 (source_in a.rows.now c.loop-k.k)) ≡ source_in a.rows.now c.loop-k.k = search rules in
-    let y : to_z w64 (of_z w64 (fsp_in a.rows.now c.loop-k.k)) ≡ fsp_in a.rows.now c.loop-k.k = search rules in
-    let z : to_z w64 (of_z w64 (injection_in a.rows.now c.loop-k.k)) ≡ injection_in a.rows.now c.loop-k.k = search rules in
-    let w : to_z w64 (of_z w64 c.share-correction.result) ≡ c.share-correction.result = search rules in
-    w ∙ c.share-correction.ensures ∙ rw (x, y, z) in
     let a = c.args in
-    let fits = gets-fits a.version a.party a.point a.rows.now a.sums.now a.at a.count c.loop-k.k c.requires.2 (omega arith) in
-    (omega (arith, room), rw (got, c.loop-k.invariant.1) fits)
+    let k = c.loop-k.k in
+    let long = ap length c.loop-k.invariant.1 ∙ length-adds a.sums.now a.at (gets_of a.version a.party a.point a.rows.now k) in (
+      omega (arith, long, c.requires.2.room, gets-length a.version a.party a.point a.rows.now a.count),
+      rw (got a.version a.party a.point a.rows.now a.count k c.requires.1 (omega arith) (search rules) c.share-correction.ensures, c.loop-k.invariant.1)
+          (gets-fits a.version a.party a.point a.rows.now a.sums.now a.at a.count k c.requires.2 (omega arith)),
+    )
 
 pub loop-k-preserved : goal.loop-k-preserved
 loop-k-preserved c =
-    let got : let a = c.args in
-    to_z w64 (of_z w64 c.share-correction.result) ≡ gets_at a.version a.party a.point a.rows.now c.loop-k.k = let a = c.args in
-    let x : to_z w64 (of_z w64 (source_in a.rows.now c.loop-k.k)) ≡ source_in a.rows.now c.loop-k.k = search rules in
-    let y : to_z w64 (of_z w64 (fsp_in a.rows.now c.loop-k.k)) ≡ fsp_in a.rows.now c.loop-k.k = search rules in
-    let z : to_z w64 (of_z w64 (injection_in a.rows.now c.loop-k.k)) ≡ injection_in a.rows.now c.loop-k.k = search rules in
-    let w : to_z w64 (of_z w64 c.share-correction.result) ≡ c.share-correction.result = search rules in
-    w ∙ c.share-correction.ensures ∙ rw (x, y, z) in
     let a = c.args in
-    (search rules, c.add_at.ensures ∙ rw (got, c.loop-k.invariant.1) (gets-next a.version a.party a.point a.rows.now a.sums.now a.at c.loop-k.k))
+    let k = c.loop-k.k in (
+      search rules,
+      c.add_at.ensures
+          ∙ rw (got a.version a.party a.point a.rows.now a.count k c.requires.1 (omega arith) (search rules) c.share-correction.ensures, c.loop-k.invariant.1)
+          (gets-next a.version a.party a.point a.rows.now a.sums.now a.at k),
+    )

@@ -1,13 +1,11 @@
 -- Zeros stand in the cells passed, the rest is as it was.
 use borrow.Author.Rules.{rules}
 use native.Mathlib.Omega.{arith}
-use mathlib.Core.Path.{◌≡◌, refl, ap, ◌∙◌}
+use mathlib.Core.Path.{ap, ◌∙◌}
 use mathlib.Core.List.{List}
-use Prim.Native.Nat.{◌-◌}
 use lib.IntN.{ℤ, pos}
-use lib.ListN.{length, set, length-append, length-replicate, length-drop}
+use lib.ListN.{set}
 use Rattle.integers.proofs.ListsLaws.{same_next}
-use Rattle.sheets.proofs.cells.clear.Goals.{At-loop-i}
 use Rattle.sheets.proofs.cells.clear.Goals as goal
 
 pub loop-i-preserved : goal.loop-i-preserved

@@ -3,7 +3,6 @@ use borrow.Author.Rules.{rules}
 use native.Mathlib.Omega.{arith}
 use mathlib.Core.Path.{ap, ◌∙◌}
 use mathlib.Core.List.{List}
-use Prim.Native.Nat.{◌-◌}
 use lib.IntN.{ℤ}
 use lib.ListN.{drop}
 use Rattle.book.specs.Engagements.{engagement_at}
