@@ -16,7 +16,6 @@ use Rattle.settlement.specs.DrawnLaws.{engagement-placed}
 use Rattle.series.specs.VolumesInner.{volume_in}
 use Rattle.series.specs.VolumesLaws.{volume-is, volumes-are}
 use Rattle.quarters.specs.QuartersInner.{longest_day}
-use Rattle.series.proofs.delivered.fill_engagement.Goals.{After-engagement_at-e, Start}
 use Rattle.series.proofs.delivered.fill_engagement.Goals as goal
 
 pub settle_engagement_at-requires : goal.settle_engagement_at-requires
@@ -25,28 +24,32 @@ settle_engagement_at-requires c =
 
 pub store_volumes-requires : goal.store_volumes-requires
 store_volumes-requires c =
-    let room : row_width * (engagement_at c.args.engagements.now c.args.i).count ≤ length (replicate (row_width * longest_day) (pos 0)) = omega (arith, (engagement-placed c.requires.0 c.args.i c.requires.2).few, length-replicate (row_width * longest_day) (pos 0)) in
-    let count : c.engagement_at-e.result.count ≡ (engagement_at c.args.engagements.now c.args.i).count = ap (λ (e : Engagement). e.count) c.engagement_at-e.ensures in
+    let count = ap (λ (e : Engagement). e.count) c.engagement_at-e.ensures in
     let a = c.args in
     let e = engagement_at a.engagements.now a.i in
     let book = book_with a.book.now a.engagements.now in
-    (omega (arith, count, c.requires.4), omega (arith, count, room, c.settle_engagement_at.auto.out, length-replicate (row_width * longest_day) (pos 0)), λ k h. ap dn (volume-is book e (replicate (row_width * longest_day) (pos 0)) c.settle_engagement_at.new.out c.settle_engagement_at.ensures.1 room k (omega (arith, h, count))))
+    let none = replicate (row_width * longest_day) (pos 0) in
+    let long = length-replicate (row_width * longest_day) (pos 0) in
+    let room : row_width * e.count ≤ length none = omega (arith, (engagement-placed c.requires.0 a.i c.requires.2).few, long) in
+    (omega (arith, count, c.requires.4), omega (arith, count, room, c.settle_engagement_at.auto.out, long), λ k h. ap dn (volume-is book e none c.settle_engagement_at.new.out c.settle_engagement_at.ensures.1 room k (omega (arith, h, count))))
 
 pub overflow_add-result : goal.overflow_add-result
 overflow_add-result c =
-    let count : c.engagement_at-e.result.count ≡ (engagement_at c.args.engagements.now c.args.i).count = ap (λ (e : Engagement). e.count) c.engagement_at-e.ensures in
+    let count = ap (λ (e : Engagement). e.count) c.engagement_at-e.ensures in
     omega (arith, count, c.requires.4, c.well_formed)
 
 pub returns : goal.returns
 returns c =
-    let room : row_width * (engagement_at c.args.engagements.now c.args.i).count ≤ length (replicate (row_width * longest_day) (pos 0)) = omega (arith, (engagement-placed c.requires.0 c.args.i c.requires.2).few, length-replicate (row_width * longest_day) (pos 0)) in
-    let count : c.engagement_at-e.result.count ≡ (engagement_at c.args.engagements.now c.args.i).count = ap (λ (e : Engagement). e.count) c.engagement_at-e.ensures in
+    let count = ap (λ (e : Engagement). e.count) c.engagement_at-e.ensures in
     let a = c.args in
     let e = engagement_at a.engagements.now a.i in
     let book = book_with a.book.now a.engagements.now in
+    let none = replicate (row_width * longest_day) (pos 0) in
+    let long = length-replicate (row_width * longest_day) (pos 0) in
+    let room : row_width * e.count ≤ length none = omega (arith, (engagement-placed c.requires.0 a.i c.requires.2).few, long) in
     let rows = c.settle_engagement_at.new.out in (
       ap (λ (n : ℕ). a.at + n) count,
       c.store_volumes.ensures
           ∙ ap (λ (n : ℕ). sets a.volumes.now a.at (map (λ k. up (volume_in rows k)) (range 0 n))) count
-          ∙ ap (sets a.volumes.now a.at) (volumes-are book e (replicate (row_width * longest_day) (pos 0)) rows c.settle_engagement_at.ensures.1 room),
+          ∙ ap (sets a.volumes.now a.at) (volumes-are book e none rows c.settle_engagement_at.ensures.1 room),
     )

@@ -12,7 +12,6 @@ use Rattle.settlement.specs.PartsLaws.{row_count_to, count_none, count-more, cou
 use Rattle.settlement.specs.SettlingLaws.{not-refused}
 use Rattle.series.specs.VolumesInner.{volumes_of}
 use Rattle.series.specs.VolumesLaws.{volumes-each, volumes-all}
-use Rattle.series.proofs.delivered.fill_engagements.Goals.{In-loop-i}
 use Rattle.series.proofs.delivered.fill_engagements.Goals as goal
 
 pub loop-i-init : goal.loop-i-init

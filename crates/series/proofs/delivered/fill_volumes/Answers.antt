@@ -12,30 +12,25 @@ use Rattle.settlement.specs.SectionsLaws.{bytes-headed, same-book, opened, count
 use Rattle.settlement.specs.DaysLaws.{gatherable, gathered}
 use borrow.Author.Rules.{rules}
 use Rattle.series.specs.VolumesInner.{book_volumes}
-use Rattle.series.proofs.delivered.fill_volumes.Goals.{After-section-engagements, Start}
 use Rattle.series.proofs.delivered.fill_volumes.Goals as goal
 
 pub section-engagements-requires : goal.section-engagements-requires
 section-engagements-requires c =
-    let passed : refusal_of c.args.book.now ≡ none = (passing c.args.book.now c.requires.0).passed in
-    (passed, search rules)
+    ((passing c.args.book.now c.requires.0).passed, search rules)
 
 pub gather_days-requires : goal.gather_days-requires
 gather_days-requires c =
-    let own : Opened c.args.book.now c.section-engagements.result.now = let passed : refusal_of c.args.book.now ≡ none = (passing c.args.book.now c.requires.0).passed in
-    rw c.section-engagements.ensures (opened c.args.book.now passed) in
+    let own : Opened c.args.book.now c.section-engagements.result.now = rw c.section-engagements.ensures (opened c.args.book.now (passing c.args.book.now c.requires.0).passed) in
     gatherable own
 
 pub calendar_of-requires : goal.calendar_of-requires
 calendar_of-requires c =
-    let passed : refusal_of c.args.book.now ≡ none = (passing c.args.book.now c.requires.0).passed in
-    bytes-headed c.args.book.now passed
+    bytes-headed c.args.book.now (passing c.args.book.now c.requires.0).passed
 
 pub fill_engagements-requires : goal.fill_engagements-requires
 fill_engagements-requires c =
-    let passed : refusal_of c.args.book.now ≡ none = (passing c.args.book.now c.requires.0).passed in
-    let own : Opened c.args.book.now c.section-engagements.result.now = let passed : refusal_of c.args.book.now ≡ none = (passing c.args.book.now c.requires.0).passed in
-    rw c.section-engagements.ensures (opened c.args.book.now passed) in
+    let passed = (passing c.args.book.now c.requires.0).passed in
+    let own : Opened c.args.book.now c.section-engagements.result.now = rw c.section-engagements.ensures (opened c.args.book.now (passing c.args.book.now c.requires.0).passed) in
     let bytes = c.args.book.now in
     let e = c.section-engagements.ensures in
     let g = c.gather_days in
@@ -43,7 +38,7 @@ fill_engagements-requires c =
 
 pub returns : goal.returns
 returns c =
-    let passed : refusal_of c.args.book.now ≡ none = (passing c.args.book.now c.requires.0).passed in
+    let passed = (passing c.args.book.now c.requires.0).passed in
     let bytes = c.args.book.now in
     c.fill_engagements.ensures
     ∙ ap (λ (l : List ℕ). sets c.args.volumes.now 0 (book_volumes (book_with bytes l))) c.section-engagements.ensures

@@ -16,7 +16,6 @@ use Rattle.settlement.specs.SectionsInner.{engagement_count_in}
 use Rattle.settlement.specs.PartsLaws.{count_none, count-more}
 use Rattle.series.specs.SumsInner.{grains_to, Parts}
 use Rattle.series.specs.SumsLaws.{by-cong, added-length, rows_few, placed, volumes-room, grains-none, grains-all, turn-adds, turn-sums}
-use Rattle.series.proofs.sums.add_engagements.Goals.{After-cell_of-first, In-loop-i}
 use Rattle.series.proofs.sums.add_engagements.Goals as goal
 
 pub loop-i-init : goal.loop-i-init
@@ -55,9 +54,7 @@ add_volumes-requires c =
 pub overflow_add-at : goal.overflow_add-at
 overflow_add-at c =
     let inside : c.loop-i.i < engagement_count_in c.args.engagements.now = search rules in
-    let l = c.loop-i in
-    let room = volumes-room c.requires.0.parts l.i inside in
-    record { fits = omega (arith, l.invariant.1, room, ap (λ (e : Engagement). e.count) c.engagement_at-e.ensures) }
+    record { fits = omega (arith, c.loop-i.invariant.1, volumes-room c.requires.0.parts c.loop-i.i inside, ap (λ (e : Engagement). e.count) c.engagement_at-e.ensures) }
 
 pub overflow_add-i : goal.overflow_add-i
 overflow_add-i c =
@@ -76,12 +73,11 @@ loop-i-preserved c =
     let from_one : c.cell_of-first.result + 1 ≡ start_position a.c c.engagement_at-e.result =
     omega (arith, c.cell_of-first.ensures, cell-position a.c c.engagement_at-e.result.day c.engagement_at-e.result.first) in
     let start_is : c.cell_of-first.result + 1 ≡ start_position a.c e = from_one ∙ ap (start_position a.c) read in
-    let v = c.add_volumes.ensures in
-    let here = inside in (
-      omega (arith, here),
-      omega (arith, l.invariant.1, count-more a.engagements.now l.i here, ap (λ (e : Engagement). e.count) c.engagement_at-e.ensures),
+    let v = c.add_volumes.ensures in (
+      omega (arith, inside),
+      omega (arith, l.invariant.1, count-more a.engagements.now l.i inside, ap (λ (e : Engagement). e.count) c.engagement_at-e.ensures),
       ap length v ∙ added-length l.grains c.cell_of-first.result _ c.series_rows-own.result ∙ l.invariant.2,
-      λ b p. v ∙ turn-sums p a.role.kind a.role.receiver a.s l.i l.at c.series_rows-own.result c.cell_of-first.result a.grains.now l.grains here l.invariant.1 (rows_are b p) start_is c.requires.1 (l.invariant.3 b p),
+      λ b p. v ∙ turn-sums p a.role.kind a.role.receiver a.s l.i l.at c.series_rows-own.result c.cell_of-first.result a.grains.now l.grains inside l.invariant.1 (rows_are b p) start_is c.requires.1 (l.invariant.3 b p),
     )
 
 pub shape_of-grains : goal.shape_of-grains

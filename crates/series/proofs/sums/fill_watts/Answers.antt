@@ -10,7 +10,6 @@ use Rattle.integers.specs.Running.{floor_at}
 use Rattle.grains.specs.Grains.{per_watt}
 use Rattle.series.specs.SumsInner.{by_position, cell_at}
 use Rattle.series.specs.SumsLaws.{by-none, by-rest, by-more, carried, carry-none}
-use Rattle.series.proofs.sums.fill_watts.Goals.{In-loop-i}
 use Rattle.series.proofs.sums.fill_watts.Goals as goal
 
 pub loop-i-init : goal.loop-i-init
@@ -25,11 +24,11 @@ overflow_add-sum c = let at = ap (λ (t : List ℕ). get_or t c.loop-i.i 0) c.lo
 
 pub loop-i-preserved : goal.loop-i-preserved
 loop-i-preserved c =
-    let cell : get_or c.loop-i.cells c.loop-i.i 0 ≡ cell_at c.args.cells.now (c.loop-i.i + 1) = let first = c.args.cells.now in
+    let first = c.args.cells.now in
+    let cell : get_or c.loop-i.cells c.loop-i.i 0 ≡ cell_at first (c.loop-i.i + 1) =
     ap (λ (t : List ℕ). get_or t c.loop-i.i 0) c.loop-i.invariant.3
     ∙ by-rest (floor_at per_watt (cell_at first)) c.loop-i.i first (omega (arith, c.requires.0))
     ∙ ap (cell_at first) (sym (add-one c.loop-i.i)) in
-    let first = c.args.cells.now in
     let k = carried (cell_at first) c.loop-i.i c.loop-i.carry (get_or c.loop-i.cells c.loop-i.i 0) c.loop-i.invariant.2 cell in (
       omega arith,
       length-set c.loop-i.cells c.loop-i.i c.down_to_watts.result ∙ c.loop-i.invariant.1,

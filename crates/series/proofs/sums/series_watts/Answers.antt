@@ -13,7 +13,6 @@ use Rattle.volumes.specs.Series.{grains_at}
 use Rattle.settlement.specs.SectionsLaws.{bytes-headed}
 use Rattle.series.specs.SumsInner.{by_position, cell_at, Parts}
 use Rattle.series.specs.SumsLaws.{by_length, parts-of, carry-fits, watts-are}
-use Rattle.series.proofs.sums.series_watts.Goals.{After-month_quarters, Start}
 use Rattle.series.proofs.sums.series_watts.Goals as goal
 
 pub calendar_of-c-requires : goal.calendar_of-c-requires
@@ -21,18 +20,13 @@ calendar_of-c-requires c = bytes-headed c.args.book.now (passing c.args.book.now
 
 pub month_quarters-requires : goal.month_quarters-requires
 month_quarters-requires c =
-    let parts : let bytes = c.args.book.now in
-    Parts (calendar_of bytes) (register_section bytes) (engagement_section bytes) c.args.volumes.now (book_of bytes) = parts-of c.args.book.now c.args.volumes.now c.requires.0 in
-    let p = parts in
+    let p = parts-of c.args.book.now c.args.volumes.now c.requires.0 in
     rw c.calendar_of-c.ensures (rw p.when at p.sound.ranged)
 
 pub fill_watts-requires : goal.fill_watts-requires
 fill_watts-requires c =
-    let parts : let bytes = c.args.book.now in
-    Parts (calendar_of bytes) (register_section bytes) (engagement_section bytes) c.args.volumes.now (book_of bytes) = parts-of c.args.book.now c.args.volumes.now c.requires.0 in
-    let month : c.month_quarters.result ≡ month_quarters (book_of c.args.book.now).calendar = let parts : let bytes = c.args.book.now in
-    Parts (calendar_of bytes) (register_section bytes) (engagement_section bytes) c.args.volumes.now (book_of bytes) = parts-of c.args.book.now c.args.volumes.now c.requires.0 in
-    c.month_quarters.ensures ∙ ap month_quarters (c.calendar_of-c.ensures ∙ sym parts.when) in
+    let parts = parts-of c.args.book.now c.args.volumes.now c.requires.0 in
+    let month = c.month_quarters.ensures ∙ ap month_quarters (c.calendar_of-c.ensures ∙ sym (parts-of c.args.book.now c.args.volumes.now c.requires.0).when) in
     let a = c.args in
     let f = c.fill_grains in
     let m = month_quarters (book_of a.book.now).calendar in
@@ -41,11 +35,8 @@ fill_watts-requires c =
 
 pub returns : goal.returns
 returns c =
-    let parts : let bytes = c.args.book.now in
-    Parts (calendar_of bytes) (register_section bytes) (engagement_section bytes) c.args.volumes.now (book_of bytes) = parts-of c.args.book.now c.args.volumes.now c.requires.0 in
-    let month : c.month_quarters.result ≡ month_quarters (book_of c.args.book.now).calendar = let parts : let bytes = c.args.book.now in
-    Parts (calendar_of bytes) (register_section bytes) (engagement_section bytes) c.args.volumes.now (book_of bytes) = parts-of c.args.book.now c.args.volumes.now c.requires.0 in
-    c.month_quarters.ensures ∙ ap month_quarters (c.calendar_of-c.ensures ∙ sym parts.when) in
+    let parts = parts-of c.args.book.now c.args.volumes.now c.requires.0 in
+    let month = c.month_quarters.ensures ∙ ap month_quarters (c.calendar_of-c.ensures ∙ sym (parts-of c.args.book.now c.args.volumes.now c.requires.0).when) in
     let a = c.args in
     let f = c.fill_grains in
     let cells = f.new.grains in
