@@ -12,7 +12,7 @@ use mir.ValLaws.{to_z-of_z}
 use Rattle.integers.specs.Ranges.{range}
 use Rattle.book.specs.declared.Point.{Point}
 use Rattle.volumes.specs.SoundInner.{Bounded}
-use Rattle.volumes.specs.WidthsLaws.{bounded-fits}
+use Rattle.volumes.proofs.WidthsLaws.{bounded-fits}
 use Rattle.sheets.specs.AddsLaws.{length-adds}
 use Rattle.sheets.specs.SharesInner.{source_in, fsp_in, injection_in, correction_most, gets, gets_at, gets_of, RowsSmall}
 use Rattle.sheets.specs.SharesLaws.{gets-length, gets-next, gets-fits}
