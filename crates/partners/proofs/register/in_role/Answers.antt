@@ -1,6 +1,6 @@
 -- No row passed so far has the receiver.
 use mathlib.Core.Path.{◌≡◌, sym, ap, ◌∙◌}
-use Prim.Native.Nat.{ℕ, ◌-◌}
+use Prim.Native.Nat.{ℕ}
 use borrow.Author.Count.{below_more}
 use Rattle.book.specs.Register.{point_at}
 use Rattle.volumes.specs.Series.{receiver_of}

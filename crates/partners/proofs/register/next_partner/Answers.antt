@@ -1,6 +1,5 @@
 -- After i rows `next` is the least partner of those, as the scan's step says.
 use mathlib.Core.Path.{◌≡◌, ap, ◌∙◌}
-use Prim.Native.Nat.{◌-◌}
 use borrow.Author.Rules.{rules}
 use Rattle.settlement.specs.SectionsInner.{point_count_in}
 use Rattle.volumes.specs.Series.{partner_of}

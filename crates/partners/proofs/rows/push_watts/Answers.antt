@@ -1,6 +1,5 @@
 -- After i turns the rows of the first i positions are stored.
 use mathlib.Core.Path.{◌≡◌}
-use Prim.Native.Nat.{◌-◌}
 use borrow.Author.Rules.{rules}
 use native.Mathlib.Omega.{arith}
 use Rattle.partners.specs.PartnerRowsLaws.{filled_is, filled_none, filled-then, filled-length, positions-none, positions-more, positions-few}
