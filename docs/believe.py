@@ -158,7 +158,7 @@ def main():
         lines = list(stray(all_modules, found))
         print("\n".join(lines))
         sys.exit(1 if lines else 0)
-    order = [line.split(":")[0] for line in Path("crates.txt").read_text().split("\n") if ":" in line and not line.startswith("#")]
+    order = [line.split(":")[0].split()[0] for line in Path("crates.txt").read_text().split("\n") if ":" in line and not line.startswith("#")]
     print("# What has to be believed\n")
     print("Every definition that the contract of a call or of the program, or a theorem, reaches; `docs/believe.py` prints this page. All else is")
     print(f"proved about these, and about the structs and enums that src/ declares, which are not listed here. {len(found)} definitions.")
