@@ -1,11 +1,9 @@
 -- Refused, the rows and the file are as they were; else both are filled, where the file has room.
-use mathlib.Core.Path.{◌≡◌, sym, ap, ◌∙◌}
+use mathlib.Core.Path.{◌≡◌, sym}
 use mathlib.Core.Option.{none, some}
 use Rattle.volumes.specs.Settlement.{book_refusal}
-use Rattle.settlement.specs.VerdictsInner.{refusal_in}
 use Rattle.kinds.specs.Numbers.{kind_numbered}
 use Rattle.filing.specs.FileCallLaws.{asked-room, call-refused, call-unknown, call-asked, call-filled}
-use Rattle.kinds.specs.NumbersInner.{kind_in}
 use Rattle.filing.proofs.file.file.Goals.{In-Of, In_default}
 use Rattle.filing.proofs.file.file.Goals as goal
 

@@ -1,6 +1,5 @@
 -- The tests in their order, each as the definition has it.
 use mathlib.Core.Path.{◌≡◌, sym, ◌∙◌}
-use borrow.Author.Tests.{not-true, not-false}
 use Rattle.book.specs.Book.{book_of}
 use Rattle.volumes.proofs.SettlementLaws.{passing}
 use Rattle.reports.specs.Roles.{receivers}

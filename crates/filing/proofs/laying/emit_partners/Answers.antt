@@ -1,6 +1,6 @@
 -- What is laid, and the partners from `low` on, make all, and so do their counts; `next` is the first of these.
 use mathlib.Core.Path.{ap, ◌∙◌}
-use Prim.Native.Nat.{◌+◌, ◌-◌, ◌≤◌}
+use Prim.Native.Nat.{◌+◌, ◌≤◌}
 use native.Mathlib.Nat.{zero-add}
 use lib.ListN.{length}
 use Rattle.book.specs.Book.{book_of}

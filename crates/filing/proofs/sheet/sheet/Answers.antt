@@ -1,17 +1,14 @@
 -- Refused, the sums are as they were; accepted, of a party of the register and with room, they are the sheet.
-use mathlib.Core.Path.{◌≡◌, sym, ap, ap₂, ◌∙◌}
-use mathlib.Core.Bool.{true}
+use mathlib.Core.Path.{◌≡◌, sym, ap₂, ◌∙◌}
 use mathlib.Core.List.{List}
 use mathlib.Core.Option.{none}
 use Prim.Native.Nat.{ℕ}
 use borrow.Author.Rules.{rules}
-use borrow.Author.Tests.{not-true, not-false}
 use Rattle.book.specs.Book.{book_of}
 use Rattle.book.specs.Judged.{refusal_of}
 use Rattle.volumes.specs.Settlement.{book_refusal}
 use Rattle.volumes.proofs.SettlementLaws.{passing}
 use Rattle.volumes.specs.Sheets.{parties}
-use Rattle.settlement.specs.VerdictsInner.{refusal_in}
 use Rattle.settlement.specs.SectionsLaws.{bytes-long}
 use Rattle.sheets.specs.PartiesInner.{parties_in}
 use Rattle.reports.specs.Calls.{stands}
