@@ -1,7 +1,10 @@
 -- The output lies in the buffer that it was written to.
-use Rattle.std.proofs.Common.{arith}
+use Rattle.std.proofs.Common.{sym, length-take-le, arith}
 use Rattle.outputs.proofs.OutputLaws.{printed-fits}
 use Rattle.toe_vectors.proofs.answer.Goals as goal
 
 pub slice_bounds-out-end : goal.slice_bounds-out-end
 slice_bounds-out-end g c = omega (arith, printed-fits c.answer-count.ensures)
+
+pub slice_bounds-print-end : goal.slice_bounds-print-end
+slice_bounds-print-end g c = sym (length-take-le c.answer-count.result c.answer-count.new.out (printed-fits c.answer-count.ensures))
