@@ -12,7 +12,6 @@ use Rattle.std.proofs.lemmas.List.{length-map, get_or_at}
 use Rattle.std.proofs.Math.Seq.{get_or-set_other}
 use Rattle.integers.specs.Ranges.{range}
 use Rattle.integers.specs.Running.{up_to, floor_at}
-use Rattle.integers.proofs.ZLaws.{inside}
 use Rattle.integers.specs.Sums.{naturals, sum_by, sum_of}
 use Rattle.grains.specs.Grains.{per_watt}
 use Rattle.book.specs.declared.Takers.TheVariants.{Aggregated, Individual, Neither, Refused}
@@ -27,7 +26,7 @@ use Rattle.book.specs.Header.{calendar_of, register_section, engagement_section}
 use Rattle.book.specs.Book.{Book, book_of}
 use Rattle.quarters.specs.Quarters.{month_quarters}
 use Rattle.volumes.proofs.QuartersLaws.{position-inside}
-use Rattle.volumes.specs.Settlement.{delivered, rows, row_count}
+use Rattle.volumes.specs.Settlement.{delivered, row_count}
 use Rattle.volumes.proofs.SettlementLaws.{passing}
 use Rattle.volumes.specs.Sheets.{start_position, covers, quarter_at}
 use Rattle.volumes.specs.declared.Series.{Series}

@@ -1,5 +1,5 @@
 -- The rows filled are those of the engagement, so that their second numbers are its delivered volumes.
-use mathlib.Core.Path.{◌≡◌, ap, ◌∙◌}
+use mathlib.Core.Path.{ap, ◌∙◌}
 use mathlib.Core.List.{map}
 use Prim.Native.Nat.{ℕ, ◌+◌, ◌*◌, ◌≤◌}
 use lib.IntN.{pos}
@@ -32,11 +32,6 @@ store_volumes-requires c =
     let long = length-replicate (row_width * longest_day) (pos 0) in
     let room : row_width * e.count ≤ length none = omega (arith, (engagement-placed c.requires.0 a.i c.requires.2).few, long) in
     (omega (arith, count, c.requires.4), omega (arith, count, room, c.settle_engagement_at.auto.out, long), λ k h. ap dn (volume-is book e none c.settle_engagement_at.new.out c.settle_engagement_at.ensures.1 room k (omega (arith, h, count))))
-
-pub overflow_add-result : goal.overflow_add-result
-overflow_add-result c =
-    let count = ap (λ (e : Engagement). e.count) c.engagement_at-e.ensures in
-    omega (arith, count, c.requires.4, c.well_formed)
 
 pub returns : goal.returns
 returns c =

@@ -1,7 +1,7 @@
 -- The volumes of the engagements passed are stored, one behind the other; the rest is as it was.
 use mathlib.Core.Path.{◌≡◌, sym, ap, ◌∙◌}
 use mathlib.Core.List.{List}
-use Prim.Native.Nat.{ℕ, ◌+◌, ◌*◌, ◌-◌, ◌≤◌}
+use Prim.Native.Nat.{ℕ, ◌+◌, ◌*◌, ◌≤◌}
 use lib.ListN.{length}
 use lib.Seq.{sets, length-sets}
 use native.Mathlib.Omega.{arith}
@@ -40,9 +40,6 @@ loop-i-preserved c =
           ∙ ap (λ (o : List ℕ). sets o l.at (volumes_of book (engagement_at a.engagements.now l.i))) l.invariant.2
           ∙ parts_more (volumes_of book) a.engagements.now 1 (volumes-each book) a.volumes.now l.at l.i (search rules) place,
     )
-
-pub shape_of-volumes : goal.shape_of-volumes
-shape_of-volumes c = ap length c.loop-i.invariant.2 ∙ simp length-sets
 
 pub returns : goal.returns
 returns c =

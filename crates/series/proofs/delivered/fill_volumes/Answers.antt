@@ -1,11 +1,9 @@
 -- With its own engagements the book is the one that the bytes say, so their volumes are its volumes.
-use mathlib.Core.Path.{◌≡◌, ap, ◌∙◌}
+use mathlib.Core.Path.{ap, ◌∙◌}
 use mathlib.Core.List.{List}
-use mathlib.Core.Option.{none}
 use Prim.Native.Nat.{ℕ}
 use lib.Seq.{sets}
 use Rattle.book.specs.Book.{Book}
-use Rattle.book.specs.Judged.{refusal_of}
 use Rattle.volumes.proofs.SettlementLaws.{passing}
 use Rattle.settlement.specs.SectionsInner.{book_with, Opened}
 use Rattle.settlement.specs.SectionsLaws.{bytes-headed, same-book, opened, count-book, own-settled}

@@ -1,7 +1,7 @@
 -- The cells hold the grains of the engagements passed; a turn adds those of one more.
 use mathlib.Core.Path.{◌≡◌, refl, sym, ap, ◌∙◌}
 use mathlib.Core.Bool.{cond}
-use Prim.Native.Nat.{◌+◌, ◌-◌, ◌<◌}
+use Prim.Native.Nat.{◌+◌, ◌<◌}
 use native.Mathlib.Omega.{arith}
 use lib.ListN.{length}
 use borrow.Author.Rules.{rules}
@@ -15,17 +15,12 @@ use Rattle.volumes.specs.Series.{is_engagement}
 use Rattle.settlement.specs.SectionsInner.{engagement_count_in}
 use Rattle.settlement.specs.PartsLaws.{count_none, count-more}
 use Rattle.series.specs.SumsInner.{grains_to, Parts}
-use Rattle.series.specs.SumsLaws.{by-cong, added-length, rows_few, placed, volumes-room, grains-none, grains-all, turn-adds, turn-sums}
+use Rattle.series.specs.SumsLaws.{by-cong, added-length, placed, volumes-room, grains-none, grains-all, turn-adds, turn-sums}
 use Rattle.series.proofs.sums.add_engagements.Goals as goal
 
 pub loop-i-init : goal.loop-i-init
 loop-i-init c = let a = c.args in
     (search rules, omega (arith, count_none a.engagements.now), refl, λ b p. c.requires.2 ∙ by-cong (λ q. 0) (grains_to b a.role.kind a.role.receiver a.s 0) (month_quarters a.c) a.grains.now (λ q _ _. sym (grains-none p _ _ _ q)))
-
-pub series_rows-own-requires : goal.series_rows-own-requires
-series_rows-own-requires c =
-    let inside : c.loop-i.i < engagement_count_in c.args.engagements.now = search rules in
-    rw c.engagement_at-e.ensures (c.requires.0.parts.registered c.loop-i.i inside)
 
 pub cell_of-first-requires : goal.cell_of-first-requires
 cell_of-first-requires c =
@@ -56,11 +51,6 @@ overflow_add-at c =
     let inside : c.loop-i.i < engagement_count_in c.args.engagements.now = search rules in
     record { fits = omega (arith, c.loop-i.invariant.1, volumes-room c.requires.0.parts c.loop-i.i inside, ap (λ (e : Engagement). e.count) c.engagement_at-e.ensures) }
 
-pub overflow_add-i : goal.overflow_add-i
-overflow_add-i c =
-    let inside : c.loop-i.i < engagement_count_in c.args.engagements.now = search rules in
-    record { fits = omega (arith, inside, rows_few c.requires.0.parts) }
-
 pub loop-i-preserved : goal.loop-i-preserved
 loop-i-preserved c =
     let inside : c.loop-i.i < engagement_count_in c.args.engagements.now = search rules in
@@ -79,9 +69,6 @@ loop-i-preserved c =
       ap length v ∙ added-length l.grains c.cell_of-first.result _ c.series_rows-own.result ∙ l.invariant.2,
       λ b p. v ∙ turn-sums p a.role.kind a.role.receiver a.s l.i l.at c.series_rows-own.result c.cell_of-first.result a.grains.now l.grains inside l.invariant.1 (rows_are b p) start_is c.requires.1 (l.invariant.3 b p),
     )
-
-pub shape_of-grains : goal.shape_of-grains
-shape_of-grains c = c.loop-i.invariant.2
 
 pub returns : goal.returns
 returns c = λ b p.

@@ -1,33 +1,20 @@
 -- A turn adds volume k to the k-th cell, which the turns before left alone.
-use mathlib.Core.Path.{◌≡◌, refl, sym, ap, ◌∙◌}
+use mathlib.Core.Path.{refl, sym, ap, ◌∙◌}
 use mathlib.Core.List.{List}
-use Prim.Native.Nat.{ℕ, ◌+◌, ◌-◌}
+use Prim.Native.Nat.{ℕ, ◌+◌}
 use native.Mathlib.Omega.{arith}
 use lib.ListN.{get_or, set, length-set}
 use borrow.Author.Rules.{rules}
-use Rattle.series.specs.SumsInner.{added}
 use Rattle.series.specs.SumsLaws.{added_none, added-behind, added_more}
 use Rattle.series.proofs.sums.add_volumes.Goals as goal
 
 pub loop-k-init : goal.loop-k-init
 loop-k-init c = (search rules, refl, sym (added_none _ _ _))
 
-pub overflow_add-volume : goal.overflow_add-volume
-overflow_add-volume c = omega (arith, c.requires.given)
-
-pub bounds-volumes-at : goal.bounds-volumes-at
-bounds-volumes-at c = omega (arith, c.requires.given)
-
-pub bounds-grains-cell : goal.bounds-grains-cell
-bounds-grains-cell c = omega (arith, c.requires.cells)
-
 pub overflow_add-grains : goal.overflow_add-grains
 overflow_add-grains c =
     let behind = ap (λ (g : List ℕ). get_or g (c.args.first + c.loop-k.k) 0) c.loop-k.invariant.2 ∙ added-behind c.args.grains.now c.args.first _ c.loop-k.k (c.args.first + c.loop-k.k) (omega arith) in
     record { fits = omega (arith, behind, c.requires.fits c.loop-k.k (omega arith)) }
-
-pub bounds-grains-cell-in-loop-k : goal.bounds-grains-cell-in-loop-k
-bounds-grains-cell-in-loop-k c = omega (arith, c.requires.cells)
 
 pub loop-k-preserved : goal.loop-k-preserved
 loop-k-preserved c =
@@ -35,11 +22,3 @@ loop-k-preserved c =
     let place = a.first + c.loop-k.k in
     let volume = get_or a.volumes.now (a.at + c.loop-k.k) 0 in
     (search rules, length-set c.loop-k.grains _ _ ∙ c.loop-k.invariant.1, ap (λ (g : List ℕ). set g place (get_or g place 0 + volume)) c.loop-k.invariant.2 ∙ added_more a.grains.now a.first _ c.loop-k.k)
-
-pub shape_of-grains : goal.shape_of-grains
-shape_of-grains c = c.loop-k.invariant.1
-
-pub returns : goal.returns
-returns c =
-    let e : c.loop-k.k ≡ c.args.n = omega arith in
-    c.loop-k.invariant.2 ∙ ap (added c.args.grains.now c.args.first _) e

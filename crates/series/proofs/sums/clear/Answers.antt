@@ -1,11 +1,10 @@
 -- After i turns the first i positions are 0, and the rest as before.
-use mathlib.Core.Path.{◌≡◌, refl, sym, ap, ◌∙◌}
+use mathlib.Core.Path.{refl, sym, ap, ◌∙◌}
 use mathlib.Core.List.{List}
-use Prim.Native.Nat.{ℕ, ◌-◌}
+use Prim.Native.Nat.{ℕ}
 use native.Mathlib.Omega.{arith}
 use lib.ListN.{set, length-set}
 use borrow.Author.Rules.{rules}
-use Rattle.series.specs.SumsInner.{by_position}
 use Rattle.series.specs.SumsLaws.{by-none, by-more}
 use Rattle.series.proofs.sums.clear.Goals as goal
 
@@ -14,10 +13,3 @@ loop-i-init c = (search rules, refl, sym (by-none (λ p. 0) _))
 
 pub loop-i-preserved : goal.loop-i-preserved
 loop-i-preserved c = (search rules, length-set c.loop-i.cells c.loop-i.i 0 ∙ c.loop-i.invariant.1, ap (λ (g : List ℕ). set g c.loop-i.i 0) c.loop-i.invariant.2 ∙ by-more (λ p. 0) c.loop-i.i c.args.cells.now 0 (omega (arith, c.requires)) refl)
-
-pub shape_of-cells : goal.shape_of-cells
-shape_of-cells c = c.loop-i.invariant.1
-
-pub returns : goal.returns
-returns c = let e : c.loop-i.i ≡ c.args.n = omega arith in
-    c.loop-i.invariant.2 ∙ ap (λ (k : ℕ). by_position (λ p. 0) k c.args.cells.now) e

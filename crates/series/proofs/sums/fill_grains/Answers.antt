@@ -1,11 +1,8 @@
 -- The sections and the calendar are the book's own, and its month's cells are cleared first.
-use mathlib.Core.Path.{◌≡◌, sym, ap, ◌∙◌}
-use mathlib.Core.Option.{none}
+use mathlib.Core.Path.{sym, ap, ◌∙◌}
 use Prim.Native.Nat.{ℕ}
 use native.Mathlib.Omega.{arith}
 use borrow.Author.Rules.{rules}
-use Rattle.book.specs.Header.{calendar_of, register_section, engagement_section}
-use Rattle.book.specs.Judged.{refusal_of}
 use Rattle.book.specs.Book.{book_of}
 use Rattle.quarters.specs.Quarters.{month_quarters}
 use Rattle.volumes.proofs.SettlementLaws.{passing}

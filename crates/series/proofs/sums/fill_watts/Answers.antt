@@ -1,22 +1,19 @@
 -- The carry is what the positions passed leave over 30,240; the cells passed hold watts, the others their grains.
 use mathlib.Core.Path.{◌≡◌, refl, sym, ap, ◌∙◌}
 use mathlib.Core.List.{List}
-use Prim.Native.Nat.{ℕ, ◌+◌, ◌-◌}
+use Prim.Native.Nat.{ℕ, ◌+◌}
 use native.Mathlib.Numerals.{add-one}
 use native.Mathlib.Omega.{arith}
 use lib.ListN.{get_or, set, length-set}
 use borrow.Author.Rules.{rules}
 use Rattle.integers.specs.Running.{floor_at}
 use Rattle.grains.specs.Grains.{per_watt}
-use Rattle.series.specs.SumsInner.{by_position, cell_at}
+use Rattle.series.specs.SumsInner.{cell_at}
 use Rattle.series.specs.SumsLaws.{by-none, by-rest, by-more, carried, carry-none}
 use Rattle.series.proofs.sums.fill_watts.Goals as goal
 
 pub loop-i-init : goal.loop-i-init
 loop-i-init c = (search rules, refl, carry-none _, sym (by-none _ _))
-
-pub bounds-cells-i : goal.bounds-cells-i
-bounds-cells-i c = omega (arith, c.requires.0, c.loop-i.invariant.1)
 
 pub overflow_add-sum : goal.overflow_add-sum
 overflow_add-sum c = let at = ap (λ (t : List ℕ). get_or t c.loop-i.i 0) c.loop-i.invariant.3 ∙ by-rest (floor_at per_watt (cell_at c.args.cells.now)) c.loop-i.i c.args.cells.now (omega (arith, c.requires.0)) in
@@ -35,11 +32,3 @@ loop-i-preserved c =
       k.left,
       ap (λ (t : List ℕ). set t c.loop-i.i c.down_to_watts.result) c.loop-i.invariant.3 ∙ by-more (floor_at per_watt (cell_at first)) c.loop-i.i first c.down_to_watts.result (omega (arith, c.requires.0)) (c.down_to_watts.ensures ∙ k.whole),
     )
-
-pub shape_of-cells : goal.shape_of-cells
-shape_of-cells c = c.loop-i.invariant.1
-
-pub returns : goal.returns
-returns c = let a = c.args in
-    let e : c.loop-i.i ≡ a.n = omega arith in
-    c.loop-i.invariant.3 ∙ ap (λ (k : ℕ). by_position (floor_at per_watt (cell_at a.cells.now)) k a.cells.now) e

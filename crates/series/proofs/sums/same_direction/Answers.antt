@@ -4,8 +4,5 @@ use mathlib.Core.Bool.{not}
 use Rattle.series.specs.SumsLaws.{down_is}
 use Rattle.series.proofs.sums.same_direction.Goals as goal
 
-pub returns-in-Up : goal.returns-in-Up
-returns-in-Up c = rw c.in-Up.is c.is_up-up.ensures
-
 pub returns-in-Down : goal.returns-in-Down
 returns-in-Down c = rw c.in-Down.is (ap not c.is_up-up.ensures ∙ sym (down_is c.args.a))

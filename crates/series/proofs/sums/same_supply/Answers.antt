@@ -4,8 +4,5 @@ use mathlib.Core.Bool.{not}
 use Rattle.series.specs.SumsLaws.{injection-is}
 use Rattle.series.proofs.sums.same_supply.Goals as goal
 
-pub returns-in-OffTake : goal.returns-in-OffTake
-returns-in-OffTake c = rw c.in-OffTake.is c.is_off_take-off_take.ensures
-
 pub returns-in-Injection : goal.returns-in-Injection
 returns-in-Injection c = rw c.in-Injection.is (ap not c.is_off_take-off_take.ensures ∙ sym (injection-is c.args.a))

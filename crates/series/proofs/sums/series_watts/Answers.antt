@@ -1,17 +1,16 @@
 -- The grains that were filled become watts, over the same positions.
-use mathlib.Core.Path.{◌≡◌, sym, ap, ◌∙◌}
+use mathlib.Core.Path.{sym, ap, ◌∙◌}
 use Prim.Native.Nat.{ℕ}
 use native.Mathlib.Omega.{arith}
 use lib.ListN.{length}
 use Rattle.integers.specs.Running.{floor_at}
 use Rattle.grains.specs.Grains.{per_watt}
-use Rattle.book.specs.Header.{calendar_of, register_section, engagement_section}
 use Rattle.book.specs.Book.{book_of}
 use Rattle.quarters.specs.Quarters.{month_quarters}
 use Rattle.volumes.proofs.SettlementLaws.{passing}
 use Rattle.volumes.specs.Series.{grains_at}
 use Rattle.settlement.specs.SectionsLaws.{bytes-headed}
-use Rattle.series.specs.SumsInner.{by_position, cell_at, Parts}
+use Rattle.series.specs.SumsInner.{by_position, cell_at}
 use Rattle.series.specs.SumsLaws.{by_length, parts-of, carry-fits, watts-are}
 use Rattle.series.proofs.sums.series_watts.Goals as goal
 

@@ -4,9 +4,6 @@ use mathlib.Core.Bool.{not}
 use Rattle.series.specs.SumsLaws.{individual-is, takes-neither, takes-refused}
 use Rattle.series.proofs.sums.takes.Goals as goal
 
-pub returns-in-Aggregated : goal.returns-in-Aggregated
-returns-in-Aggregated c = rw c.in-Aggregated.is c.is_aggregated-aggregated.ensures
-
 pub returns-in-Individual : goal.returns-in-Individual
 returns-in-Individual c = rw c.in-Individual.is (ap not c.is_aggregated-aggregated.ensures ∙ sym (individual-is c.args.kind))
 
