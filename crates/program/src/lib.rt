@@ -2,7 +2,7 @@
 #![tactic(auto)]
 
 ghost use Rattle.std.specs.Prelude.{◌≡◌, ◌+◌, ◌≤◌, length, IfOk};
-ghost use Rattle.program.specs.Prefix.{IsPrefixLen};
+ghost use Rattle.program.specs.PrefixInner.{IsPrefixLen};
 ghost use Rattle.outputs.specs.Output.{input_read};
 
 use std::io;
