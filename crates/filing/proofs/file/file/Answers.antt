@@ -21,9 +21,6 @@ returns-in_default-numbered c = call-unknown _ _ _ _ _ _ _ (passed (goal.at.retu
 known : (c : In-Of) → some c.in-Of.known ≡ kind_numbered c.args.kind
 known c = c.in-Of.ensures
 
-pub judge_asked-verdict-requires : goal.judge_asked-verdict-requires
-judge_asked-verdict-requires c = passed (goal.at.judge_asked-verdict-requires c).In_default
-
 pub returns-in-Refused-verdict : goal.returns-in-Refused-verdict
 returns-in-Refused-verdict c = call-asked _ _ _ _ _ _ _ _ (passed (goal.at.returns-in-Refused-verdict c).In_default) (known (goal.at.returns-in-Refused-verdict c).In-Of) _ c.in-Refused-verdict.ensures
 

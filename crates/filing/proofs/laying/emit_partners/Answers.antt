@@ -10,7 +10,7 @@ use Rattle.reports.proofs.RegisteredLaws.{registered}
 use Rattle.partners.specs.PartnersInner.{partner_column, Next}
 use Rattle.partners.specs.PartnersLaws.{partners-all, partners-end}
 use Rattle.reports.proofs.FormLaws.{partners-few}
-use Rattle.filing.specs.LayingLaws.{next-in, scan-falls, partners-bytes, partners-end-bytes, partners-count}
+use Rattle.filing.specs.LayingLaws.{next-in, partners-bytes, partners-end-bytes, partners-count}
 use Rattle.partners.specs.PartnerRowsLaws.{next_known}
 use borrow.Author.Rules.{rules}
 use native.Mathlib.Omega.{arith}
@@ -19,9 +19,6 @@ use Rattle.filing.proofs.laying.emit_partners.Goals as goal
 
 pub section-register-requires : goal.section-register-requires
 section-register-requires c = ((passing _ c.requires.0.accepted).passed, search rules)
-
-pub next_partner-next-requires : goal.next_partner-next-requires
-next_partner-next-requires c = tt
 
 pub loop-next-init : goal.loop-next-init
 loop-next-init c =
@@ -47,18 +44,12 @@ overflow_add-count c =
     let fits : c.loop-next.count ≤ 256 = omega (arith, most, all) in
     search rules
 
-pub next_partner-next-requires-in-loop-next : goal.next_partner-next-requires-in-loop-next
-next_partner-next-requires-in-loop-next c = tt
-
 -- the partner that follows
 later : (c : After-next_partner-next-in-loop-next) → let a = c.args in Next (c.loop-next.next + 1) (partner_column (book_of a.book.now).points a.role.kind a.role.receiver) c.next_partner-next-in-loop-next.result
 later c =
     let a = c.args in
     let cut = c.section-register in
     next-in a.book.now cut.result.now a.role.kind a.role.receiver _ _ (passing _ c.requires.0.accepted).passed cut.ensures c.next_partner-next-in-loop-next.ensures
-
-pub loop-next-smaller : goal.loop-next-smaller
-loop-next-smaller c = scan-falls _ c.loop-next.next _ c.loop-next-test.true (later (goal.at.loop-next-smaller c).After-next_partner-next-in-loop-next)
 
 pub loop-next-preserved : goal.loop-next-preserved
 loop-next-preserved c =

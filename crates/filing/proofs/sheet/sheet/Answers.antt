@@ -56,10 +56,6 @@ returns-then-sums-count c =
     let a = c.args in
     sheet-short a.book.now a.party a.sums.now (passed (goal.at.returns-then-sums-count c).In_default) (sym (column (goal.at.returns-then-sums-count c).After-is_party) ∙ c.if-not-is_party.false) (rw (← c.sheet_length-count.ensures) c.if-sums-count.true)
 
-pub fill_sheet-requires : goal.fill_sheet-requires
-fill_sheet-requires c =
-    (passed (goal.at.fill_sheet-requires c).In_default, rw (← c.sheet_length-count.ensures) c.if-sums-count.false)
-
 pub returns : goal.returns
 returns c =
     let a = c.args in

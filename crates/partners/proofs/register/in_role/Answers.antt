@@ -6,12 +6,8 @@ use Rattle.book.specs.Register.{point_at}
 use Rattle.volumes.specs.Series.{receiver_of}
 use Rattle.partners.specs.PartnersLaws.{role-found, role-none}
 use borrow.Author.Rules.{rules}
-use native.Mathlib.Omega.{arith}
 use Rattle.partners.proofs.register.in_role.Goals.{After-receiver_of}
 use Rattle.partners.proofs.register.in_role.Goals as goal
-
-pub loop-i-init : goal.loop-i-init
-loop-i-init c = (search rules, λ j h. absurd (omega arith))
 
 -- the receiver of row i
 receiver-is : (c : After-receiver_of) → c.receiver_of.result ≡ receiver_of c.args.role.kind (point_at c.args.register.now c.loop-i.i)

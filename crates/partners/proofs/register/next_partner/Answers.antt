@@ -5,11 +5,8 @@ use Rattle.settlement.specs.SectionsInner.{point_count_in}
 use Rattle.volumes.specs.Series.{partner_of}
 use Rattle.volumes.proofs.SeriesLaws.{told_at}
 use Rattle.reports.specs.FileRows.{is_taken}
-use Rattle.partners.specs.PartnersLaws.{scanned-none, scanned-more, scanned-all}
+use Rattle.partners.specs.PartnersLaws.{scanned-more, scanned-all}
 use Rattle.partners.proofs.register.next_partner.Goals as goal
-
-pub loop-i-init : goal.loop-i-init
-loop-i-init c = (search rules, scanned-none _ _ _ _)
 
 pub is_taken-requires : goal.is_taken-requires
 is_taken-requires c =

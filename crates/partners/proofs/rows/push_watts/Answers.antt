@@ -1,5 +1,4 @@
 -- After i turns the rows of the first i positions are stored.
-use mathlib.Core.Path.{◌≡◌}
 use borrow.Author.Rules.{rules}
 use native.Mathlib.Omega.{arith}
 use Rattle.partners.specs.PartnerRowsLaws.{filled_is, filled_none, filled-then, filled-length, positions-none, positions-more, positions-few}
@@ -18,10 +17,3 @@ pub loop-i-preserved : goal.loop-i-preserved
 loop-i-preserved c =
     let a = c.args in
     (omega arith, filled_is _ (positions-more a.s a.watts.now c.loop-i.i) (filled-then c.loop-i.invariant.1 c.push_position-at.ensures))
-
-pub shape_of-rows : goal.shape_of-rows
-shape_of-rows c = filled-length c.loop-i.invariant.1
-
-pub returns : goal.returns
-returns c = let e : c.loop-i.i ≡ c.args.n = omega arith in
-    rw (← e) c.loop-i.invariant.1
