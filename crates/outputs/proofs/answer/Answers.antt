@@ -1,6 +1,5 @@
 -- The line is judged, then the length of the input, then the file call.
 use Rattle.outputs.proofs.OutputLaws.{no_line, too_long}
-use borrow.Author.Rules.{rules}
 use Rattle.outputs.proofs.answer.Goals as goal
 
 pub returns-in_default : goal.returns-in_default
@@ -10,7 +9,3 @@ returns-in_default c =
 pub returns-then-input-gt65536 : goal.returns-then-input-gt65536
 returns-then-input-gt65536 c =
     too_long c.args.input.now c.in-Line.asked c.args.rows.now c.args.out.now _ _ c.in-Line.ensures c.if-input-gt65536.true c.put_refused-then-input-gt65536.ensures
-
-pub put_file-requires : goal.put_file-requires
-put_file-requires c =
-    (c.in-Line.ensures, c.if-input-gt65536.false, search rules, search rules)

@@ -2,9 +2,6 @@
 use Rattle.toe_c.specs.Codes.{with_facts}
 use Rattle.toe_c.proofs.short_facts.Goals as goal
 
-pub refusal_code-requires-in-Refused : goal.refusal_code-requires-in-Refused
-refusal_code-requires-in-Refused c = rw c.in-Refused.is at c.requires
-
 pub returns-in-File : goal.returns-in-File
 unfolding with_facts
 returns-in-File c = rw c.in-File.is c.refusal_code.ensures
