@@ -9,6 +9,6 @@ answer-requires g c =
     let call = c.file-said in
     let numbers = c.prepare.new.rows in
     let bytes = c.prepare_bytes.new.bytes in
-    fits a.book.now a.asked.kind a.asked.receiver a.id.now a.moment.now (take a.asked.rows numbers) call.new.rows (take a.asked.file bytes) call.new.out call.result _ _ call.ensures
+    fits a.book.now a.asked.kind a.asked.receiver a.id.now a.moment.now (take a.asked.rows numbers) call.new.rows (take a.asked.file bytes) call.new.file call.result _ _ call.ensures
     (omega (arith, call.auto.rows, length-append call.new.rows (drop a.asked.rows numbers)))
-    (omega (arith, call.auto.out, length-append call.new.out (drop a.asked.file bytes)))
+    (omega (arith, call.auto.file, length-append call.new.file (drop a.asked.file bytes)))
