@@ -1,5 +1,5 @@
 // A small cursor that moves past the tags, numbers and words of a text. It is lent by `&mut`; a function that moves it hands it
-// by value to a covered function and stores what comes back. Where something isn't there, the cursor is lost and stays lost.
+// by value to another and stores what comes back. Where something isn't there, the cursor is lost and stays lost.
 #![tactic(auto)]
 
 ghost use Rattle.std.specs.Prelude.{◌≡◌};

@@ -1,5 +1,5 @@
 // Passages: parts of a file that are passed in one go. The cursor that was lent is lent on, to one call after another, and what they find is told. What a
-// file's kind decides is read by value (`.._by`), so that covered code can choose.
+// file's kind decides is read by value (`.._by`).
 #![tactic(auto)]
 
 ghost use Rattle.std.specs.Prelude.{◌≡◌};

@@ -1,8 +1,6 @@
 // The program `toe` on an input that is longer than it reads: the good line and book of 65,536 bytes, and bytes behind them.
 #![tactic(auto)]
 
-use std::io;
-
-fn main(rt: HostRuntime) -> io::Result<()> {
-    program::run(&rt)
+fn main(rt: HostRuntime) {
+    program::run(&rt);
 }

@@ -1,4 +1,4 @@
--- `is-real` meets its contract: date, then time, then offset.
+-- `is_real` meets its contract: date, then time, then offset.
 use Rattle.moments.specs.Moments.{real}
 use Rattle.moments.proofs.is_real.Goals as goal
 
