@@ -2,8 +2,8 @@
 """Prints what has to be believed: every definition that the contract of a call or of the program, or a theorem, reaches.
 
 Run it at the top of the repository: docs/believe.py > docs/BELIEVE.md. A definition is reached if its name stands in the contract, or in the
-text of a definition that is reached. Laws and proofs are the prover's business and are not followed. Types that the code declares (structs and enums
-in src/) and what the prover's own libraries define are not listed.
+text of a definition that is reached, or in a ghost field of a struct that is named there. Laws and proofs are the prover's business and are not
+followed. Types that the code declares (structs and enums in src/) and what the prover's own libraries define are not listed.
 
 docs/believe.py --stray prints each definition that stands in the wrong file, and ends with 1 if there is one: files named ..Laws and ..Inner have
 nothing that is reached, and all other files nothing else. A form of a text has its proofs with it, so crate formats and files named ..Form are left out.
@@ -40,7 +40,7 @@ ROOTS = [
 
 CRATES = Path("crates")
 NAME = r"[^\s(){}\[\],;:.=λ]+"
-DECLARED = re.compile(rf"^\s*(?:(unfoldable|abbrev)\s+)?(pub\s+)?(record\s+)?({NAME})\s*[:({{]")
+DECLARED = re.compile(rf"^\s*(?:(unfoldable|abbrev)\s+)?(pub\s+)?((?:record|data)\s+)?({NAME})\s*[:({{]")
 
 
 def words(text):
@@ -92,7 +92,7 @@ class Module:
             m = DECLARED.match(line)
             if m and (m.group(1) or m.group(3) or m.group(2)) and not open_names:
                 open_names = [m.group(4)]
-                kind = m.group(1) or ("record" if m.group(3) else "law")
+                kind = m.group(1) or (m.group(3) or "law").strip()
                 self.definitions[m.group(4)] = {"line": i + 1, "kind": kind, "text": line, "comment": comment}
             elif open_names:
                 self.definitions[open_names[0]]["text"] += "\n" + line.split(" -- ")[0]
@@ -108,21 +108,38 @@ def contract(path, function):
     begun = next(i for i, line in enumerate(lines) if re.search(rf"\bfn {function}\(", line))
     text = []
     for line in lines[begun:]:
-        if line.lstrip().startswith(("requires", "ensures")):
-            text.append(line)
-        if line.startswith("{"):
+        if line.strip() in ("{", "{}"):
             break
+        if text or line.lstrip().startswith(("requires", "ensures")):
+            text.append(line)
     return words("\n".join(text)), imports(lines, path.split("/")[0])
 
 
+def facts(crate, name):
+    """What the ghost fields of a struct that the crate's code declares bring."""
+    for path in sorted((CRATES / crate / "src").glob("**/*.rt")):
+        lines = path.read_text().split("\n")
+        begun = next((i for i, line in enumerate(lines) if re.match(rf"(pub )?struct {name}\b", line)), None)
+        if begun is None:
+            continue
+        end = next((i for i in range(begun, len(lines)) if lines[i].startswith("}")), begun)
+        fields = [line for line in lines[begun:end] if re.match(r"\s*(pub )?ghost ", line)]
+        known = imports(lines, crate)
+        return [known[word] for word in words("\n".join(fields)) if word in known]
+    return []
+
+
 def reached(all_modules):
-    todo, seen = [], set()
+    todo, seen, structs = [], set(), set()
     for path, function in ROOTS:
         names, known = contract(path, function)
         todo += [known[name] for name in names if name in known]
     while todo:
         crate, module, name = todo.pop()
         home = all_modules.get((crate, module))
+        if module.startswith("declared") and (crate, module, name) not in structs:
+            structs.add((crate, module, name))
+            todo += facts(crate, name)
         if home is None or (crate, module, name) in seen:
             continue
         if name not in home.definitions:

@@ -21,7 +21,12 @@ pub record Accepts (shown : Shown) (calendar readings : List ℕ) : Type 0 where
   pub book : Book
   pub settled : Unrefused shown calendar readings book
 
--- each quarter-hour's level, its baseline and three raises; the places behind them are as they were
+-- each quarter-hour's level, its baseline and three raises
+pub record Levels (shown : Shown) (calendar readings all : List ℕ) : Type 0 where
+  pub small : (k : ℕ) → k < shown.e.count → get_or all k 0 ≤ grains 12884901887
+  pub levels : (book : Book) → Unrefused shown calendar readings book → (k : ℕ) → k < shown.e.count → Over (grains (3 * raise)) (baseline book shown.e k) (get_or all k 0)
+
+-- the first places hold them; those behind them are as they were
 pub record LevelsFilled (shown : Shown) (calendar readings : List ℕ) (before after : List ℕ) : Type 0 where
   pub small : (k : ℕ) → k < shown.e.count → get_or after k 0 ≤ grains 12884901887
   pub levels : (book : Book) → Unrefused shown calendar readings book → (k : ℕ) → k < shown.e.count → Over (grains (3 * raise)) (baseline book shown.e k) (get_or after k 0)

@@ -3,7 +3,7 @@ use Rattle.std.specs.Prelude.{◌≡◌, true, List, ℕ, ◌+◌, ◌≤◌, �
 use Rattle.integers.specs.Sums.{sum_z}
 use Rattle.integers.proofs.ZLaws.{Over}
 use Rattle.grains.specs.Grains.{grains, share}
-use Rattle.wire.specs.declared.Reading.{Reading}
+use Rattle.wire.specs.Readings.{Reading}
 use Rattle.quarters.specs.declared.Calendar.{Calendar}
 use Rattle.book.specs.declared.Engagement.{Engagement}
 use Rattle.book.specs.declared.Method.{Method}
@@ -19,18 +19,22 @@ pub record Raises (list : List Reading) (n add r : ℕ) : Type 0 where
   pub level : (z : ℤ) → complete list ≡ true → Over (grains (2 * raise)) z add → Over (grains (3 * raise)) (sum_z watts list *ℤ pos (share n) +ℤ z) r
   pub small : r ≤ grains 12884901887
 
--- the first n places hold what they are to, and the others are as they were
+-- each of n places holds what it is to
+abbrev pub Fills : (ℕ → ℕ → Type 0) → ℕ → List ℕ → Type 0
+Fills holds n levels = (k : ℕ) → k < n → holds k (get_or levels k 0)
+
+-- and the others are as they were
 pub record FillsLevels (holds : ℕ → ℕ → Type 0) (n : ℕ) (before after : List ℕ) : Type 0 where
   pub each : (k : ℕ) → k < n → holds k (get_or after k 0)
   pub rest : drop n after ≡ drop n before
 
--- what each quarter-hour of the days needs to be read
-abbrev pub LieAll : List ℕ → List ℕ → Calendar → Engagement → ℕ → ℕ → Type 0
-LieAll readings starts c e origin x = (k : ℕ) → k < e.count → Lie readings starts origin (reference_quarter c e.day (e.first + k)) 0 1 x
+-- what each of the first n quarter-hours needs to be read of the days
+abbrev pub LieAll : List ℕ → List ℕ → Calendar → Engagement → ℕ → Type 0
+LieAll readings starts c e n = (k : ℕ) → k < n → Lie readings starts (reference_quarter c e.day (e.first + k)) 0 1
 
 -- what the days' windows need, where method 2 looks at them
-abbrev pub Adding : Method → List ℕ → List ℕ → ℕ → ℕ → ℕ → Type 0
-Adding method readings starts origin place x = method ≡ Adjusted → Lie readings starts origin place 24 12 x
+abbrev pub Adding : Method → List ℕ → List ℕ → ℕ → Type 0
+Adding method readings starts place = method ≡ Adjusted → Lie readings starts place 24 12
 
 -- method 2's addend; method 1 adds nothing
 pub record Added (method : Method) (own days : List Reading) (x r : ℕ) : Type 0 where

@@ -3,7 +3,7 @@ use Rattle.std.specs.Prelude.{◌≡◌, true, List, ℕ, ◌*◌, ◌≤◌, po
 use Rattle.integers.specs.Sums.{sum_z}
 use Rattle.integers.proofs.ZLaws.{Over}
 use Rattle.grains.specs.Grains.{grains, grains_z, share}
-use Rattle.wire.specs.declared.Reading.{Reading}
+use Rattle.wire.specs.Readings.{Reading}
 use Rattle.volumes.specs.Baseline.{watts, known, complete}
 use Rattle.wire.specs.ReadingsInner.{raise}
 

@@ -1,10 +1,10 @@
 pub mod RankingInner
-pub mod RankingLaws
 pub mod TallyInner
 pub mod TallyLaws
 pub mod SortingLaws
 pub mod ShownInner
 pub mod ShownLaws
+pub mod CaseInner
 pub mod RefersLaws
 pub mod RanksInner
 pub mod RanksLaws

@@ -4,12 +4,11 @@ use Rattle.std.proofs.Math.Path.{refl, sym, ap, ap₂}
 use Rattle.std.proofs.Common.{◌∙◌, arith}
 use Rattle.std.proofs.Math.Bool.{true, false, ◌&&◌}
 use Rattle.std.proofs.Math.Option.{none, some}
-use Rattle.wire.specs.declared.Reading.{Reading}
+use Rattle.wire.specs.Readings.{Reading}
 use Rattle.book.specs.declared.Engagement.{Engagement}
 use Rattle.book.specs.declared.Point.{Point}
 use Rattle.book.specs.declared.Method.{Method}
 use Rattle.book.specs.declared.Method.TheVariants.{LastQuarter, HighXOfY, Adjusted}
-use Rattle.quarters.specs.Quarters.{origin_of}
 use Rattle.book.specs.Book.{Book}
 use Rattle.volumes.specs.Quarters.{start, quarter_hours}
 use Rattle.volumes.specs.Baseline.{point_of, complete, last_reading, own_reading, eligible_days, y_of, latest}
@@ -20,26 +19,25 @@ use Rattle.baseline.specs.declared.shown.Shown.{Shown}
 use Rattle.baseline.specs.TallyInner.{in_run}
 use Rattle.baseline.specs.ShownInner.{Shows, before_in}
 use Rattle.baseline.specs.ShownLaws.{own-run, before_at, start-at, own-window}
-use Rattle.baseline.specs.NeedsInner.{needed_in, looks_back, first_of}
+use Rattle.baseline.specs.NeedsInner.{needed_in, looks_back}
 
 module _ {shown : Shown} {calendar readings : List ℕ} {book : Book} (s : Shows shown calendar readings book) where
-  needed-by : (method : Method) → needed_by method book shown.e ≡ needed_in method readings (origin_of shown.c shown.e.point) (start shown.c shown.e) shown.e.notice
+  needed-by : (method : Method) → needed_by method book shown.e ≡ needed_in method readings (start shown.c shown.e) shown.e.notice
   unfolding needed_by needed_in last_reading
-  needed-by LastQuarter = ap (λ (r : Reading). r ∷ []) (before_at s (start book.calendar shown.e) (shown.e.notice + 1) ∙ ap (λ (q : ℕ). before_in readings (origin_of shown.c shown.e.point) q (shown.e.notice + 1)) (start-at s))
+  needed-by LastQuarter = ap (λ (r : Reading). r ∷ []) (before_at s (start book.calendar shown.e) (shown.e.notice + 1) ∙ ap (λ (q : ℕ). before_in readings q (shown.e.notice + 1)) (start-at s))
   needed-by HighXOfY = refl
   needed-by Adjusted = own-window s
 
-  pub needed-is : complete (needed book shown.e) ≡ (complete (in_run readings (origin_of shown.c shown.e.point + start shown.c shown.e) shown.e.count) && complete (needed_in shown.point.method readings (origin_of shown.c shown.e.point) (start shown.c shown.e) shown.e.notice))
+  pub needed-is : complete (needed book shown.e) ≡ (complete (in_run readings (start shown.c shown.e) shown.e.count) && complete (needed_in shown.point.method readings (start shown.c shown.e) shown.e.notice))
   unfolding needed
   needed-is =
       complete-append (map (own_reading book shown.e) (quarter_hours shown.e)) (needed_by (point_of book shown.e).method book shown.e)
-      ∙ ap₂ ◌&&◌ (ap complete (own-run s)) (ap complete (needed-by (point_of book shown.e).method ∙ ap (λ (p : Point). needed_in p.method readings (origin_of shown.c shown.e.point) (start shown.c shown.e) shown.e.notice) s.owner))
+      ∙ ap₂ ◌&&◌ (ap complete (own-run s)) (ap complete (needed-by (point_of book shown.e).method ∙ ap (λ (p : Point). needed_in p.method readings (start shown.c shown.e) shown.e.notice) s.owner))
 
   -- 8 before 9
-  pub first-lack : (whole few : Bool) → whole ≡ complete (needed book shown.e) → few ≡ too_few shown.point.method (y_of book shown.e) (length (eligible_days book shown.e))
-      → first_of (cond whole none (some 8)) (cond few (some 9) none) ≡ refusal_number book shown.e
+  pub first-lack : (whole few : Bool) → whole ≡ complete (needed book shown.e) → few ≡ too_few shown.point.method shown.y (length (eligible_days book shown.e)) → cond whole (cond few (some 9) none) (some 8) ≡ refusal_number book shown.e
   unfolding refusal_number
-  first-lack true few w f = rw (sym w, ap (λ (p : Point). p.method) s.owner, sym f)
+  first-lack true few w f = rw (sym w, ap (λ (p : Point). p.method) s.owner, ← s.wants, sym f)
   first-lack false few w f = rw (sym w)
 
 -- only methods 1 and 2 look at days

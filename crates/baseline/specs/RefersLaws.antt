@@ -1,29 +1,21 @@
 -- A day is eligible where its category is A's, it isn't closed, the clocks don't change on it, its readings are there and, for method 2, its window is and touches no day on which they do.
-use Rattle.std.specs.Prelude.{◌≡◌, refl, Bool, false, ◌||◌, ℕ, eqb, get_or}
+use Rattle.std.specs.Prelude.{◌≡◌, refl, Bool, false, Some, None, ◌||◌, ℕ, eqb, get_or}
 use Rattle.std.proofs.Math.Path.{sym, ap, ap₂}
-use Rattle.std.proofs.Common.{◌∙◌, arith}
+use Rattle.std.proofs.Common.{◌∙◌}
 use Rattle.std.proofs.Math.Bool.{true, not, ◌&&◌, and-true, and-false}
 use mathlib.Core.List.{List}
-use Rattle.integers.proofs.TestsLaws.{both}
-use Rattle.wire.specs.declared.Reading.{Reading}
-use Rattle.quarters.specs.Quarters.{is_clock_change, origin_of}
+use Rattle.wire.specs.Readings.{Reading}
+use Rattle.quarters.specs.Quarters.{is_clock_change}
 use Rattle.book.specs.Register.{excludes}
 use Rattle.book.specs.Book.{Book}
 use Rattle.volumes.specs.Quarters.{reference}
 use Rattle.volumes.specs.Baseline.{complete, day_readings, day_window, windowed, allowed, suits, engaged, clear, regular, eligible, day_sum}
 use Rattle.volumes.proofs.UsedLaws.{eligible-is, suits-is}
 use Rattle.baseline.specs.declared.shown.Shown.{Shown}
-use Rattle.baseline.specs.declared.tally.Tally.{Tally}
-use Rattle.baseline.specs.TallyInner.{Tallied}
+use Rattle.baseline.specs.TallyInner.{Summed}
 use Rattle.baseline.specs.RunsInner.{standing}
-use Rattle.baseline.specs.ShownInner.{Shows, Refers, window_in}
+use Rattle.baseline.specs.ShownInner.{Shows, alike, Refers, window_in}
 use Rattle.baseline.specs.ShownLaws.{day-standing, day-window}
-
--- the day's category is A's, the day isn't closed, and the clocks don't change on it
-abbrev pub alike : List ℕ → Shown → ℕ → Bool
-alike calendar shown d =
-    eqb (get_or calendar d 0) (get_or calendar shown.e.day 0)
-    && (not (excludes shown.closed d) && not (is_clock_change shown.c d))
 
 -- the day's readings are there and, for method 2, its window is and touches no clock-change day
 abbrev rest : Shown → Book → ℕ → Bool
@@ -76,22 +68,26 @@ module _ {shown : Shown} {calendar readings : List ℕ} {book : Book} (s : Shows
       ∙ ap (λ (t : Bool). (same && (not t && not change)) && rest shown book d) (sym (s.closed d))
       ∙ ap (λ (t : Bool). t && rest shown book d) h
 
-  pub refers-not : alike calendar shown d ≡ false → Refers book shown.e d (record { whole = false; sum = 0 })
-  refers-not h =
-      record {
-        whole = sym (eligible-by false h);
-        sum = λ z. let q : ◌≡◌ {A = ℕ} 0 1 = cc in absurd (omega arith);
-      }
+  pub refers-not : alike calendar shown d ≡ false → Refers book shown.e d None
+  refers-not h = eligible-by false h
 
-  pub refers : alike calendar shown d ≡ true → (t : Tally) (good : Bool)
-      → Tallied (standing readings shown.c shown.e (origin_of shown.c shown.e.point) d) shown.e.count t
-      → good ≡ (windowed shown.point.method (window_in readings (origin_of shown.c shown.e.point) (reference shown.c shown.e d 0)) && clear shown.point.method shown.c (reference shown.c shown.e d 0))
-      → Refers book shown.e d (record { whole = t.whole && good; sum = t.sum })
+  -- a reading of the day is missing
+  pub refers-part : alike calendar shown d ≡ true → complete (standing readings shown.c shown.e d) ≡ false → Refers book shown.e d None
+  refers-part h k = eligible-by true h ∙ ap (λ (t : Bool). t && (windowed shown.point.method (day_window book shown.e d) && clear shown.point.method shown.c (reference shown.c shown.e d 0))) (ap complete (day-standing s d) ∙ k)
+
+  -- none is: then it is the window that tells
+  eligible-window : alike calendar shown d ≡ true → complete (standing readings shown.c shown.e d) ≡ true
+      → eligible book shown.e d ≡ (windowed shown.point.method (window_in readings (reference shown.c shown.e d 0)) && clear shown.point.method shown.c (reference shown.c shown.e d 0))
+  eligible-window h k =
+      eligible-by true h
+      ∙ ap₂ (λ (t : Bool) (l : List Reading). t && (windowed shown.point.method l && clear shown.point.method shown.c (reference shown.c shown.e d 0))) (ap complete (day-standing s d) ∙ k) (day-window s d)
+
+  pub refers : alike calendar shown d ≡ true → (sum : ℕ) (good : Bool) → complete (standing readings shown.c shown.e d) ≡ true → Summed (standing readings shown.c shown.e d) shown.e.count sum
+      → good ≡ (windowed shown.point.method (window_in readings (reference shown.c shown.e d 0)) && clear shown.point.method shown.c (reference shown.c shown.e d 0))
+      → (good ≡ false → Refers book shown.e d None) × (good ≡ true → Refers book shown.e d (Some sum))
   unfolding day_sum
-  refers h t good k g =
-      let run = sym (day-standing s d) in
-      let win = g ∙ ap (λ (l : List Reading). windowed shown.point.method l && clear shown.point.method shown.c (reference shown.c shown.e d 0)) (sym (day-window s d)) in
-      record {
-        whole = ap₂ ◌&&◌ (k.whole ∙ ap complete run) win ∙ sym (eligible-by true h);
-        sum = λ z. rw (← run) (k.sum (both t.whole good z).0);
-      }
+  refers h sum good k t g =
+      let is = eligible-window h k ∙ sym g in (
+        λ b. is ∙ b,
+        λ b. (is ∙ b, rw (day-standing s d) (t.over k)),
+      )

@@ -1,5 +1,5 @@
 -- The days that are taken, as the keys tell them.
-use Rattle.std.specs.Prelude.{◌≡◌, true, List, ℕ, ◌<◌, length}
+use Rattle.std.specs.Prelude.{◌≡◌, true, List, ℕ, ◌<◌}
 use Rattle.integers.specs.All.{All}
 use Rattle.book.specs.declared.Engagement.{Engagement}
 use Rattle.book.specs.Book.{Book}
@@ -12,8 +12,7 @@ pub record Serves (book : Book) (e : Engagement) (d : ℕ) : Type 0 where
   pub small : d < 64
   pub good : eligible book e d ≡ true
 
--- the first x keys tell the X days that are taken
-pub record Took (book : Book) (e : Engagement) (keys : List ℕ) (x : ℕ) : Type 0 where
-  pub days : days_in keys x ≡ taken book e
+-- the keys tell the X days that are taken
+pub record Took (book : Book) (e : Engagement) (keys : List ℕ) : Type 0 where
+  pub days : days_in keys ≡ taken book e
   pub each : All (Serves book e) (taken book e)
-  pub count : length (taken book e) ≡ x

@@ -1,6 +1,6 @@
 -- A tally grows by one reading.
-use Rattle.std.specs.Prelude.{◌≡◌, refl, Bool, true, false, not, ◌&&◌, List, [], ◌∷◌, ◌++◌, map, ℕ, suc, ◌+◌, ◌*◌, ◌<◌, eqb, ℤ, pos, negsuc, ◌+ℤ◌}
-use Rattle.std.proofs.Common.{sym, ap, ap₂, ◌∙◌, arith, eqb-true, eq-eqb, ne_eqb}
+use Rattle.std.specs.Prelude.{◌≡◌, refl, Bool, true, false, Option, Some, None, is_some, unwrap_or, not, ◌&&◌, List, [], ◌∷◌, ◌++◌, map, ℕ, suc, ◌+◌, ◌*◌, ◌<◌, eqb, ℤ, pos, negsuc, ◌+ℤ◌}
+use Rattle.std.proofs.Common.{sym, ap, ◌∙◌, arith, eqb-true, eq-eqb, ne_eqb}
 use Rattle.std.proofs.Math.Bool.{and-true}
 use Rattle.std.proofs.lemmas.List.{map-append}
 use Rattle.std.proofs.Math.IntN.{+ℤ_idr}
@@ -9,14 +9,11 @@ use Rattle.integers.specs.Ranges.{range}
 use Rattle.integers.proofs.TestsLaws.{both}
 use Rattle.integers.specs.Sums.{sum_z, sum_by, integers}
 use Rattle.integers.proofs.ZLaws.{Over, Within, over_add}
-use Rattle.wire.specs.Readings.{reading_at, reading_of, missing_if}
+use Rattle.wire.specs.Readings.{Reading, reading_at, reading_of, missing_if}
 use Rattle.wire.specs.ReadingsLaws.{raised-over}
-use Rattle.wire.specs.declared.Reading.{Reading}
-use Rattle.wire.specs.declared.Reading.TheVariants.{Watts}
 use Rattle.volumes.specs.Baseline.{watts, known, complete}
 use Rattle.volumes.proofs.BaselineLaws.{complete-append}
-use Rattle.baseline.specs.TallyInner.{in_run, Tallied}
-use Rattle.baseline.specs.declared.tally.Tally.{Tally}
+use Rattle.baseline.specs.TallyInner.{in_run, Summed, Tallied}
 use Rattle.integers.proofs.RangesLaws.{range-more}
 use Rattle.integers.proofs.SumsLaws.{sum-append}
 use Rattle.wire.specs.ReadingsInner.{raised, raise}
@@ -33,7 +30,7 @@ pub record There (reading : Reading) (r : ℕ) : Type 0 where
   pub is : not (eqb r 0) ≡ known reading
   pub sum : known reading ≡ true → Over raise (watts reading) r
 
-negative : (w r : ℕ) (b : Bool) → eqb (suc w) 2147483648 ≡ b → r + suc w ≡ 2147483648 → There (missing_if b (Watts (negsuc w))) r
+negative : (w r : ℕ) (b : Bool) → eqb (suc w) 2147483648 ≡ b → r + suc w ≡ 2147483648 → There (missing_if b (Some (negsuc w))) r
 unfolding watts known
 negative w r true e o = record { is = ap not (eq-eqb r 0 (omega (arith, eqb-true (suc w) 2147483648 e))); sum = λ z. let q : ◌≡◌ {A = ℕ} 0 1 = cc in absurd (omega arith) }
 negative w r false e o = record { is = ap not (ne_eqb r 0 (λ q. eqb-false (suc w) 2147483648 e (omega arith))); sum = λ z. record { law = omega arith } }
@@ -48,24 +45,31 @@ unfolding sum_by
 sum_more l r = sum-append integers watts l (r ∷ []) ∙ ap (λ (z : ℤ). sum_z watts l +ℤ z) (+ℤ_idr (watts r))
 
 -- one reading more
-pub tally-more : (l : List Reading) (n : ℕ) (t : Tally) (reading : Reading) (r : ℕ) → Tallied l n t → There reading r → r < 4294967296
-    → Tallied (l ++ (reading ∷ [])) (n + 1) (record { whole = t.whole && not (eqb r 0); sum = t.sum + r })
-tally-more l n t reading r h k small =
+pub sum-more : (l : List Reading) (n sum : ℕ) (reading : Reading) (r : ℕ) → Summed l n sum → There reading r → r < 4294967296 → Summed (l ++ (reading ∷ [])) (n + 1) (sum + r)
+sum-more l n sum reading r h k small =
     record {
-      whole = ap₂ ◌&&◌ h.whole k.is ∙ sym (complete-more l reading);
-      sum = λ e. let parts = both t.whole (not (eqb r 0)) e in rw (sum_more l reading) (over_add (raise * (n + 1)) (h.sum parts.0) (k.sum (sym k.is ∙ parts.1)) (omega arith));
+      over = λ e. let parts = both (complete l) (known reading) (sym (complete-more l reading) ∙ e) in rw (sum_more l reading) (over_add (raise * (n + 1)) (h.over parts.0) (k.sum parts.1) (omega arith));
       small = omega (arith, h.small);
     }
 
-pub tally-none : Tallied [] 0 (record { whole = true; sum = 0 })
+pub sum-none : Summed [] 0 0
 unfolding complete sum_by
-tally-none = record { whole = refl; sum = λ e. record { law = omega arith }; small = omega arith }
+sum-none = record { over = λ e. record { law = omega arith }; small = omega arith }
 
 -- two lists, one after the other
-pub tally-append : (l m : List Reading) (n k : ℕ) (t u : Tally) → Tallied l n t → Tallied m k u → Tallied (l ++ m) (n + k) (record { whole = t.whole && u.whole; sum = t.sum + u.sum })
-tally-append l m n k t u h g =
+pub sum-both : (l m : List Reading) (n k t u : ℕ) → Summed l n t → Summed m k u → Summed (l ++ m) (n + k) (t + u)
+sum-both l m n k t u h g =
     record {
-      whole = ap₂ ◌&&◌ h.whole g.whole ∙ sym (complete-append l m);
-      sum = λ e. let parts = both t.whole u.whole e in rw (sum-append integers watts l m) (over_add (raise * (n + k)) (h.sum parts.0) (g.sum parts.1) (omega arith));
+      over = λ e. let parts = both (complete l) (complete m) (sym (complete-append l m) ∙ e) in rw (sum-append integers watts l m) (over_add (raise * (n + k)) (h.over parts.0) (g.over parts.1) (omega arith));
       small = omega (arith, h.small, g.small);
     }
+
+-- a tally tells whether its readings are there
+pub is_whole : (l : List Reading) (n : ℕ) (t : Option ℕ) → Tallied l n t → is_some t ≡ complete l
+is_whole l n (Some sum) h = sym h.0
+is_whole l n None h = sym h
+
+-- and its sum, where they are
+pub sum-of : (l : List Reading) (n : ℕ) (t : Option ℕ) → Tallied l n t → Summed l n (unwrap_or t 0)
+sum-of l n (Some sum) h = h.1
+sum-of l n None h = record { over = λ e. let z : ◌≡◌ {A = ℕ} 0 1 = cc in absurd (omega arith); small = omega arith }

@@ -1,34 +1,35 @@
 // Reference days: which are eligible, and their sums over the engagement's quarter-hours.
 ghost use Rattle.std.specs.Prelude.{◌≡◌, false, not, ◌&&◌, ◌+◌, ◌*◌, ◌≤◌, ◌<◌, length};
-ghost use Rattle.quarters.specs.Quarters.{days_of, is_clock_change, quarters_of, in_calendar, origin_of};
+ghost use Rattle.quarters.specs.Quarters.{days_of, is_clock_change, in_calendar};
 ghost use Rattle.book.specs.Book.{Book};
-ghost use Rattle.baseline.specs.TallyInner.{Tallied};
-ghost use Rattle.baseline.specs.ShownInner.{Shows, Fits, Refers, window_in};
-ghost use Rattle.baseline.specs.RunsInner.{standing, turn, together, StandsOn};
-ghost use Rattle.volumes.specs.Quarters.{reference_quarter, reference, touches};
+ghost use Rattle.baseline.specs.TallyInner.{Tallied, AtMost};
+ghost use Rattle.baseline.specs.ShownInner.{alike, Refers, window_in};
+ghost use Rattle.baseline.specs.CaseInner.{CaseOf};
+ghost use Rattle.baseline.specs.RunsInner.{standing, turn, together};
+ghost use Rattle.volumes.specs.Quarters.{start, reference_quarter, reference, touches};
 ghost use Rattle.volumes.specs.Baseline.{windowed, clear};
-ghost use Rattle.quarters.specs.QuartersInner.{usual_day, longest_calendar, farthest_origin, longest_day};
+ghost use Rattle.quarters.specs.QuartersInner.{usual_day, longest_day};
 
+use crate::case::Case;
 use crate::shown::Shown;
-use crate::tally::Tally;
-use book::{Engagement, Method};
+use crate::tally::tally_run;
+use book::Method;
 use quarters::Calendar;
 
 // The 12 readings from 24 before quarter-hour q; those before the calendar are missing.
-pub fn window(readings: &[u8], origin: usize, q: usize) -> Tally
-    requires { (origin ≤ farthest_origin) × (q ≤ longest_calendar) × (4 * (origin + q) ≤ length readings.now) }
-    ensures { Tallied (window_in readings.now origin q) 12 result }
+#[tactic(auto, using(crate::proofs::CaseLaws::windows))]
+pub fn window(readings: &[u8], q: usize) -> Option<u64>
+    requires { 4 * q ≤ length readings.now }
+    ensures { Tallied (window_in readings.now q) 12 result }
 {
     if q < 24 {
-        return Tally {
-            whole: false,
-            sum: 0,
-        };
+        return None;
     }
-    crate::tally::tally_run(readings, origin + (q - 24), 12)
+    tally_run(readings, q - 24, 12)
 }
 
 // The window from 24 before quarter-hour `place` of a day touches no day on which the clocks change: they don't on the day itself, so only the one before it can be touched.
+#[tactic(auto, using(crate::proofs::CaseLaws::touched_windows), unfolding(volumes::proofs::WindowsLaws::changes_before))]
 fn window_clear(c: Calendar, day: u64, place: usize) -> bool
     requires { (is_clock_change c day ≡ false) × (day < days_of c) × (place ≤ usual_day) }
     ensures { result ≡ not (touches c (in_calendar c day place)) }
@@ -39,132 +40,130 @@ fn window_clear(c: Calendar, day: u64, place: usize) -> bool
     if day == 0 {
         return true;
     }
-    !quarters::is_clock_change(c, day - 1)
-}
-
-// Method 2 looks at the window of the day's quarter-hour `place` too.
-fn window_good(
-    c: Calendar,
-    readings: &[u8],
-    origin: usize,
-    day: u64,
-    place: usize,
-    method: Method,
-) -> bool
-    requires { (is_clock_change c day ≡ false) × (day < days_of c) × (days_of c ≤ 64) × (place ≤ usual_day) × (origin ≤ farthest_origin) × (in_calendar c day place ≤ longest_calendar) × (4 * (origin + in_calendar c day place) ≤ length readings.now) }
-    ensures { result ≡ (windowed method (window_in readings.now origin (in_calendar c day place)) && clear method c (in_calendar c day place)) }
-{
-    match method {
-        Method::LastQuarter => true,
-        Method::HighXOfY => true,
-        Method::Adjusted => {
-            let q = (quarters::day_start(c, day) as usize) + place;
-            window(readings, origin, q).whole & window_clear(c, day, place)
-        }
-    }
-}
-
-// The quarter-hour of a reference day that stands for quarter-hour k of the engagement: on a day of 92 or 100, from the hour of the change on, another than its own number.
-pub fn reference_quarter(c: Calendar, e: Engagement, k: usize) -> usize
-    requires { k ≤ longest_day }
-    ensures { result ≡ reference_quarter c e.day (e.first + k) }
-{
-    let n = quarters::quarters(c, e.day as u64);
-    let q = (e.first as usize) + k;
-    if (n == 92) & (8 <= q) {
-        return q + 4;
-    }
-    if (n == 100) & (12 <= q) {
-        return q - 4;
-    }
-    q
-}
-
-// In the calendar.
-fn reference_at(c: Calendar, e: Engagement, day: u64, k: usize) -> usize
-    requires { (day < 64) × (k ≤ longest_day) }
-    ensures { result ≡ reference c e day k }
-{
-    (quarters::day_start(c, day) as usize) + reference_quarter(c, e, k)
+    !c.is_clock_change(day - 1)
 }
 
 // From which quarter-hour of a day of n on another number is looked at.
 fn turn_of(n: u64) -> usize
     ensures { result ≡ turn n }
 {
-    if n == 92 {
-        return 8;
-    }
-    if n == 100 {
-        return 12;
-    }
-    0
-}
-
-// How many of the engagement's quarter-hours, from its first on, stand in one run on a reference day.
-fn together(c: Calendar, e: Engagement) -> usize
-    ensures { result ≡ together c e }
-{
-    let turn = turn_of(quarters::quarters(c, e.day as u64));
-    let first = e.first as usize;
-    let count = e.count as usize;
-    if (first < turn) & (turn < first + count) {
-        return turn - first;
-    }
-    count
-}
-
-// Tallies what stands on a reference day for the engagement's quarter-hours, of the point whose readings start at `origin`: one run of readings, or two.
-fn tally_standing(c: Calendar, readings: &[u8], e: Engagement, origin: usize, day: u64) -> Tally
-    requires { StandsOn c e day × (e.count ≤ longest_day) × (origin ≤ farthest_origin) × (quarters_of c ≤ longest_calendar) × (4 * (origin + quarters_of c) ≤ length readings.now) }
-    ensures { Tallied (standing readings.now c e origin day) e.count result }
-{
-    let n = together(c, e);
-    let count = e.count as usize;
-    let at = origin + reference_at(c, e, day, 0);
-    let t = crate::tally::tally_run(readings, at, n);
-    if n == count {
-        return t;
-    }
-    let turned = origin + reference_at(c, e, day, n);
-    let u = crate::tally::tally_run(readings, turned, count - n);
-    Tally {
-        whole: t.whole & u.whole,
-        sum: t.sum + u.sum,
+    match n {
+        92 => 8,
+        100 => 12,
+        _ => 0,
     }
 }
 
-// A day before the engagement's, of the point whose readings start at `origin`: whole where it is eligible, and then its sum.
-pub fn reference_day(
-    shown: Shown,
-    calendar: &[u8],
-    readings: &[u8],
-    origin: usize,
-    day: usize,
-) -> Tally
-    requires { Fits shown calendar.now readings.now × (origin ≡ origin_of shown.c shown.e.point) × (day < shown.e.day) }
-    ensures { (result.sum ≤ 4294967295 * shown.e.count) × ((b : Book) → Shows shown calendar.now readings.now b → Refers b shown.e day result) }
-{
-    let c = shown.c;
-    let e = shown.e;
-    let point = shown.point;
-    let own = e.day as usize;
-    let closed = shown.closed;
-    let method = point.method;
-    let alike = (calendar[day] == calendar[own])
-        & (!book::register::excludes(closed, day as u32)
-            & !quarters::is_clock_change(c, day as u64));
-    if !alike {
-        return Tally {
-            whole: false,
-            sum: 0,
-        };
+impl Shown {
+    // The quarter-hour of a reference day that stands for quarter-hour k of the engagement: on a day of 92 or 100, from the hour of the change on, another than its own number.
+    #[tactic(auto, unfolding(volumes::specs::Quarters::reference_quarter, volumes::specs::Quarters::looks_at))]
+    pub fn reference_quarter(&self, k: usize) -> usize
+        requires { k ≤ longest_day }
+        ensures is { result ≡ reference_quarter self.now.c self.now.e.day (self.now.e.first + k) }
+        ensures few { result < 360 }
+    {
+        let q = (self.e.first as usize) + k;
+        match self.c.quarters(self.e.day as u64) {
+            92 if 8 <= q => q + 4,
+            100 if 12 <= q => q - 4,
+            _ => q,
+        }
     }
-    let t = tally_standing(c, readings, e, origin, day as u64);
-    let place = reference_quarter(c, e, 0);
-    let good = window_good(c, readings, origin, day as u64, place, method);
-    Tally {
-        whole: t.whole & good,
-        sum: t.sum,
+
+    // In the calendar.
+    #[tactic(auto, using(quarters::proofs::QuartersLaws::few_quarters), unfolding(volumes::specs::Quarters::reference))]
+    fn reference_at(&self, day: u64, k: usize) -> usize
+        requires { (day < 64) × (k ≤ longest_day) }
+        ensures { result ≡ reference self.now.c self.now.e day k }
+    {
+        (self.c.day_start(day) as usize) + self.reference_quarter(k)
+    }
+
+    // How many of the engagement's quarter-hours, from its first on, stand in one run on a reference day.
+    #[tactic(auto, unfolding(crate::specs::RunsInner::together))]
+    fn together(&self) -> usize
+        ensures { result ≡ together self.now.c self.now.e }
+    {
+        let turn = turn_of(self.c.quarters(self.e.day as u64));
+        let first = self.e.first as usize;
+        let count = self.e.count as usize;
+        if (first < turn) & (turn < first + count) {
+            return turn - first;
+        }
+        count
+    }
+}
+
+// A day before the engagement's is a number with that bound: the scan has it from a range, and a type for it would hold the case once more (d).
+impl<'a> Case<'a> {
+    // The quarter-hour of the calendar with which the engagement begins.
+    #[tactic(auto, using(crate::proofs::CaseLaws::placed), unfolding(volumes::specs::Quarters::start))]
+    pub fn start(&self) -> usize
+        ensures { result ≡ start self.now.shown.c self.now.shown.e }
+    {
+        let e = self.shown.e;
+        self.shown.c.in_calendar(e.day, e.first)
+    }
+
+    // Method 2 looks at the window of what stands for the engagement's first quarter-hour on a reference day too.
+    #[tactic(auto, using(crate::proofs::CaseLaws::placed, crate::proofs::CaseLaws::wholes), unfolding(volumes::specs::Baseline::windowed, volumes::specs::Baseline::clear, volumes::specs::Quarters::reference))]
+    fn window_good(&self, day: u64) -> bool
+        requires { (is_clock_change self.now.shown.c day ≡ false) × (day < self.now.shown.e.day) }
+        ensures { result ≡ (windowed self.now.shown.point.method (window_in self.now.readings.now (reference self.now.shown.c self.now.shown.e day 0)) && clear self.now.shown.point.method self.now.shown.c (reference self.now.shown.c self.now.shown.e day 0)) }
+    {
+        match self.shown.point.method {
+            Method::LastQuarter | Method::HighXOfY => true,
+            Method::Adjusted => {
+                let place = self.shown.reference_quarter(0);
+                let q = self.shown.reference_at(day, 0);
+                window(self.readings, q).is_some() & window_clear(self.shown.c, day, place)
+            }
+        }
+    }
+
+    // The sum of what stands on a reference day for the engagement's quarter-hours: one run of readings, or two.
+    #[tactic(auto, using(crate::proofs::CaseLaws::placed, crate::proofs::CaseLaws::two_rooms))]
+    fn standing_sum(&self, day: u64) -> Option<u64>
+        requires { day < self.now.shown.e.day }
+        ensures { Tallied (standing self.now.readings.now self.now.shown.c self.now.shown.e day) self.now.shown.e.count result }
+    {
+        let n = self.shown.together();
+        let count = self.shown.e.count as usize;
+        let first = tally_run(self.readings, self.shown.reference_at(day, 0), n)?;
+        if n == count {
+            return Some(first);
+        }
+        let turned = self.shown.reference_at(day, n);
+        let second = tally_run(self.readings, turned, count - n)?;
+        Some(first + second)
+    }
+
+    // The day's category is A's, the day isn't closed, and the clocks don't change on it.
+    #[tactic(auto, using(crate::proofs::CaseLaws::placed))]
+    fn alike(&self, day: usize) -> bool
+        requires { day < self.now.shown.e.day }
+        ensures { result ≡ alike self.now.calendar.now self.now.shown day }
+    {
+        let own = self.shown.e.day as usize;
+        (self.calendar[day] == self.calendar[own])
+            & (!book::register::excludes(self.shown.closed, day as u32)
+                & !self.shown.c.is_clock_change(day as u64))
+    }
+
+    // The sum of a day before the engagement's, where it is eligible.
+    #[tactic(auto, using(crate::proofs::CaseLaws::usual_days))]
+    pub fn reference_day(&self, day: usize) -> Option<u64>
+        requires { day < self.now.shown.e.day }
+        ensures small { AtMost (4294967295 * self.now.shown.e.count) result }
+        ensures refers { (b : Book) → CaseOf self.now b → Refers b self.now.shown.e day result }
+    {
+        if !self.alike(day) {
+            return None;
+        }
+        let sum = self.standing_sum(day as u64)?;
+        if !self.window_good(day as u64) {
+            return None;
+        }
+        Some(sum)
     }
 }

@@ -1,13 +1,17 @@
 // Levels: raised baselines, in grains. A raised reading has one raise more than the reading; a level has three more than the baseline, so that no
 // addend makes it less than 0.
-ghost use Rattle.std.specs.Prelude.{◌≡◌, ◌+◌, ◌*◌, ◌≤◌, length, take};
+ghost use Rattle.std.specs.Prelude.{◌≡◌, ◌+◌, ◌*◌, ◌≤◌, length};
 ghost use Rattle.grains.specs.Grains.{grains};
 ghost use Rattle.baseline.specs.ShownInner.{before_in, window_in};
 ghost use Rattle.baseline.specs.RunsInner.{start_runs, Lie};
 ghost use Rattle.baseline.specs.LevelsInner.{Means, Adds, Lasts};
-ghost use Rattle.quarters.specs.QuartersInner.{longest_calendar, farthest_origin};
+ghost use Rattle.baseline.specs.FillsInner.{Adding, Added};
+ghost use Rattle.volumes.specs.Quarters.{start};
 ghost use Rattle.wire.specs.ReadingsInner.{raise};
 
+use crate::case::Case;
+use crate::taken::Taken;
+use book::Method;
 use grains::Grains;
 
 // Two raises.
@@ -17,38 +21,46 @@ pub fn lift() -> u64
     2 * Grains::from_watts(wire::RAISE).count
 }
 
-// The level of method 0: the reading n quarter-hours before quarter-hour q.
-pub fn last_level(readings: &[u8], origin: usize, q: usize, n: usize) -> u64
-    requires { (origin ≤ farthest_origin) × (q ≤ longest_calendar) × (1 ≤ n) × (n ≤ q) × (4 * (origin + q) ≤ length readings.now) }
-    ensures { Lasts (before_in readings.now origin q n) result }
-{
-    Grains::from_watts(wire::raised_at(readings, origin + (q - n))).count + lift()
+impl<'a> Case<'a> {
+    // The level of method 0: the last reading known when the notice is given, `notice` + 1 quarter-hours before the engagement.
+    #[tactic(auto, using(crate::proofs::CaseLaws::placed))]
+    pub fn last_level(&self) -> u64
+        requires { self.now.shown.e.notice + 1 ≤ start self.now.shown.c self.now.shown.e }
+        ensures { Lasts (before_in self.now.readings.now (start self.now.shown.c self.now.shown.e) (self.now.shown.e.notice + 1)) result }
+    {
+        let n = self.shown.e.notice as usize + 1;
+        Grains::from_watts(wire::raised_at(self.readings, self.start() - n)).count + lift()
+    }
 }
 
-// The mean of quarter-hour `place` of the first x days.
-pub fn mean_level(readings: &[u8], starts: &[u64], x: usize, origin: usize, place: usize) -> u64
-    requires { Lie readings.now starts.now origin place 0 1 x × (1 ≤ x) }
-    ensures { Means (start_runs readings.now origin place 0 1 (take x starts.now)) x result }
-{
-    let t = crate::means::tally_days(readings, starts, x, origin, place, 0, 1);
-    Grains::mean(t.sum, x as u64).count
-}
+impl<'a> Taken<'a> {
+    // The mean of the days' quarter-hour `place`.
+    pub fn mean(&self, place: usize) -> u64
+        requires { Lie self.now.readings.now self.now.starts.now place 0 1 }
+        ensures { Means (start_runs self.now.readings.now place 0 1 self.now.starts.now) (length self.now.starts.now) result }
+    {
+        Grains::mean(self.sum(place, 0, 1), self.starts.len() as u64).count
+    }
 
-// The addend of method 2 and two raises: the mean of A's window less that of the days' windows, which are from 24 before their quarter-hour `place`.
-pub fn addend_level(
-    readings: &[u8],
-    starts: &[u64],
-    x: usize,
-    origin: usize,
-    place: usize,
-    q: usize,
-) -> u64
-    requires { Lie readings.now starts.now origin place 24 12 x × (1 ≤ x) × (q ≤ longest_calendar) × (4 * (origin + q) ≤ length readings.now) }
-    ensures { Adds (window_in readings.now origin q) (start_runs readings.now origin place 24 12 (take x starts.now)) x result }
-{
-    let own = crate::days::window(readings, origin, q);
-    let days = crate::means::tally_days(readings, starts, x, origin, place, 24, 12);
-    let mean = Grains::mean(own.sum, 12).count;
-    let less = Grains::mean(days.sum, 12 * (x as u64)).count;
-    mean + lift() - less
+    // The addend of method 2 and two raises: the mean of the window before quarter-hour q less that of the days' windows, which are from 24 before their quarter-hour `place`.
+    fn window_addend(&self, place: usize, q: usize) -> u64
+        requires { Lie self.now.readings.now self.now.starts.now place 24 12 × (4 * q ≤ length self.now.readings.now) }
+        ensures { Adds (window_in self.now.readings.now q) (start_runs self.now.readings.now place 24 12 self.now.starts.now) (length self.now.starts.now) result }
+    {
+        let own = crate::days::window(self.readings, q).unwrap_or(0);
+        let mean = Grains::mean(own, 12).count;
+        let less = Grains::mean(self.sum(place, 24, 12), 12 * (self.starts.len() as u64)).count;
+        mean + lift() - less
+    }
+
+    // What methods 1 and 2 add to a mean, and two raises.
+    pub fn addend(&self, method: Method, place: usize, q: usize) -> u64
+        requires { Adding method self.now.readings.now self.now.starts.now place × (4 * q ≤ length self.now.readings.now) }
+        ensures { Added method (window_in self.now.readings.now q) (start_runs self.now.readings.now place 24 12 self.now.starts.now) (length self.now.starts.now) result }
+    {
+        match method {
+            Method::LastQuarter | Method::HighXOfY => lift(),
+            Method::Adjusted => self.window_addend(place, q),
+        }
+    }
 }

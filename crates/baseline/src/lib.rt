@@ -1,11 +1,12 @@
 // Baselines: reference days, their ranking, and what each method makes of them.
 #![tactic(auto)]
 
+pub mod case;
 mod days;
 pub mod fill;
 pub mod judge;
 mod levels;
-mod means;
 mod ranking;
 pub mod shown;
+mod taken;
 mod tally;

@@ -1,7 +1,7 @@
 -- The book as settling sees it, without its bytes.
 use Rattle.std.specs.Prelude.{List, map, ℕ}
 use Rattle.integers.specs.Ranges.{range}
-use Rattle.wire.specs.declared.Reading.{Reading}
+use Rattle.wire.specs.Readings.{Reading}
 use Rattle.quarters.specs.declared.Calendar.{Calendar}
 use Rattle.book.specs.Header.{version_of, calendar_of, point_count, engagement_count, calendar_section, table_section, register_section, reading_section, engagement_section}
 use Rattle.book.specs.Tables.{category_at, x_at, y_at}

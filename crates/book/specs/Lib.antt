@@ -1,10 +1,9 @@
 pub mod Header
 pub mod HeaderLaws
+pub mod SectionsInner
 pub mod Tables
 pub mod Register
-pub mod RegisterLaws
 pub mod Metering
 pub mod Engagements
-pub mod EngagementsLaws
 pub mod Book
 pub mod Judged

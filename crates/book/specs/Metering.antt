@@ -1,11 +1,9 @@
 -- Document 01, "The book", section 4: the readings.
-use Rattle.std.specs.Prelude.{Bool, true, not, ◌&&◌, List, ℕ, ◌+◌, ◌*◌, ◌/◌, ◌^◌, pos, neg_ℤ}
+use Rattle.std.specs.Prelude.{Bool, true, not, ◌&&◌, List, ℕ, ◌+◌, ◌*◌, ◌/◌, ◌^◌, pos, neg_ℤ, Some, None}
 use Rattle.std.proofs.Math.Option.{Option, none, some}
 use Rattle.std.specs.Int.Signed.{le_z}
 use Rattle.integers.specs.First.{first}
-use Rattle.wire.specs.Readings.{reading_at}
-use Rattle.wire.specs.declared.Reading.{Reading}
-use Rattle.wire.specs.declared.Reading.TheVariants.{Watts, Missing}
+use Rattle.wire.specs.Readings.{Reading, reading_at}
 use Rattle.quarters.specs.declared.Calendar.{Calendar}
 use Rattle.quarters.specs.Quarters.{quarters_of, origin_of}
 
@@ -15,8 +13,8 @@ meter_at c readings p k = reading_at readings (origin_of c p + k)
 
 -- "each from -10^9 to 10^9, off-take positive, or -2^31 for missing, which any may be"
 unfoldable pub reading_good : Reading → Bool
-reading_good (Watts w) = le_z (neg_ℤ (pos (10 ^ 9))) w && le_z w (pos (10 ^ 9))
-reading_good Missing = true
+reading_good (Some w) = le_z (neg_ℤ (pos (10 ^ 9))) w && le_z w (pos (10 ^ 9))
+reading_good None = true
 
 abbrev pub bad_reading : List ℕ → ℕ → Bool
 bad_reading readings i = not (reading_good (reading_at readings i))

@@ -1,30 +1,30 @@
 // Section 5: the engagements.
 ghost use Rattle.std.specs.Prelude.{◌≡◌, ◌+◌, ◌*◌, ◌≤◌, length};
-ghost use Rattle.integers.specs.First.{first};
 ghost use Rattle.book.specs.Engagements.{direction_of, engagement_of, engagement_at};
 
+use crate::sections::row_at;
 use crate::{Direction, Engagement};
 
-fn direction_of(byte: u8) -> Direction
-    ensures { result ≡ direction_of byte }
-{
-    match byte {
-        0 => Direction::Up,
-        _ => Direction::Down,
+impl From<u8> for Direction {
+    ghost from_gives = { λ byte direction. direction ≡ direction_of byte };
+
+    fn from(byte: u8) -> Direction {
+        match byte {
+            0 => Direction::Up,
+            _ => Direction::Down,
+        }
     }
 }
 
-fn engagement_of(row: &[u8]) -> Engagement
-    requires { 16 ≤ length row.now }
+fn engagement_of(row: &[u8; 16]) -> Engagement
     ensures { result ≡ engagement_of row.now }
 {
-    let direction = direction_of(wire::u8_at(row, 5));
     Engagement {
         point: wire::u16_at(row, 0),
         day: wire::u8_at(row, 2),
         first: wire::u8_at(row, 3),
         count: wire::u8_at(row, 4),
-        direction,
+        direction: Direction::from(wire::u8_at(row, 5)),
         notice: wire::u8_at(row, 6),
         requested: wire::u32_at(row, 8),
     }
@@ -35,7 +35,5 @@ pub fn engagement_at(engagements: &[u8], i: usize) -> Engagement
     requires { 16 * i + 16 ≤ length engagements.now }
     ensures { result ≡ engagement_at engagements.now i }
 {
-    let a = 16 * i;
-    let e = a + 16;
-    engagement_of(&engagements[a..e])
+    engagement_of(row_at(engagements, i))
 }

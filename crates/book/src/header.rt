@@ -2,22 +2,25 @@
 ghost use Rattle.std.specs.Prelude.{◌≡◌, true, ◌≤◌, length};
 ghost use Rattle.book.specs.Header.{version_of, splits, calendar_of, point_count, engagement_count, header_good};
 
-use quarters::Calendar;
+use calendar::dates::Month;
+use quarters::{Calendar, RangedCalendar};
 
-pub fn calendar_of(book: &[u8]) -> Calendar
+#[tactic(auto, using(crate::specs::HeaderLaws::headed))]
+pub fn calendar_of(book: &[u8]) -> RangedCalendar
     requires { header_good book.now ≡ true }
-    ensures { result ≡ calendar_of book.now }
+    ensures { result.calendar ≡ calendar_of book.now }
 {
     let year = wire::u16_at(book, 2) as u64;
     let month = wire::u8_at(book, 4) as u64;
     let lead = wire::u8_at(book, 5) as u64;
-    let clock = calendar::dates::clock_of(year, month, lead);
-    Calendar {
+    let clock = Month { year, month }.clock(lead);
+    let calendar = Calendar {
         year,
         month,
         lead,
         clock,
-    }
+    };
+    RangedCalendar { calendar }
 }
 
 pub fn version_of(book: &[u8]) -> u16

@@ -8,7 +8,7 @@ pub mod sections;
 pub mod tables;
 
 // Why an activation does or doesn't pass through the supplier.
-#[derive(Clone, Copy)]
+#[derive(Clone, Copy, Debug, PartialEq, Eq)]
 pub enum Situation {
     Transfer,
     PassThrough,
@@ -17,7 +17,7 @@ pub enum Situation {
 }
 
 // The file kinds that take a delivery point: 01 and 02, 03, none; or no situation at all.
-#[derive(Clone, Copy)]
+#[derive(Clone, Copy, Debug, PartialEq, Eq)]
 pub enum Takers {
     Aggregated,
     Individual,
@@ -25,28 +25,38 @@ pub enum Takers {
     Refused,
 }
 
-#[derive(Clone, Copy)]
+#[derive(Clone, Copy, Debug, PartialEq, Eq)]
 pub enum Supply {
     OffTake,
     Injection,
 }
 
 // How a delivery point's baseline is made.
-#[derive(Clone, Copy)]
+#[derive(Clone, Copy, Debug, PartialEq, Eq)]
 pub enum Method {
     LastQuarter,
     HighXOfY,
     Adjusted,
 }
 
-#[derive(Clone, Copy)]
+#[derive(Clone, Copy, Debug, PartialEq, Eq)]
 pub enum Direction {
     Up,
     Down,
 }
 
+// The sections of a book, in the order of their extents.
+#[derive(Clone, Copy, Debug, PartialEq, Eq)]
+pub enum Section {
+    Calendar,
+    Table,
+    Register,
+    Readings,
+    Engagements,
+}
+
 // A delivery point, a row of the register.
-#[derive(Clone, Copy)]
+#[derive(Clone, Copy, Debug, PartialEq, Eq)]
 pub struct Point {
     pub delivery: u64,
     pub access: u64,
@@ -69,7 +79,7 @@ pub struct Point {
 }
 
 // An activation of a delivery point: `count` quarter-hours from `first` on.
-#[derive(Clone, Copy)]
+#[derive(Clone, Copy, Debug, PartialEq, Eq)]
 pub struct Engagement {
     pub point: u16,
     pub day: u8,

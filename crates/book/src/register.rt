@@ -2,6 +2,7 @@
 ghost use Rattle.std.specs.Prelude.{◌≡◌, ◌+◌, ◌*◌, ◌≤◌, ◌<◌, length};
 ghost use Rattle.book.specs.Register.{situation_of, supply_of, method_of, takers_of, point_of, point_at, excludes};
 
+use crate::sections::row_at;
 use crate::{Method, Point, Situation, Supply, Takers};
 
 // The situation's byte decides which file kinds take the point.
@@ -17,46 +18,47 @@ pub fn takers_of(situation: u8) -> Takers
     }
 }
 
-fn situation_of(byte: u8) -> Situation
-    ensures { result ≡ situation_of byte }
-{
-    match byte {
-        0 => Situation::Transfer,
-        1 => Situation::PassThrough,
-        2 => Situation::OptOut,
-        _ => Situation::NetInjector,
+impl From<u8> for Situation {
+    ghost from_gives = { λ byte situation. situation ≡ situation_of byte };
+
+    fn from(byte: u8) -> Situation {
+        match byte {
+            0 => Situation::Transfer,
+            1 => Situation::PassThrough,
+            2 => Situation::OptOut,
+            _ => Situation::NetInjector,
+        }
     }
 }
 
-fn supply_of(byte: u8) -> Supply
-    ensures { result ≡ supply_of byte }
-{
-    match byte {
-        0 => Supply::OffTake,
-        _ => Supply::Injection,
+impl From<u8> for Supply {
+    ghost from_gives = { λ byte supply. supply ≡ supply_of byte };
+
+    fn from(byte: u8) -> Supply {
+        match byte {
+            0 => Supply::OffTake,
+            _ => Supply::Injection,
+        }
     }
 }
 
-fn method_of(byte: u8) -> Method
-    ensures { result ≡ method_of byte }
-{
-    match byte {
-        0 => Method::LastQuarter,
-        1 => Method::HighXOfY,
-        _ => Method::Adjusted,
+impl From<u8> for Method {
+    ghost from_gives = { λ byte method. method ≡ method_of byte };
+
+    fn from(byte: u8) -> Method {
+        match byte {
+            0 => Method::LastQuarter,
+            1 => Method::HighXOfY,
+            _ => Method::Adjusted,
+        }
     }
 }
 
 // The delivery point that a row describes.
-fn point_of(row: &[u8]) -> Point
-    requires { 64 ≤ length row.now }
+fn point_of(row: &[u8; 64]) -> Point
     ensures { result ≡ point_of row.now }
 {
-    let byte = wire::u8_at(row, 52);
-    let situation = situation_of(byte);
-    let takers = takers_of(byte);
-    let supply = supply_of(wire::u8_at(row, 53));
-    let method = method_of(wire::u8_at(row, 54));
+    let situation = wire::u8_at(row, 52);
     Point {
         delivery: wire::u64_at(row, 0),
         access: wire::u64_at(row, 8),
@@ -68,10 +70,10 @@ fn point_of(row: &[u8]) -> Point
         sourceparty: wire::u16_at(row, 48),
         fspparty: wire::u16_at(row, 50),
         injectionparty: wire::u16_at(row, 56),
-        situation,
-        takers,
-        supply,
-        method,
+        situation: Situation::from(situation),
+        takers: takers_of(situation),
+        supply: Supply::from(wire::u8_at(row, 53)),
+        method: Method::from(wire::u8_at(row, 54)),
     }
 }
 
@@ -80,9 +82,7 @@ pub fn point_at(register: &[u8], i: usize) -> Point
     requires { 64 * i + 64 ≤ length register.now }
     ensures { result ≡ point_at register.now i }
 {
-    let a = 64 * i;
-    let e = a + 64;
-    point_of(&register[a..e])
+    point_of(row_at(register, i))
 }
 
 // Whether the mask excludes a day: bit `day`, counted from the lowest.

@@ -9,6 +9,7 @@ pub fn category(calendar: &[u8], day: usize) -> u8
     calendar[day]
 }
 
+// X and Y are columns with names of their own: one function of both would take 0 for X and 1 for Y.
 pub fn x_of(table: &[u8], category: usize) -> u8
     requires { 2 * category + 2 ≤ length table.now }
     ensures { result ≡ x_at table.now category }

@@ -1,7 +1,7 @@
 -- Laws of dates: the closed forms that the code computes are the definitions, and the definitions mean what they say.
 use Rattle.std.specs.Prelude.{◌≡◌, refl, Bool, true, false, cond, not, ◌&&◌, ◌||◌, ℕ, zero, suc, pred, ◌+◌, ◌-◌, ◌*◌, ◌/◌, ◌%◌, ◌≤◌, ◌<◌, T, eqb, leb, ltb, get_or}
-use Rattle.std.proofs.Common.{sym, ap, ◌∙◌, arith, add-zero, add-suc, le_refl, div-add-mod', mod-lt, suc-mul, add-one, sub-one, lit<, lit≤, eqb→eq, ltb-true, ltb-false, leb-true, leb-false, eqb-true, eq-eqb, ne_eqb, lt-ltb, le-ltb, le-leb}
-use Rattle.std.proofs.Math.Bool.{and-true, and-false}
+use Rattle.std.proofs.Common.{sym, ap, ◌∙◌, arith, add-zero, add-suc, le_refl, div-add-mod', mod-lt, suc-mul, add-one, sub-one, lit<, lit≤, eqb→eq, ltb-true, ltb-false, leb-true, leb-false, eqb-true, ne_eqb, lt-ltb, le-ltb, le-leb}
+use Rattle.std.proofs.Math.Bool.{and-false}
 use Rattle.std.proofs.Math.Arith.{digits_div}
 use Rattle.std.proofs.Math.Dec.{eqb-suc-zero}
 use Rattle.std.proofs.lemmas.Bool.{eqb-false, lt-leb}
@@ -11,15 +11,6 @@ use Rattle.integers.proofs.RunningLaws.{up_to-cong}
 use Rattle.integers.proofs.TestsLaws.{all_below, all-below}
 use Rattle.calendar.specs.Dates.{leap, month_length, MonthLengths, year_length, day_number, weekday, sunday_up_to, last_sunday, march_sunday, october_sunday, offset_hours, lengths, days_before_year, days_before_month, calendar_days, next_year, next_month}
 use Rattle.calendar.specs.DatesInner.{IsMonth}
-
--- the test by 400 decides for a century's year, that by 4 for any other
-pub leap-century : (y : ℕ) → y % 100 ≡ 0 → leap y ≡ eqb (y % 400) 0
-unfolding leap
-leap-century y e = rw (eq-eqb (y % 4) 0 (omega arith), eq-eqb (y % 100) 0 e)
-
-pub leap-other : (y : ℕ) → (y % 100 ≡ 0 → ⊥) → leap y ≡ eqb (y % 4) 0
-unfolding leap
-leap-other y e = rw (ne_eqb (y % 100) 0 e) (and-true _)
 
 -- whether a month's length is the listed one
 abbrev as_listed : ℕ → ℕ → Bool
@@ -313,6 +304,10 @@ first-offset y m = go (leb 4 m) (leb m 10) refl refl
 pub sunday-most : (y m : ℕ) → 1 ≤ m → m ≤ 12 → last_sunday y m ≤ 31
 sunday-most y m h l = omega (arith, (last-sunday-is y m h l).last, month-length y m h l)
 
+pub weekday-most : (y m d : ℕ) → weekday y m d ≤ 6
+unfolding weekday
+weekday-most y m d = omega arith
+
 pub before-year : (y : ℕ) → y ≤ 9999 → days_before_year y ≤ 3660000
 before-year y h = omega (arith, years (pred y))
 
@@ -334,6 +329,12 @@ number-most y m d h l = omega (arith, before-year y h.to, before-month y m h.dec
 pub inner-most : (y number : ℕ) → y ≤ 9999 → Inner y number → number ≤ 4000000
 inner-most y number h i = omega (arith, before-year y h, year-most y)
 
+pub march-most : (y : ℕ) → y ≤ 9999 → march_sunday y ≤ 4000000
+march-most y h = inner-most y (march_sunday y) h (march-inner y)
+
+pub october-most : (y : ℕ) → y ≤ 9999 → october_sunday y ≤ 4000000
+october-most y h = inner-most y (october_sunday y) h (october-inner y)
+
 pub calendar-most : (y m lead : ℕ) → IsMonth y m → lead ≤ 255 → calendar_days y m lead ≤ 286
 unfolding calendar_days
 calendar-most y m lead h l = omega (arith, month-length y m h.january h.december)
@@ -345,3 +346,21 @@ next-is-month y m h l = go (eqb m 12) refl
     go : (b : Bool) → eqb m 12 ≡ b → IsMonth (cond b (y + 1) y) (cond b 1 (m + 1))
     go true e = record { from = omega arith; to = omega arith; january = lit≤ tt; december = lit≤ tt }
     go false e = record { from = h.from; to = h.to; january = omega arith; december = omega (arith, eqb-false m 12 e) }
+
+-- ---- the laws as the check cites them
+
+pub ruleset listed_lengths = (month-lengths)
+
+pub ruleset closed_years = (years-before)
+
+pub ruleset month_days = (month-length)
+
+pub ruleset month_sums = (first-before, next-before, month-length)
+
+pub ruleset day_bounds = (before-year, before-month)
+
+pub ruleset last_sundays = (last-sunday, sunday-most, weekday-most)
+
+pub ruleset clock_bounds = (number-most, calendar-most, march-most, october-most)
+
+pub ruleset later_months = (next-is-month)

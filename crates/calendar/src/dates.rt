@@ -1,5 +1,5 @@
 // Lengths of months, day numbers, weekdays, last Sundays, offsets, clock-change days.
-ghost use Rattle.std.specs.Prelude.{◌≡◌, ◌&&◌, ◌≤◌, leb, ltb};
+ghost use Rattle.std.specs.Prelude.{◌≡◌, ◌≤◌};
 ghost use Rattle.calendar.specs.Dates.{leap, month_length, MonthLengths, days_before_year, days_before_month, day_number, weekday, last_sunday, march_sunday, october_sunday, offset_hours, calendar_days, next_year, next_month};
 ghost use Rattle.calendar.specs.DatesInner.{IsMonth};
 ghost use Rattle.calendar.specs.Clocks.{clock_of};
@@ -7,6 +7,7 @@ ghost use Rattle.calendar.specs.Clocks.{clock_of};
 use crate::Clock;
 
 // Whether a year has a 29 February.
+#[tactic(auto, unfolding(crate::specs::Dates::leap))]
 pub fn is_leap(year: u64) -> bool
     ensures { result ≡ leap year }
 {
@@ -18,27 +19,25 @@ pub fn is_leap(year: u64) -> bool
 }
 
 // The days of a month, 0 where there is no such month.
+#[tactic(auto, unfolding(crate::specs::Dates::month_length))]
 pub fn month_length(year: u64, month: u64) -> u64
     ensures { result ≡ month_length year month }
 {
-    if month < 1 {
-        return 0;
+    match month {
+        2 => if is_leap(year) { 29 } else { 28 },
+        1..=12 => 30 + (month + month / 8) % 2,
+        _ => 0,
     }
-    if 12 < month {
-        return 0;
-    }
-    if month != 2 {
-        return 30 + (month + month / 8) % 2;
-    }
-    if is_leap(year) { 29 } else { 28 }
 }
 
 // The months' lengths are the listed ones, in every year.
+#[tactic(auto, using(crate::proofs::DatesLaws::listed_lengths))]
 pub fn month_lengths_as_listed()
     ensures { MonthLengths }
 {}
 
 // The days from 1 January of year 1 to the year's own.
+#[tactic(auto, using(crate::proofs::DatesLaws::closed_years))]
 pub fn days_before_year(year: u64) -> u64
     requires { (1 ≤ year) × (year ≤ 9999) }
     ensures { result ≡ days_before_year year }
@@ -48,128 +47,123 @@ pub fn days_before_year(year: u64) -> u64
 }
 
 // The days from 1 January to the first of the month.
+#[tactic(auto, using(crate::proofs::DatesLaws::month_sums))]
 pub fn days_before_month(year: u64, month: u64) -> u64
     requires { (1 ≤ month) × (month ≤ 12) }
     ensures { result ≡ days_before_month year month }
 {
     let mut days = 0;
-    let mut m = 1;
-    while m < month {
+    for m in 1..month {
         days += month_length(year, m);
-        m += 1;
     }
     days
 }
 
-// The number of a day, 1 January of year 1 being day 1.
-pub fn day_number(year: u64, month: u64, day: u64) -> u64
-    requires { IsMonth year month × (day ≤ 31) }
-    ensures { result ≡ day_number year month day }
-{
-    days_before_year(year) + days_before_month(year, month) + day
-}
-
-// 0 Sunday, 1 Monday, .., 6 Saturday.
-pub fn weekday(year: u64, month: u64, day: u64) -> u64
-    requires { IsMonth year month × (day ≤ 31) }
-    ensures { result ≡ weekday year month day }
-{
-    day_number(year, month, day) % 7
-}
-
-// The day of a month's last Sunday.
-pub fn last_sunday(year: u64, month: u64) -> u64
-    requires { IsMonth year month }
-    ensures { result ≡ last_sunday year month }
-{
-    let last = month_length(year, month);
-    last - weekday(year, month, last)
-}
-
-// The numbers of the days on which a year's clocks change.
-pub fn march_sunday(year: u64) -> u64
-    requires { (1 ≤ year) × (year ≤ 9999) }
-    ensures { result ≡ march_sunday year }
-{
-    day_number(year, 3, last_sunday(year, 3))
-}
-
-pub fn october_sunday(year: u64) -> u64
-    requires { (1 ≤ year) × (year ≤ 9999) }
-    ensures { result ≡ october_sunday year }
-{
-    day_number(year, 10, last_sunday(year, 10))
-}
-
-// Whether n is one of the numbers from `from` up to `to`, itself left out.
-fn between(from: u64, n: u64, to: u64) -> bool
-    ensures { result ≡ (leb from n && ltb n to) }
-{
-    if n < from {
-        return false;
-    }
-    n < to
-}
-
-// The offset at a date's noon, in hours.
-pub fn offset_hours(year: u64, month: u64, day: u64) -> u64
-    requires { IsMonth year month × (day ≤ 31) }
-    ensures { result ≡ offset_hours year month day }
-{
-    let number = day_number(year, month, day);
-    if between(march_sunday(year), number, october_sunday(year)) {
-        2
-    } else {
-        1
-    }
-}
-
-// The days of a calendar that starts `lead` days before a month.
-pub fn calendar_days(year: u64, month: u64, lead: u64) -> u64
-    requires { IsMonth year month × (lead ≤ 255) }
-    ensures { result ≡ calendar_days year month lead }
-{
-    lead + month_length(year, month)
-}
-
-// On which day of the calendar the clocks change.
-pub fn clock_of(year: u64, month: u64, lead: u64) -> Clock
-    requires { IsMonth year month × (lead ≤ 255) }
-    ensures { result ≡ clock_of year month lead }
-{
-    let from = day_number(year, month, 1);
-    let to = from + calendar_days(year, month, lead);
-    let march = march_sunday(year) + lead;
-    if between(from, march, to) {
-        return Clock::Shorter(march - from);
-    }
-    let october = october_sunday(year) + lead;
-    if between(from, october, to) {
-        return Clock::Longer(october - from);
-    }
-    Clock::Same
-}
-
-#[derive(Clone, Copy)]
+// A month of the years 1 to 9999. Numbers that may be no month stay two, as in `month_length`.
+#[derive(Clone, Copy, Debug, PartialEq, Eq)]
 pub struct Month {
     pub year: u64,
     pub month: u64,
+    pub ghost is_month: { IsMonth year month },
 }
 
-// The month after a month.
-pub fn next_month(year: u64, month: u64) -> Month
-    requires { IsMonth year month }
-    ensures { (result.year ≡ next_year year month) × (result.month ≡ next_month month) }
-{
-    if month == 12 {
-        Month {
-            year: year + 1,
-            month: 1,
+impl Month {
+    // The number of a day, 1 January of year 1 being day 1.
+    #[tactic(auto, using(crate::proofs::DatesLaws::day_bounds), unfolding(crate::specs::Dates::day_number))]
+    pub fn day_number(self, day: u64) -> u64
+        requires { day ≤ 31 }
+        ensures { result ≡ day_number self.year self.month day }
+    {
+        days_before_year(self.year) + days_before_month(self.year, self.month) + day
+    }
+
+    // 0 Sunday, 1 Monday, .., 6 Saturday.
+    #[tactic(auto, unfolding(crate::specs::Dates::weekday))]
+    pub fn weekday(self, day: u64) -> u64
+        requires { day ≤ 31 }
+        ensures { result ≡ weekday self.year self.month day }
+    {
+        self.day_number(day) % 7
+    }
+
+    // The day of its last Sunday.
+    #[tactic(auto, using(crate::proofs::DatesLaws::month_days, crate::proofs::DatesLaws::last_sundays))]
+    pub fn last_sunday(self) -> u64
+        ensures { result ≡ last_sunday self.year self.month }
+    {
+        let last = month_length(self.year, self.month);
+        last - self.weekday(last)
+    }
+
+    // The number of that day.
+    #[tactic(auto, using(crate::proofs::DatesLaws::last_sundays))]
+    pub fn sunday_number(self) -> u64
+        ensures { result ≡ day_number self.year self.month (last_sunday self.year self.month) }
+    {
+        self.day_number(self.last_sunday())
+    }
+
+    // The numbers of the days on which the clocks of its year change.
+    #[tactic(auto, unfolding(crate::specs::Dates::march_sunday, crate::specs::Dates::october_sunday))]
+    fn clock_changes(self) -> (u64, u64)
+        ensures { (result.0 ≡ march_sunday self.year) × (result.1 ≡ october_sunday self.year) }
+    {
+        let year = self.year;
+        let march = Month { year, month: 3 };
+        let october = Month { year, month: 10 };
+        (march.sunday_number(), october.sunday_number())
+    }
+
+    // The offset at a day's noon, in hours.
+    #[tactic(auto, unfolding(crate::specs::Dates::offset_hours))]
+    pub fn offset_hours(self, day: u64) -> u64
+        requires { day ≤ 31 }
+        ensures { result ≡ offset_hours self.year self.month day }
+    {
+        let (march, october) = self.clock_changes();
+        if (march..october).contains(&self.day_number(day)) {
+            2
+        } else {
+            1
         }
-    } else {
-        Month {
-            year,
-            month: month + 1,
+    }
+
+    // The days of a calendar that starts `lead` days before the month.
+    #[tactic(auto, using(crate::proofs::DatesLaws::month_days), unfolding(crate::specs::Dates::calendar_days))]
+    pub fn calendar_days(self, lead: u64) -> u64
+        requires { lead ≤ 255 }
+        ensures { result ≡ calendar_days self.year self.month lead }
+    {
+        lead + month_length(self.year, self.month)
+    }
+
+    // On which day of that calendar the clocks change.
+    #[tactic(auto, using(crate::proofs::DatesLaws::clock_bounds), unfolding(crate::specs::Clocks::clock_of))]
+    pub fn clock(self, lead: u64) -> Clock
+        requires { lead ≤ 255 }
+        ensures { result ≡ clock_of self.year self.month lead }
+    {
+        let first = self.day_number(1);
+        let days = first..first + self.calendar_days(lead);
+        let (march, october) = self.clock_changes();
+        if days.contains(&(march + lead)) {
+            return Clock::Shorter(march + lead - first);
+        }
+        if days.contains(&(october + lead)) {
+            return Clock::Longer(october + lead - first);
+        }
+        Clock::Same
+    }
+
+    // The year and month of the next one: two numbers, since behind December 9999 lies no `Month`.
+    #[tactic(auto, unfolding(crate::specs::Dates::next_year, crate::specs::Dates::next_month))]
+    pub fn next(self) -> (u64, u64)
+        ensures { (result.0 ≡ next_year self.year self.month) × (result.1 ≡ next_month self.month) }
+    {
+        if self.month == 12 {
+            (self.year + 1, 1)
+        } else {
+            (self.year, self.month + 1)
         }
     }
 }

@@ -1,4 +1,2 @@
 pub mod WordsInner
-pub mod WordsLaws
 pub mod SparseInner
-pub mod SparseLaws

@@ -1,58 +1,30 @@
 // Answers on standard output.
-ghost use Rattle.std.specs.Prelude.{◌≡◌, nat_abs};
+ghost use Rattle.std.specs.Prelude.{◌<◌};
 
+use std::fmt::Display;
 use std::io;
 
-pub fn text(rt: &impl Print, t: &[u8]) -> io::Result<()> {
-    rt.write_all(t)
+// The numbers of a row, parted by spaces.
+fn row<T: Display>(rt: &impl Print, numbers: &[T]) -> io::Result<()> {
+    let mut gap = "";
+    for n in numbers {
+        print!(rt; "{gap}{n}")?;
+        gap = " ";
+    }
+    println!(rt)
 }
 
-pub fn number(rt: &impl Print, n: u64) -> io::Result<()> {
-    rt.print(n)
-}
-
-fn magnitude(z: i64) -> u64
-    ensures { result ≡ nat_abs z }
+// Rows of so many numbers, each on a line.
+pub fn rows<T: Display>(rt: &impl Print, numbers: &[T], width: usize) -> io::Result<()>
+    requires { 0 < width }
 {
-    if 0 <= z {
-        return z as u64;
-    }
-    let below = -(z + 1);
-    below as u64 + 1
-}
-
-// A number with its sign.
-pub fn signed(rt: &impl Print, z: i64) -> io::Result<()> {
-    if z < 0 {
-        text(rt, b"-")?;
-    }
-    number(rt, magnitude(z))
-}
-
-// The numbers of a row are parted by spaces, and a line feed ends it.
-fn end_number(rt: &impl Print, i: usize) -> io::Result<()> {
-    if i % 5 == 4 {
-        text(rt, b"\n")
-    } else {
-        text(rt, b" ")
-    }
-}
-
-// Settlement rows, five numbers each.
-pub fn rows(rt: &impl Print, numbers: &[i64]) -> io::Result<()> {
-    for (i, z) in numbers.iter().enumerate() {
-        signed(rt, *z)?;
-        end_number(rt, i)?;
+    for numbers in numbers.chunks(width) {
+        row(rt, numbers)?;
     }
     Ok(())
 }
 
-// `refused NUMBER ITEM`
-pub fn refused(rt: &impl Print, number: u64, item: u64) -> io::Result<()> {
-    println!(rt; "refused {number} {item}")
-}
-
 // What is said of a line that is no case.
 pub fn no_case(rt: &impl Print) -> io::Result<()> {
-    text(rt, b"no case\n")
+    println!(rt; "no case")
 }

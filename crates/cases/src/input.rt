@@ -1,21 +1,18 @@
-// The text of the cases, from standard input.
-ghost use Rattle.std.specs.Prelude.{◌≤◌, length, IfOk};
-
+// The lines of the cases, from standard input.
 use std::io;
 use std::io::Read;
 
-// Reads until the buffer is full or the input ends; answers how many bytes.
-pub fn read_full(rt: &impl Input, buffer: &mut [u8]) -> io::Result<usize>
-    ensures { IfOk result (λ n. n ≤ length buffer.new) }
+// Gives each line, without its line feed, to what runs a case.
+pub fn each_line<R: Input + Alloc, F: FnMut(&[u8]) -> io::Result<()>>(
+    rt: &R,
+    mut run: F,
+) -> io::Result<()>
+    requires { F.IsAlwaysCallable run }
 {
-    let mut input = rt.reader();
-    let mut n = 0;
-    while n < buffer.len() {
-        let more = input.read(&mut buffer[n..])?;
-        if more == 0 {
-            break;
-        }
-        n += more;
+    let mut text = Vec::new(rt.alloc());
+    rt.reader().read_to_end(&mut text)?;
+    for line in text.split_inclusive(|byte| *byte == b'\n') {
+        run(line.strip_suffix(b"\n").unwrap_or(line))?;
     }
-    Ok(n)
+    Ok(())
 }

@@ -1,54 +1,82 @@
-// Words of a line, parted by single bytes.
-ghost use Rattle.std.specs.Prelude.{◌≡◌, ◌≤◌, length};
-ghost use Rattle.cases.specs.WordsInner.{Ends, next_word, number_of};
+// The words of a line, parted by single spaces.
+ghost use Rattle.std.specs.Prelude.{◌≡◌, ◌==◌, ◌≤◌, IfSome};
+ghost use Rattle.std.specs.List.{position};
+ghost use Rattle.cases.specs.WordsInner.{word_of, rest_of, number_of, up_to, with_digit_of};
 
-use text::Number;
-
-// Where the word that starts at `at` ends: at the next such byte, or with s.
-pub fn find(s: &[u8], at: usize, stop: u8) -> usize
-    requires { at ≤ length s.now }
-    ensures { Ends s.now at stop result }
-{
-    let mut i = at;
-    while i < s.len() {
-        if s[i] == stop {
-            return i;
-        }
-        i += 1;
-    }
-    i
+// The words from a place on, which are taken off one by one.
+#[derive(Clone, Copy)]
+pub struct Words<'a> {
+    pub rest: &'a [u8],
 }
 
-// Where the next word starts: behind the byte that ended the last one, or at the end of s.
-pub fn next(s: &[u8], end: usize) -> usize
-    ensures { result ≡ next_word s.now end }
+impl<'a> Words<'a> {
+    pub fn new(line: &'a [u8]) -> Words<'a>
+        ensures { result.rest.now ≡ line.now }
+    {
+        Words { rest: line }
+    }
+
+    // The next word, and none behind the last: an empty one.
+    pub fn word(&mut self) -> &'a [u8]
+        ensures word { result.now ≡ word_of self.old.rest.now }
+        ensures rest { self.new.rest.now ≡ rest_of self.old.rest.now }
+    {
+        let line = self.rest;
+        match first_space(line) {
+            Some(end) => {
+                self.rest = &line[end + 1..];
+                &line[..end]
+            }
+            None => {
+                self.rest = &[];
+                line
+            }
+        }
+    }
+
+    // The number that the next word says.
+    pub fn number(&mut self) -> Option<u64>
+        ensures number { result ≡ number_of (word_of self.old.rest.now) }
+        ensures rest { self.new.rest.now ≡ rest_of self.old.rest.now }
+    {
+        number(self.word())
+    }
+
+    // The same, if it is at most so many.
+    pub fn number_up_to(&mut self, most: usize) -> Option<usize>
+        ensures number { result ≡ up_to most (number_of (word_of self.old.rest.now)) }
+        ensures within { IfSome result (λ n. (number_of (word_of self.old.rest.now) ≡ Some n) × (n ≤ most)) }
+        ensures rest { self.new.rest.now ≡ rest_of self.old.rest.now }
+    {
+        let n = self.number()? as usize;
+        if n <= most { Some(n) } else { None }
+    }
+}
+
+fn first_space(line: &[u8]) -> Option<usize>
+    ensures { result ≡ position (λ x. x == 32) line.now }
 {
-    if end < s.len() { end + 1 } else { s.len() }
+    line.iter().position(|byte| *byte == b' ')
+}
+
+// A number with one digit more, if the byte is one and the number fits 64 bits.
+fn with_digit(value: u64, byte: u8) -> Option<u64>
+    ensures { result ≡ with_digit_of value byte }
+{
+    let digit = (byte as char).to_digit(10)?;
+    value.checked_mul(10)?.checked_add(digit as u64)
 }
 
 // The number that a word says in decimal digits.
-pub fn number(word: &[u8]) -> Number
+pub fn number(word: &[u8]) -> Option<u64>
     ensures { result ≡ number_of word.now }
 {
-    if word.len() == 0 {
-        return Number::NotDigits;
+    if word.is_empty() {
+        return None;
     }
-    let mut acc: u64 = 0;
-    let mut i = 0;
-    while i < word.len() {
-        let x = word[i];
-        if x < 48 {
-            return Number::NotDigits;
-        }
-        if 57 < x {
-            return Number::NotDigits;
-        }
-        let d = (x - 48) as u64;
-        if (u64::MAX - d) / 10 < acc {
-            return Number::NotDigits;
-        }
-        acc = acc * 10 + d;
-        i += 1;
+    let mut value = 0u64;
+    for byte in word {
+        value = with_digit(value, *byte)?;
     }
-    Number::Value(acc)
+    Some(value)
 }

@@ -1,2 +1,2 @@
-pub mod MovesLaws
-pub mod ParsedLaws
+pub mod ReadsLaws
+pub mod SoundLaws

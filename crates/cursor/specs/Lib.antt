@@ -1,1 +1,1 @@
-pub mod MovesInner
+pub mod ReadsInner

@@ -1,3 +1,4 @@
-pub mod LaidLaws
+pub mod SinksInner
+pub mod MeasuredInner
+pub mod WrittenInner
 pub mod PartsInner
-pub mod PartsLaws

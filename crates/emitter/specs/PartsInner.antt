@@ -6,6 +6,17 @@ use Rattle.formats.specs.Words.{word_at}
 use Rattle.kinds.specs.declared.Kind.{Kind}
 use Rattle.message.specs.Bytes.{opening, closing, element, root, counter, group, partner, digits, period_bytes, supply_bytes, deliveries, in_series, with_partner}
 
+-- ---- tags, by the bytes of their names: <name>, </name>, and an element
+
+abbrev pub open_tag : List ℕ → List ℕ
+open_tag name = bytes "<" ++ (name ++ bytes ">")
+
+abbrev pub close_tag : List ℕ → List ℕ
+close_tag name = bytes "</" ++ (name ++ bytes ">")
+
+abbrev pub element_of : List ℕ → List ℕ → List ℕ
+element_of name content = open_tag name ++ (content ++ close_tag name)
+
 -- ---- a time series
 
 unfoldable pub delivery_bytes : ℕ → List ℕ

@@ -1,322 +1,295 @@
 // The parts of a file, laid behind each other.
-ghost use Rattle.std.specs.Prelude.{◌≡◌, ◌++◌, ◌<◌};
-ghost use Rattle.text.specs.Decimal.{fixed};
-ghost use Rattle.message.specs.Bytes.{opening, closing, element, root, counter, group, partner, digits};
+ghost use Rattle.std.specs.Prelude.{◌≡◌, ◌∷◌, [], ◌++◌};
+ghost use Rattle.text.specs.Ascii.{bytes};
+ghost use Rattle.text.specs.Decimal.{fixed, plain};
+ghost use Rattle.formats.specs.Words.{word_at};
+ghost use Rattle.message.specs.Bytes.{root, counter, group, partner, digits};
 ghost use Rattle.message.specs.Bytes.{quantity_bytes, observation_bytes, period_bytes, supply_bytes, in_series, with_partner};
 ghost use Rattle.message.specs.Valid.{IsPeriod};
 ghost use Rattle.message.specs.Reading.{observed};
-ghost use Rattle.emitter.specs.LaidLaws.{Laid};
-ghost use Rattle.emitter.specs.PartsInner.{delivery_bytes, head_bytes, series_head, series_end, partner_head, partner_end, origin_bytes, file_head, file_end};
+ghost use Rattle.emitter.specs.PartsInner.{open_tag, close_tag, element_of, delivery_bytes, head_bytes, series_head, series_end, partner_head, partner_end, origin_bytes, file_head, file_end};
 
-use crate::Title;
-use crate::laying::{lay, lay_fixed, lay_plain};
-use formats::Mark;
+use crate::sink::{Sink, lay_plain};
+use crate::{Stamp, Title};
+use calendar::dates::Month;
 use kinds::Kind;
 
-// Watts as kilowatts with three decimals.
-fn emit_quantity(out: &mut [u8], m: Mark, watts: u64, live: bool) -> Mark
-    ensures { Laid live out.old m (quantity_bytes watts) out.new result }
-{
-    let a = lay_plain(out, m, watts / 1000, live);
-    let b = lay(out, a, b".", live);
-    lay_fixed(out, b, 3, watts % 1000, live)
-}
+// ---- names
 
-// An observation.
-pub fn emit_observation(out: &mut [u8], m: Mark, position: u64, watts: u64, live: bool) -> Mark
-    ensures { Laid live out.old m (observation_bytes (observed (position, watts))) out.new result }
-{
-    let a = lay(out, m, b"<Observation><Position>", live);
-    let b = lay_plain(out, a, position, live);
-    let c = lay(out, b, b"</Position><Quantity>", live);
-    let d = emit_quantity(out, c, watts, live);
-    lay(out, d, b"</Quantity></Observation>", live)
-}
-
-// A supply direction.
-fn emit_supply(out: &mut [u8], m: Mark, supply: u64, live: bool) -> Mark
-    requires { supply < 2 }
-    ensures { Laid live out.old m (supply_bytes supply) out.new result }
-{
-    if supply == 0 {
-        lay(out, m, b"<SupplyDirection>Off-take</SupplyDirection>", live)
-    } else {
-        lay(
-            out,
-            m,
-            b"<SupplyDirection>Injection</SupplyDirection>",
-            live,
-        )
-    }
-}
-
-// The period of a month.
-fn emit_period(out: &mut [u8], m: Mark, year: u64, month: u64, live: bool) -> Mark
-    requires { IsPeriod year month }
-    ensures { Laid live out.old m (period_bytes year month) out.new result }
-{
-    let start = message::moment_text(moments::period_start(year, month));
-    let end = message::moment_text(moments::period_end(year, month));
-    let a = lay(out, m, b"<PeriodStart>", live);
-    let b = lay(out, a, &start, live);
-    let c = lay(out, b, b"</PeriodStart><PeriodEnd>", live);
-    let d = lay(out, c, &end, live);
-    lay(
-        out,
-        d,
-        b"</PeriodEnd><PeriodResolution>PT15M</PeriodResolution>",
-        live,
-    )
-}
-
-// A delivery direction.
-fn emit_delivery(out: &mut [u8], m: Mark, delivery: u64, live: bool) -> Mark
-    requires { delivery < 2 }
-    ensures { Laid live out.old m (delivery_bytes delivery) out.new result }
-{
-    if delivery == 0 {
-        lay(
-            out,
-            m,
-            b"<DeliveryDirection>DeliveryUp</DeliveryDirection>",
-            live,
-        )
-    } else {
-        lay(
-            out,
-            m,
-            b"<DeliveryDirection>DeliveryDown</DeliveryDirection>",
-            live,
-        )
-    }
-}
-
-// A time series from its delivery direction up to its observations, of which there are n.
-fn emit_head(out: &mut [u8], m: Mark, title: Title, delivery: u64, n: u64, live: bool) -> Mark
-    requires { (delivery < 2) × IsPeriod title.year title.month }
-    ensures { Laid live out.old m (head_bytes delivery n title.year title.month) out.new result }
-{
-    let a = emit_delivery(out, m, delivery, live);
-    let b = lay(
-        out,
-        a,
-        b"<UnitType>KWT</UnitType><ObservationCounter>",
-        live,
-    );
-    let c = lay_plain(out, b, n, live);
-    let d = lay(out, c, b"</ObservationCounter><TimeSeriesPeriod>", live);
-    emit_period(out, d, title.year, title.month, live)
-}
-
-// The start of a time series, with its supply direction where it stands there.
-fn emit_series_start(out: &mut [u8], m: Mark, kind: Kind, supply: u64, live: bool) -> Mark
-    requires { supply < 2 }
-    ensures { Laid live out.old m (opening "ToETimeSeries" ++ in_series kind (supply_bytes supply)) out.new result }
-{
-    let a = lay(out, m, b"<ToETimeSeries>", live);
-    match kind {
-        Kind::Toe01 => emit_supply(out, a, supply, live),
-        Kind::Toe02 => emit_supply(out, a, supply, live),
-        Kind::Toe03 => a,
-    }
-}
-
-// A time series up to its observations, of which there are n.
-pub fn emit_series_head(
-    out: &mut [u8],
-    m: Mark,
-    title: Title,
-    supply: u64,
-    delivery: u64,
-    n: u64,
-    live: bool,
-) -> Mark
-    requires { (supply < 2) × (delivery < 2) × IsPeriod title.year title.month }
-    ensures { Laid live out.old m (series_head title.kind supply delivery n title.year title.month) out.new result }
-{
-    let kind = title.kind;
-    let a = emit_series_start(out, m, kind, supply, live);
-    emit_head(out, a, title, delivery, n, live)
-}
-
-// What stands behind a time series' observations.
-pub fn emit_series_end(out: &mut [u8], m: Mark, live: bool) -> Mark
-    ensures { Laid live out.old m series_end out.new result }
-{
-    lay(out, m, b"</TimeSeriesPeriod></ToETimeSeries>", live)
-}
-
-// The start of a partner, up to its number.
-fn emit_partner_start(out: &mut [u8], m: Mark, kind: Kind, live: bool) -> Mark
-    ensures { Laid live out.old m (opening (group kind) ++ opening (partner kind)) out.new result }
+// A file's element, by its kind.
+fn root(kind: Kind) -> &'static [u8]
+    ensures { result.now ≡ bytes (root kind) }
 {
     match kind {
-        Kind::Toe01 => lay(out, m, b"<SupplierSeries><SupplierEnterpriseNumber>", live),
-        Kind::Toe02 => lay(out, m, b"<FspSeries><FSPEnterpriseNumber>", live),
-        Kind::Toe03 => lay(out, m, b"<SDPSupplySeries><SDPSupply>", live),
+        Kind::Toe01 => b"AggregatedToEVolumesForFSP",
+        Kind::Toe02 => b"AggregatedToEVolumesForSupplier",
+        Kind::Toe03 => b"IndividualToEVolumesForSupplier",
     }
 }
 
-// How many digits a partner's number has.
-fn digits(kind: Kind) -> usize
+// The number of partners.
+fn counter(kind: Kind) -> &'static [u8]
+    ensures { result.now ≡ bytes (counter kind) }
+{
+    match kind {
+        Kind::Toe01 => b"SupplierCounter",
+        Kind::Toe02 => b"FSPCounter",
+        Kind::Toe03 => b"SDPSupplyCounter",
+    }
+}
+
+// A partner.
+fn group(kind: Kind) -> &'static [u8]
+    ensures { result.now ≡ bytes (group kind) }
+{
+    match kind {
+        Kind::Toe01 => b"SupplierSeries",
+        Kind::Toe02 => b"FspSeries",
+        Kind::Toe03 => b"SDPSupplySeries",
+    }
+}
+
+// A partner's number.
+fn partner(kind: Kind) -> &'static [u8]
+    ensures { result.now ≡ bytes (partner kind) }
+{
+    match kind {
+        Kind::Toe01 => b"SupplierEnterpriseNumber",
+        Kind::Toe02 => b"FSPEnterpriseNumber",
+        Kind::Toe03 => b"SDPSupply",
+    }
+}
+
+// How many digits it has.
+pub fn digits(kind: Kind) -> usize
     ensures { result ≡ digits kind }
 {
     match kind {
-        Kind::Toe01 => 10,
-        Kind::Toe02 => 10,
+        Kind::Toe01 | Kind::Toe02 => 10,
         Kind::Toe03 => 18,
     }
 }
 
-// An access point's supply direction, behind its number.
-fn emit_access_supply(out: &mut [u8], m: Mark, supply: u64, live: bool) -> Mark
-    requires { supply < 2 }
-    ensures { Laid live out.old m (closing "SDPSupply" ++ supply_bytes supply ++ opening "DirectionCounter") out.new result }
+// One of two words, by 0 or 1; none by another number.
+fn word(which: u64, first: &'static [u8], second: &'static [u8]) -> &'static [u8]
+    ensures { result.now ≡ word_at (first.now ∷ second.now ∷ []) which }
 {
-    let a = lay(out, m, b"</SDPSupply>", live);
-    let b = emit_supply(out, a, supply, live);
-    lay(out, b, b"<DirectionCounter>", live)
+    match which {
+        0 => first,
+        1 => second,
+        _ => b"",
+    }
 }
 
-// From a partner's number to the counter of its series.
-fn emit_number_end(out: &mut [u8], m: Mark, kind: Kind, supply: u64, live: bool) -> Mark
-    requires { supply < 2 }
-    ensures { Laid live out.old m (closing (partner kind) ++ with_partner kind (supply_bytes supply) ++ opening "DirectionCounter") out.new result }
+// <name>
+fn open<S: Sink>(sink: &mut S, name: &[u8]) -> Option<()>
+    ensures { S.lays sink.old (open_tag name.now) result sink.new }
+{
+    sink.lay(b"<")?;
+    sink.lay(name)?;
+    sink.lay(b">")
+}
+
+// </name>
+fn close<S: Sink>(sink: &mut S, name: &[u8]) -> Option<()>
+    ensures { S.lays sink.old (close_tag name.now) result sink.new }
+{
+    sink.lay(b"</")?;
+    sink.lay(name)?;
+    sink.lay(b">")
+}
+
+// An element of bytes.
+fn emit_element<S: Sink>(sink: &mut S, name: &[u8], content: &[u8]) -> Option<()>
+    ensures { S.lays sink.old (element_of name.now content.now) result sink.new }
+{
+    open(sink, name)?;
+    sink.lay(content)?;
+    close(sink, name)
+}
+
+// An element of a number's last n digits. A closure for what stands between the tags would be no plainer: its clause would speak of three states, and this is one call apart from the above.
+fn emit_fixed<S: Sink>(sink: &mut S, name: &[u8], n: usize, v: u64) -> Option<()>
+    ensures { S.lays sink.old (element_of name.now (fixed n v)) result sink.new }
+{
+    open(sink, name)?;
+    sink.lay_fixed(n, v)?;
+    close(sink, name)
+}
+
+// An element of a number without leading zeros.
+fn emit_plain<S: Sink>(sink: &mut S, name: &[u8], v: u64) -> Option<()>
+    ensures { S.lays sink.old (element_of name.now (plain v)) result sink.new }
+{
+    emit_fixed(sink, name, text::width(v), v)
+}
+
+// ---- a time series
+
+// Watts as kilowatts with three decimals.
+fn emit_quantity<S: Sink>(sink: &mut S, watts: u64) -> Option<()>
+    ensures { S.lays sink.old (quantity_bytes watts) result sink.new }
+{
+    lay_plain(sink, watts / 1000)?;
+    sink.lay(b".")?;
+    sink.lay_fixed(3, watts % 1000)
+}
+
+// An observation.
+pub fn emit_observation<S: Sink>(sink: &mut S, position: u64, watts: u64) -> Option<()>
+    ensures { S.lays sink.old (observation_bytes (observed (position, watts))) result sink.new }
+{
+    sink.lay(b"<Observation><Position>")?;
+    lay_plain(sink, position)?;
+    sink.lay(b"</Position><Quantity>")?;
+    emit_quantity(sink, watts)?;
+    sink.lay(b"</Quantity></Observation>")
+}
+
+// A supply direction.
+fn emit_supply<S: Sink>(sink: &mut S, supply: u64) -> Option<()>
+    ensures { S.lays sink.old (supply_bytes supply) result sink.new }
+{
+    emit_element(
+        sink,
+        b"SupplyDirection",
+        word(supply, b"Off-take", b"Injection"),
+    )
+}
+
+// A delivery direction.
+fn emit_delivery<S: Sink>(sink: &mut S, delivery: u64) -> Option<()>
+    ensures { S.lays sink.old (delivery_bytes delivery) result sink.new }
+{
+    emit_element(
+        sink,
+        b"DeliveryDirection",
+        word(delivery, b"DeliveryUp", b"DeliveryDown"),
+    )
+}
+
+// The period of a month.
+fn emit_period<S: Sink>(sink: &mut S, year: u64, month: u64) -> Option<()>
+    requires { IsPeriod year month }
+    ensures { S.lays sink.old (period_bytes year month) result sink.new }
+{
+    let period = Month { year, month };
+    let start = message::moment_text(moments::period_start(period));
+    let end = message::moment_text(moments::period_end(period));
+    emit_element(sink, b"PeriodStart", &start)?;
+    emit_element(sink, b"PeriodEnd", &end)?;
+    sink.lay(b"<PeriodResolution>PT15M</PeriodResolution>")
+}
+
+// A time series from its delivery direction up to its observations, of which there are n.
+fn emit_head<S: Sink>(sink: &mut S, title: Title, delivery: u64, n: u64) -> Option<()>
+    requires { IsPeriod title.year title.month }
+    ensures { S.lays sink.old (head_bytes delivery n title.year title.month) result sink.new }
+{
+    emit_delivery(sink, delivery)?;
+    sink.lay(b"<UnitType>KWT</UnitType>")?;
+    emit_plain(sink, b"ObservationCounter", n)?;
+    sink.lay(b"<TimeSeriesPeriod>")?;
+    emit_period(sink, title.year, title.month)
+}
+
+// The supply direction, where a time series has it.
+fn emit_series_supply<S: Sink>(sink: &mut S, kind: Kind, supply: u64) -> Option<()>
+    ensures { S.lays sink.old (in_series kind (supply_bytes supply)) result sink.new }
 {
     match kind {
-        Kind::Toe01 => lay(
-            out,
-            m,
-            b"</SupplierEnterpriseNumber><DirectionCounter>",
-            live,
-        ),
-        Kind::Toe02 => lay(out, m, b"</FSPEnterpriseNumber><DirectionCounter>", live),
-        Kind::Toe03 => emit_access_supply(out, m, supply, live),
+        Kind::Toe01 | Kind::Toe02 => emit_supply(sink, supply),
+        Kind::Toe03 => Some(()),
+    }
+}
+
+// A time series up to its observations, of which there are n.
+pub fn emit_series_head<S: Sink>(
+    sink: &mut S,
+    title: Title,
+    supply: u64,
+    delivery: u64,
+    n: u64,
+) -> Option<()>
+    requires { IsPeriod title.year title.month }
+    ensures { S.lays sink.old (series_head title.kind supply delivery n title.year title.month) result sink.new }
+{
+    sink.lay(b"<ToETimeSeries>")?;
+    emit_series_supply(sink, title.kind, supply)?;
+    emit_head(sink, title, delivery, n)
+}
+
+// What stands behind a time series' observations.
+pub fn emit_series_end<S: Sink>(sink: &mut S) -> Option<()>
+    ensures { S.lays sink.old series_end result sink.new }
+{
+    sink.lay(b"</TimeSeriesPeriod></ToETimeSeries>")
+}
+
+// ---- a partner
+
+// The supply direction, where a partner has it.
+fn emit_partner_supply<S: Sink>(sink: &mut S, kind: Kind, supply: u64) -> Option<()>
+    ensures { S.lays sink.old (with_partner kind (supply_bytes supply)) result sink.new }
+{
+    match kind {
+        Kind::Toe01 | Kind::Toe02 => Some(()),
+        Kind::Toe03 => emit_supply(sink, supply),
     }
 }
 
 // A partner up to its series, of which there are n.
-pub fn emit_partner_head(
-    out: &mut [u8],
-    m: Mark,
+pub fn emit_partner_head<S: Sink>(
+    sink: &mut S,
     kind: Kind,
     number: u64,
     supply: u64,
     n: u64,
-    live: bool,
-) -> Mark
-    requires { supply < 2 }
-    ensures { Laid live out.old m (partner_head kind number supply n) out.new result }
+) -> Option<()>
+    ensures { S.lays sink.old (partner_head kind number supply n) result sink.new }
 {
-    let width = digits(kind);
-    let a = emit_partner_start(out, m, kind, live);
-    let b = lay_fixed(out, a, width, number, live);
-    let c = emit_number_end(out, b, kind, supply, live);
-    let d = lay_plain(out, c, n, live);
-    lay(out, d, b"</DirectionCounter>", live)
+    open(sink, group(kind))?;
+    emit_fixed(sink, partner(kind), digits(kind), number)?;
+    emit_partner_supply(sink, kind, supply)?;
+    emit_plain(sink, b"DirectionCounter", n)
 }
 
 // What stands behind a partner's series.
-pub fn emit_partner_end(out: &mut [u8], m: Mark, kind: Kind, live: bool) -> Mark
-    ensures { Laid live out.old m (partner_end kind) out.new result }
+pub fn emit_partner_end<S: Sink>(sink: &mut S, kind: Kind) -> Option<()>
+    ensures { S.lays sink.old (partner_end kind) result sink.new }
 {
-    match kind {
-        Kind::Toe01 => lay(out, m, b"</SupplierSeries>", live),
-        Kind::Toe02 => lay(out, m, b"</FspSeries>", live),
-        Kind::Toe03 => lay(out, m, b"</SDPSupplySeries>", live),
-    }
+    close(sink, group(kind))
 }
 
-// The start of a file, up to its transaction ID.
-fn emit_root(out: &mut [u8], m: Mark, kind: Kind, live: bool) -> Mark
-    ensures { Laid live out.old m (opening (root kind) ++ opening "TransactionID") out.new result }
-{
-    match kind {
-        Kind::Toe01 => lay(out, m, b"<AggregatedToEVolumesForFSP><TransactionID>", live),
-        Kind::Toe02 => lay(
-            out,
-            m,
-            b"<AggregatedToEVolumesForSupplier><TransactionID>",
-            live,
-        ),
-        Kind::Toe03 => lay(
-            out,
-            m,
-            b"<IndividualToEVolumesForSupplier><TransactionID>",
-            live,
-        ),
-    }
-}
+// ---- a file
 
-// A file up to its moment.
-fn emit_origin(out: &mut [u8], m: Mark, kind: Kind, id: &[u8], moment: &[u8], live: bool) -> Mark
-    ensures { Laid live out.old m (origin_bytes kind id.now moment.now) out.new result }
+// A file up to its receiver.
+fn emit_origin<S: Sink>(sink: &mut S, kind: Kind, stamp: Stamp) -> Option<()>
+    ensures { S.lays sink.old (origin_bytes kind stamp.entry.id.now stamp.entry.moment.now) result sink.new }
 {
-    let a = emit_root(out, m, kind, live);
-    let b = lay(out, a, id, live);
-    let c = lay(out, b, b"</TransactionID><MessageCreateDateTime>", live);
-    let d = lay(out, c, moment, live);
-    lay(out, d, b"</MessageCreateDateTime>", live)
-}
-
-// A file's receiver.
-fn emit_receiver(out: &mut [u8], m: Mark, receiver: u64, live: bool) -> Mark
-    ensures { Laid live out.old m (element "ReceiverID" (fixed 10 receiver)) out.new result }
-{
-    let a = lay(out, m, b"<ReceiverID>", live);
-    let b = lay_fixed(out, a, 10, receiver, live);
-    lay(out, b, b"</ReceiverID>", live)
-}
-
-// The tag before the number of partners.
-fn emit_counter_start(out: &mut [u8], m: Mark, kind: Kind, live: bool) -> Mark
-    ensures { Laid live out.old m (opening (counter kind)) out.new result }
-{
-    match kind {
-        Kind::Toe01 => lay(out, m, b"<SupplierCounter>", live),
-        Kind::Toe02 => lay(out, m, b"<FSPCounter>", live),
-        Kind::Toe03 => lay(out, m, b"<SDPSupplyCounter>", live),
-    }
-}
-
-// The tag behind the number of partners.
-fn emit_counter_end(out: &mut [u8], m: Mark, kind: Kind, live: bool) -> Mark
-    ensures { Laid live out.old m (closing (counter kind)) out.new result }
-{
-    match kind {
-        Kind::Toe01 => lay(out, m, b"</SupplierCounter>", live),
-        Kind::Toe02 => lay(out, m, b"</FSPCounter>", live),
-        Kind::Toe03 => lay(out, m, b"</SDPSupplyCounter>", live),
-    }
+    open(sink, root(kind))?;
+    emit_element(sink, b"TransactionID", stamp.id)?;
+    emit_element(sink, b"MessageCreateDateTime", stamp.moment)
 }
 
 // A file up to its partners, of which there are n.
-pub fn emit_file_head(
-    out: &mut [u8],
-    m: Mark,
+pub fn emit_file_head<S: Sink>(
+    sink: &mut S,
     kind: Kind,
-    id: &[u8],
-    moment: &[u8],
     receiver: u64,
+    stamp: Stamp,
     n: u64,
-    live: bool,
-) -> Mark
-    ensures { Laid live out.old m (file_head kind id.now moment.now receiver n) out.new result }
+) -> Option<()>
+    ensures { S.lays sink.old (file_head kind stamp.entry.id.now stamp.entry.moment.now receiver n) result sink.new }
 {
-    let a = emit_origin(out, m, kind, id, moment, live);
-    let b = emit_receiver(out, a, receiver, live);
-    let c = emit_counter_start(out, b, kind, live);
-    let d = lay_plain(out, c, n, live);
-    emit_counter_end(out, d, kind, live)
+    emit_origin(sink, kind, stamp)?;
+    emit_fixed(sink, b"ReceiverID", 10, receiver)?;
+    emit_plain(sink, counter(kind), n)
 }
 
 // What stands behind a file's partners.
-pub fn emit_file_end(out: &mut [u8], m: Mark, kind: Kind, live: bool) -> Mark
-    ensures { Laid live out.old m (file_end kind) out.new result }
+pub fn emit_file_end<S: Sink>(sink: &mut S, kind: Kind) -> Option<()>
+    ensures { S.lays sink.old (file_end kind) result sink.new }
 {
-    match kind {
-        Kind::Toe01 => lay(out, m, b"</AggregatedToEVolumesForFSP>", live),
-        Kind::Toe02 => lay(out, m, b"</AggregatedToEVolumesForSupplier>", live),
-        Kind::Toe03 => lay(out, m, b"</IndividualToEVolumesForSupplier>", live),
-    }
+    close(sink, root(kind))
 }

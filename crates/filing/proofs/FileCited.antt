@@ -3,6 +3,7 @@ use mathlib.Core.Path.{◌≡◌, refl}
 use contract.Lifetimes.{Lfts}
 use denote.Triple.Clauses.{AtExit}
 use borrow.Fn.Kinds.{Dens, res_t, ended_of}
+use Rattle.refusals.specs.Sent.{said}
 use Rattle.reports.specs.Calls.{FileCalled}
 use Rattle.filing.proofs.file.file.Kinds as kinds
 use Rattle.filing.proofs.file.file.Reads as reads
@@ -10,7 +11,7 @@ use Rattle.filing.proofs.file.file.Reads as reads
 module _ (κs : Lfts 5) (a : Dens κs kinds.ps) (r : (res_t kinds.r κs).Denot) (s : AtExit (ended_of 5 kinds.ps kinds.r) κs) where
   -- what a caller learns
   learnt_is : reads.Learnt κs a r s
-      ≡ FileCalled a.0.now a.1.0 a.1.1.0 a.1.1.1.0.now a.1.1.1.1.0.now a.1.1.1.1.1.0.now s.1.1.1.1.1.0.now a.1.1.1.1.1.1.0.now s.1.1.1.1.1.1.0.now r
+      ≡ FileCalled a.0.now a.1.0 a.1.1.0 a.1.1.1.0.now a.1.1.1.1.0.now a.1.1.1.1.1.0.now s.1.1.1.1.1.0.now a.1.1.1.1.1.1.0.now s.1.1.1.1.1.1.0.now (said r)
   learnt_is = refl
 
   -- what a caller is asked

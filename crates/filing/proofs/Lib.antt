@@ -1,2 +1,4 @@
+pub mod PartnersLaws
+pub mod FilesLaws
 mod FileCited
 mod SheetCited

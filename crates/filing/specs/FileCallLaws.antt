@@ -1,11 +1,9 @@
 -- A file call is one of seven: refused as the book is, for its kind, its receiver, its ID or moment, its rows, its file, or filled.
-use Rattle.std.specs.Prelude.{◌≡◌, true, false, ◌&&◌, List, ℕ, ◌*◌, ◌≤◌, ◌<◌, ℤ, length}
+use Rattle.std.specs.Prelude.{◌≡◌, true, false, ◌&&◌, List, ℕ, ◌*◌, ◌≤◌, ◌<◌, ℤ, length, Result, Ok, Err, Option as StdOption, Some, None}
 use Rattle.std.proofs.Common.{ap, ◌∙◌, arith}
 use Rattle.std.proofs.Math.Option.{Option, none, some}
 use Rattle.std.proofs.lemmas.List.Edits.{sets}
 use borrow.Author.Tests.{le-leb, lt-leb}
-use Rattle.formats.specs.declared.Mark.{Mark}
-use Rattle.formats.specs.declared.Mark.TheVariants.{At, No}
 use Rattle.moments.specs.Ids.{is_transaction_id}
 use Rattle.refusals.specs.Refusals.{Refusal, refused, unless, or_else, short}
 use Rattle.book.specs.Book.{Book, book_of}
@@ -15,14 +13,13 @@ use Rattle.refusals.specs.RefusalsLaws.{not-refused, not_short, unless-else}
 use Rattle.volumes.specs.Series.{Kind}
 use Rattle.message.specs.Valid.{is_moment}
 use Rattle.kinds.specs.Numbers.{kind_numbered}
-use Rattle.emitter.specs.LaidLaws.{Laid, laid-over, laid-no-room}
-use Rattle.reports.specs.declared.FileAnswer.{FileAnswer}
-use Rattle.reports.specs.declared.FileAnswer.TheVariants.{File, Refused}
+use Rattle.refusals.specs.Sent.{says}
+use Rattle.filing.specs.LayingInner.{Sized, Filed}
 use Rattle.reports.specs.FileRows.{file_text}
 use Rattle.reports.specs.Roles.{receivers}
 use Rattle.refusals.specs.Buffers.{afterwards}
 use Rattle.refusals.specs.BuffersLaws.{sets_over}
-use Rattle.reports.specs.Calls.{stands, text_of, short_refusal, asked_refusal, file_refusal, file_says, file_answer, FileCalled}
+use Rattle.reports.specs.Calls.{stands, text_of, short_refusal, asked_refusal, file_refusal, file_answer, FileCalled}
 
 -- ---- what is asked of an accepted book, before its file is written
 
@@ -64,8 +61,8 @@ unfoldable pub room_for : List ℕ → List ℕ → Option Refusal
 room_for text before = short 1 (length text) (length before)
 
 -- what writing a file and its rows leaves, where the rows have room
-pub record FileFilled (book : Book) (text : List ℕ) (rows_before rows_after : List ℤ) (before after : List ℕ) (r : FileAnswer) : Type 0 where
-  pub answer : r ≡ file_says (room_for text before) (row_count book) (length text)
+pub record FileFilled (book : Book) (text : List ℕ) (rows_before rows_after : List ℤ) (before after : List ℕ) (r : Result (ℕ × ℕ) Refusal) : Type 0 where
+  pub answer : r ≡ says (room_for text before) (row_count book, length text)
   pub rows : rows_after ≡ afterwards (room_for text before) (rows book) rows_before
   pub file : after ≡ afterwards (room_for text before) text before
 
@@ -83,15 +80,15 @@ asked-then book kind receiver id moment lent before =
 
 module _ (bytes : List ℕ) (kind receiver : ℕ) (id moment : List ℕ) (lent : List ℤ) (before : List ℕ) where
   -- a refusal changes nothing
-  refused_as : (r : Refusal) → file_refusal bytes kind receiver id moment (length lent) (length before) ≡ some r → FileCalled bytes kind receiver id moment lent lent before before (Refused r.number r.item)
-  unfolding file_answer file_says afterwards
+  refused_as : (r : Refusal) → file_refusal bytes kind receiver id moment (length lent) (length before) ≡ some r → FileCalled bytes kind receiver id moment lent lent before before (Err r)
+  unfolding file_answer afterwards
   refused_as r h = record { answer = rw h; rows = rw h; file = rw h }
 
-  pub call-refused : (r : Refusal) → some r ≡ book_refusal bytes → FileCalled bytes kind receiver id moment lent lent before before (Refused r.number r.item)
+  pub call-refused : (r : Refusal) → some r ≡ book_refusal bytes → FileCalled bytes kind receiver id moment lent lent before before (Err r)
   unfolding file_refusal or_else
   call-refused r h = refused_as r (rw (← h))
 
-  pub call-unknown : book_refusal bytes ≡ none → none ≡ kind_numbered kind → FileCalled bytes kind receiver id moment lent lent before before (Refused 12 0)
+  pub call-unknown : book_refusal bytes ≡ none → none ≡ kind_numbered kind → FileCalled bytes kind receiver id moment lent lent before before (Err (record { number = 12; item = 0 }))
   unfolding file_refusal or_else asked_refusal
   call-unknown h k = refused_as (record { number = 12; item = 0 }) (rw (h, ← k))
 
@@ -105,11 +102,11 @@ module _ (bytes : List ℕ) (kind receiver : ℕ) (id moment : List ℕ) (lent :
     unfolding text_of
     text-is = rw (← known)
 
-    pub call-asked : (r : Refusal) → some r ≡ asked_verdict (book_of bytes) k receiver id moment (length lent) → FileCalled bytes kind receiver id moment lent lent before before (Refused r.number r.item)
+    pub call-asked : (r : Refusal) → some r ≡ asked_verdict (book_of bytes) k receiver id moment (length lent) → FileCalled bytes kind receiver id moment lent lent before before (Err r)
     unfolding or_else
     call-asked r h = refused_as r (refusal_is ∙ rw (← h))
 
-    pub call-filled : (rows_after : List ℤ) (after : List ℕ) (r : FileAnswer) → asked_verdict (book_of bytes) k receiver id moment (length lent) ≡ none
+    pub call-filled : (rows_after : List ℤ) (after : List ℕ) (r : Result (ℕ × ℕ) Refusal) → asked_verdict (book_of bytes) k receiver id moment (length lent) ≡ none
         → FileFilled (book_of bytes) (file_text (book_of bytes) k receiver id moment) lent rows_after before after r
         → FileCalled bytes kind receiver id moment lent rows_after before after r
     unfolding file_answer or_else
@@ -120,21 +117,19 @@ module _ (bytes : List ℕ) (kind receiver : ℕ) (id moment : List ℕ) (lent :
 -- ---- the file and the rows, where they have room or not
 
 module _ (book : Book) (text : List ℕ) (lent : List ℤ) (before : List ℕ) where
-  -- measured, the file found no place behind it
-  pub file-short : (dry : List ℕ) (m : Mark) → m ≡ No → Laid false before (At 0) text dry m → FileFilled book text lent lent before dry (Refused 10 1)
-  unfolding file_says afterwards room_for
-  file-short dry m e v =
-      let n = laid-no-room (rw e at v) in
-      let h = lt-leb (length text) (length before) n.short in
-      record { answer = rw h; rows = rw h; file = rw h n.same }
+  -- measured, the file found no room
+  pub file-short : length before < length text → FileFilled book text lent lent before before (Err (record { number = 10; item = 1 }))
+  unfolding afterwards room_for
+  file-short h =
+      let b = lt-leb (length text) (length before) h in
+      record { answer = rw b; rows = rw b; file = rw b }
 
   -- the rows are filled, and the file written
-  pub file-fits : (count n : ℕ) (rows_after : List ℤ) (dry after : List ℕ) (m r : Mark) → row_width * row_count book ≤ length lent → count ≡ row_count book → m ≡ At n
-      → Laid false before (At 0) text dry m → rows_after ≡ sets lent 0 (rows book) → Laid true dry (At 0) text after r
-      → FileFilled book text lent rows_after before after (File count n)
-  unfolding file_says afterwards room_for
-  file-fits count n rows_after dry after m r room c e v f w =
-      let k = laid-over (rw e at v) w in
-      let b = le-leb (length text) (length before) k.room in
-      let all = sets_over (rows book) lent (omega (arith, rows-length book)) in
-      record { answer = rw (b, c, k.count); rows = rw b (f ∙ all); file = rw b k.list }
+  pub file-fits : (count n : ℕ) (rows_after : List ℤ) (after : List ℕ) → row_width * row_count book ≤ length lent → count ≡ row_count book → n ≡ length text → n ≤ length before
+      → rows_after ≡ sets lent 0 (rows book) → Filed text before after → FileFilled book text lent rows_after before after (Ok (count, n))
+  unfolding afterwards room_for
+  file-fits count n rows_after after room c m fits f w =
+      let h : length text ≤ length before = omega (arith, m, fits) in
+      let b = le-leb (length text) (length before) h in
+      let all = sets_over (rows book) lent (omega (arith, room, rows-length book)) in
+      record { answer = rw (b, c, m); rows = rw b (f ∙ all); file = rw b (w h) }

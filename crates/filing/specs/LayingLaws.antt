@@ -2,7 +2,6 @@
 use Rattle.std.specs.Prelude.{◌≡◌, refl, Bool, true, false, ℕ, ◌+◌, ◌-◌, ◌≤◌, ◌<◌, ltb, length}
 use Rattle.std.proofs.Math.Path.{ap}
 use Rattle.std.proofs.Common.{◌∙◌, arith, length-append, ltb-true, ltb-false}
-use Rattle.std.proofs.lemmas.Bool.{false≢true}
 use Rattle.std.proofs.Math.Option.{none}
 use mathlib.Core.List.{List, [], ◌++◌, flat_map}
 use Rattle.book.specs.Header.{register_section}
@@ -11,13 +10,11 @@ use Rattle.book.specs.Book.{Book, book_of}
 use Rattle.volumes.specs.Series.{Kind}
 use Rattle.message.specs.Bytes.{partner_bytes}
 use Rattle.emitter.specs.PartsInner.{file_head, file_end}
-use Rattle.emitter.specs.PartsLaws.{file-parts}
+use Rattle.emitter.proofs.PartsLaws.{file-parts}
 use Rattle.reports.specs.FileRows.{partners_of, file_of, file_text}
 use Rattle.reports.specs.RegisteredInner.{Registered}
 use Rattle.partners.specs.PartnersInner.{points_in, partner_column, no_partner, Next, partner_if, partners_from}
 use Rattle.partners.specs.PartnersLaws.{points-in, partners-next, partners-end}
-use Rattle.formats.specs.declared.Mark.{Mark}
-use Rattle.emitter.specs.LaidLaws.{Laid, ahead}
 use Rattle.integers.proofs.ListsLaws.{flat_map-append}
 
 -- ---- all partners
@@ -52,28 +49,19 @@ scan-falls column next later h s = go (ltb later no_partner) refl
 -- ---- the file
 
 pub file-bytes : (book : Book) (kind : Kind) (receiver : ℕ) (id moment : List ℕ) (n : ℕ) → n ≡ length (partners_of book kind receiver)
-    → file_head kind id moment receiver n ++ flat_map (partner_bytes kind) (partners_of book kind receiver) ++ file_end kind ≡ file_text book kind receiver id moment
+    → file_head kind id moment receiver n ++ (flat_map (partner_bytes kind) (partners_of book kind receiver) ++ file_end kind) ≡ file_text book kind receiver id moment
 unfolding file_text file_of
 file-bytes book kind receiver id moment n e =
     let partners = partners_of book kind receiver in
-    ap (λ (k : ℕ). file_head kind id moment receiver k ++ flat_map (partner_bytes kind) partners ++ file_end kind) e
+    ap (λ (k : ℕ). file_head kind id moment receiver k ++ (flat_map (partner_bytes kind) partners ++ file_end kind)) e
     ∙ file-parts (file_of book kind receiver id moment)
 
 -- ---- measured in another order: only the length counts
 
-pub laid-turned : {d out : List ℕ} {m n : Mark} {a : List ℕ} (b : List ℕ) → length a ≡ length b → Laid false d m a out n → Laid false d m b out n
-laid-turned {d} {out} {m} {n} {a} b e v =
-    record {
-      keeps = v.keeps;
-      behind = v.behind ∙ ap (ahead (length d) m) e;
-      dry = v.dry;
-      wrote = λ g p q h i. absurd (false≢true g);
-    }
-
-turned : (a b c : List ℕ) → length ((a ++ b) ++ c) ≡ length ((b ++ a) ++ c)
-turned a b c = omega (arith, length-append (a ++ b) c, length-append a b, length-append (b ++ a) c, length-append b a)
+turned : (a b c : List ℕ) → length (b ++ (a ++ c)) ≡ length (a ++ (b ++ c))
+turned a b c = omega (arith, length-append b (a ++ c), length-append a c, length-append a (b ++ c), length-append b c)
 
 pub file-turned : (book : Book) (kind : Kind) (receiver : ℕ) (id moment : List ℕ) (n : ℕ) → n ≡ length (partners_of book kind receiver)
-    → length ((flat_map (partner_bytes kind) (partners_of book kind receiver) ++ file_head kind id moment receiver n) ++ file_end kind) ≡ length (file_text book kind receiver id moment)
+    → length (flat_map (partner_bytes kind) (partners_of book kind receiver) ++ (file_head kind id moment receiver n ++ file_end kind)) ≡ length (file_text book kind receiver id moment)
 file-turned book kind receiver id moment n e =
-    turned (flat_map (partner_bytes kind) (partners_of book kind receiver)) (file_head kind id moment receiver n) (file_end kind) ∙ ap length (file-bytes book kind receiver id moment n e)
+    turned (file_head kind id moment receiver n) (flat_map (partner_bytes kind) (partners_of book kind receiver)) (file_end kind) ∙ ap length (file-bytes book kind receiver id moment n e)

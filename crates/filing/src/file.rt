@@ -1,86 +1,88 @@
 // The file call: a receiver's file of a book, and the book's settlement rows.
 ghost use Rattle.std.specs.Prelude.{◌≡◌, ◌*◌, ◌≤◌, length};
 ghost use Rattle.std.proofs.Math.Option.{none};
+ghost use Rattle.refusals.specs.Sent.{said};
+ghost use Rattle.refusals.specs.SentInner.{refusal_in};
 ghost use Rattle.book.specs.Book.{book_of};
 ghost use Rattle.volumes.specs.Settlement.{row_width, row_count, book_refusal};
-ghost use Rattle.settlement.specs.VerdictsInner.{refusal_in};
 ghost use Rattle.reports.specs.FileRows.{file_text};
-ghost use Rattle.series.specs.SumsInner.{DeliveredIn};
 ghost use Rattle.reports.specs.Calls.{FileCalled};
 ghost use Rattle.filing.specs.FileCallLaws.{asked_verdict, FileFilled};
 ghost use Rattle.quarters.specs.QuartersInner.{longest_month};
 
 use crate::laying::{measure_file, write_measured};
-use formats::Mark;
-use kinds::Numbered;
+use book::Section;
+use emitter::Stamp;
+use kinds::Kind;
 use partners::register::in_role;
-use reports::FileAnswer;
+use refusals::Refused;
 use series::Role;
 use series::delivered::fill_volumes;
-use settlement::judge::{Verdict, judge_settlement};
+use series::sums::Delivered;
+use settlement::judge::judge_settlement;
 use settlement::rows::ROW_WIDTH;
 use settlement::settle::{fill_book, row_count};
+use writer::FileRow;
 use writer::writing::in_form;
 
 // What is asked of an accepted book: a receiver in its role, an ID and a moment in form, and rows that are long enough.
-fn judge_asked(book: &[u8], role: Role, id: &[u8], moment: &[u8], lent: usize) -> Verdict
+fn judge_asked(book: &[u8], role: Role, stamp: Stamp, lent: usize) -> Result<(), Refused>
     requires { book_refusal book.now ≡ none }
-    ensures { refusal_in result ≡ asked_verdict (book_of book.now) role.kind role.receiver id.now moment.now lent }
+    ensures { refusal_in result ≡ asked_verdict (book_of book.now) role.kind role.receiver stamp.entry.id.now stamp.entry.moment.now lent }
 {
-    if !in_role(settlement::sections::section(book, 2), role) {
-        return Verdict::Refused(11, 0);
+    if !in_role(settlement::sections::section(book, Section::Register), role) {
+        return Err(Refused::Role);
     }
-    if !in_form(id, moment) {
-        return Verdict::Refused(12, 0);
+    if !in_form(stamp.id, stamp.moment) {
+        return Err(Refused::Malformed);
     }
     if lent < ROW_WIDTH * row_count(book) {
-        return Verdict::Refused(10, 0);
+        return Err(Refused::Short(0));
     }
-    Verdict::Passed
+    Ok(())
 }
 
 // The file of a book of known volumes: measured, then, if it fits, written, and the lent rows filled.
 fn write_file(
-    book: &[u8],
-    volumes: &[u64],
+    delivered: &Delivered,
     role: Role,
-    id: &[u8],
-    moment: &[u8],
+    stamp: Stamp,
     lent: &mut [i64],
     file: &mut [u8],
-    rows: &mut [u64],
-) -> FileAnswer
-    requires { DeliveredIn book.now volumes.now × (row_width * row_count (book_of book.now) ≤ length lent.old) × (24 * longest_month ≤ length rows.old) }
-    ensures { FileFilled (book_of book.now) (file_text (book_of book.now) role.kind role.receiver id.now moment.now) lent.old lent.new file.old file.new result }
+    rows: &mut [FileRow],
+) -> Result<(usize, usize), Refused>
+    requires { (row_width * row_count (book_of delivered.now.book.now) ≤ length lent.old) × (4 * longest_month ≤ length rows.old) }
+    ensures { FileFilled (book_of delivered.now.book.now) (file_text (book_of delivered.now.book.now) role.kind role.receiver stamp.entry.id.now stamp.entry.moment.now) lent.old lent.new file.old file.new (said result) }
 {
-    let t = measure_file(file, book, volumes, role, id, moment, rows);
-    let measured = t.mark;
-    let partners = t.count;
-    let Mark::At(n) = measured else {
-        return FileAnswer::Refused(10, 1);
-    };
-    let count = row_count(book);
-    fill_book(book, lent);
-    write_measured(file, book, volumes, role, id, moment, partners, rows);
-    FileAnswer::File(count, n)
+    let measured = measure_file(file.len(), delivered, role, stamp, rows);
+    let (bytes, partners) = measured.ok_or(Refused::Short(1))?;
+    fill_book(delivered.book, lent);
+    write_measured(file, delivered, role, stamp, partners, rows);
+    Ok((row_count(delivered.book), bytes))
 }
 
-// Fills the rows and the file of an accepted book. A partner has four series of a longest month at most, six numbers a row.
+// Fills the rows and the file of an accepted book. A partner has four series of a longest month at most.
 fn fill_file(
     book: &[u8],
     role: Role,
-    id: &[u8],
-    moment: &[u8],
+    stamp: Stamp,
     rows: &mut [i64],
     file: &mut [u8],
-) -> FileAnswer
+) -> Result<(usize, usize), Refused>
     requires { (book_refusal book.now ≡ none) × (row_width * row_count (book_of book.now) ≤ length rows.old) }
-    ensures { FileFilled (book_of book.now) (file_text (book_of book.now) role.kind role.receiver id.now moment.now) rows.old rows.new file.old file.new result }
+    ensures { FileFilled (book_of book.now) (file_text (book_of book.now) role.kind role.receiver stamp.entry.id.now stamp.entry.moment.now) rows.old rows.new file.old file.new (said result) }
 {
     let mut volumes = [0u64; quarters::MOST_ROWS];
     fill_volumes(book, &mut volumes);
-    let mut numbers = [0u64; 24 * quarters::LONGEST_MONTH];
-    write_file(book, &volumes, role, id, moment, rows, file, &mut numbers)
+    let mut own: [FileRow; 4 * quarters::LONGEST_MONTH] = [[0; 6]; 4 * quarters::LONGEST_MONTH];
+    write_file(
+        &Delivered::of(book, &volumes),
+        role,
+        stamp,
+        rows,
+        file,
+        &mut own,
+    )
 }
 
 // A receiver's file of a book: fills the settlement rows and the file, or changes nothing and says why.
@@ -92,24 +94,13 @@ pub fn file(
     moment: &[u8],
     rows: &mut [i64],
     file: &mut [u8],
-) -> FileAnswer
-    ensures { FileCalled book.now kind receiver id.now moment.now rows.old rows.new file.old file.new result }
+) -> Result<(usize, usize), Refused>
+    ensures { FileCalled book.now kind receiver id.now moment.now rows.old rows.new file.old file.new (said result) }
 {
-    let judged = judge_settlement(book);
-    if let Verdict::Refused(number, item) = judged {
-        return FileAnswer::Refused(number, item);
-    }
-    let numbered = kinds::kind_numbered(kind as u64);
-    let Numbered::Of(known) = numbered else {
-        return FileAnswer::Refused(12, 0);
-    };
-    let role = Role {
-        kind: known,
-        receiver,
-    };
-    let verdict = judge_asked(book, role, id, moment, rows.len());
-    if let Verdict::Refused(number, item) = verdict {
-        return FileAnswer::Refused(number, item);
-    }
-    fill_file(book, role, id, moment, rows, file)
+    judge_settlement(book)?;
+    let kind = Kind::try_from(u64::from(kind))?;
+    let role = Role { kind, receiver };
+    let stamp = Stamp { id, moment };
+    judge_asked(book, role, stamp, rows.len())?;
+    fill_file(book, role, stamp, rows, file)
 }

@@ -3,7 +3,7 @@ use Rattle.std.specs.Prelude.{◌≡◌, refl, ℕ}
 use Rattle.std.proofs.Common.{sym, ap, ◌∙◌, arith}
 use Rattle.std.proofs.Math.Path.{subst}
 use mathlib.Core.List.{List, [], ◌∷◌, ◌++◌, append-nil}
-use Rattle.formats.specs.Format.{Res, got, bad, Sound, Format, whole, read_all, bind, ends}
+use Rattle.formats.specs.Format.{Res, got, bad, Sound, Format, whole, read_all, ends}
 
 -- a reading found nothing, or something else
 pub got-bad : {A : Type 0} {a : A} {r : List ℕ} → got a r ≡ bad → ⊥
@@ -39,14 +39,6 @@ module _ {A : Type 0} (F : Format A) where
       cc
 
 -- ---- readings one after the other
-
-pub bind_assoc : {A B C : Type 0} (x : Res A) (f : A → List ℕ → Res B) (g : B → List ℕ → Res C) → bind (bind x f) g ≡ bind x (λ a q. bind (f a q) g)
-bind_assoc bad f g = refl
-bind_assoc (got a q) f g = refl
-
-pub ends-bind : {A B : Type 0} (f : A → B) (x : Res A) → ends (bind x (λ a q. got (f a) q)) ≡ ends x
-ends-bind f bad = refl
-ends-bind f (got a r) = refl
 
 pub ends-got : {A : Type 0} (x : Res A) (r : List ℕ) → ends x ≡ got tt r → (a : A) × (x ≡ got a r)
 ends-got bad r e = absurd (got-bad (sym e))

@@ -3,10 +3,9 @@ use Rattle.std.specs.Prelude.{◌≡◌, length}
 use Rattle.std.proofs.Math.Path.{refl, sym, ap}
 use Rattle.std.proofs.Common.{◌∙◌}
 use mathlib.Core.List.{List, [], ◌∷◌, ◌++◌, append_assoc, flat_map}
-use Prim.Native.Nat.{ℕ, zero, suc, ◌+◌, ◌-◌, ◌≤◌, ◌<◌}
+use Prim.Native.Nat.{ℕ, zero, suc}
 use native.Mathlib.Omega.{arith}
-use Rattle.formats.specs.Format.{Res, got, bad, Sound, Format, bind, ends}
-use Rattle.formats.specs.FormatLaws.{ends-bind}
+use Rattle.formats.specs.Format.{Res, got, bad, Sound, Format, bind}
 
 -- n readings of f, each under the state that those before it leave
 module _ {A S : Type 0} (f : S → List ℕ → Res A) (next : S → A → S) where
@@ -66,26 +65,6 @@ pub items-bytes : {A S : Type 0} (F : S → Format A) (next : S → A → S) (by
 unfolding items_render flat_map
 items-bytes F next bytes h st [] = refl
 items-bytes F next bytes h st (a ∷ l) = rw (h st a) (ap (λ (r : List ℕ). bytes a ++ r) (items-bytes F next bytes h (next st a) l))
-
--- ---- one item on: what a loop over items goes by
-
-module _ {A S : Type 0} (F : S → Format A) (next : S → A → S) (n i : ℕ) (st : S) (s : List ℕ) where
-  pub items-end : n ≤ i → items_parse F next (n - i) st s ≡ got [] s
-  unfolding repeat_parse
-  items-end h = let e : n - i ≡ 0 = omega arith in rw e
-
-  pub items-bad : i < n → (F st).parse s ≡ bad → items_parse F next (n - i) st s ≡ bad
-  unfolding repeat_parse
-  items-bad h f = let e : n - i ≡ suc (n - (i + 1)) = omega arith in rw (e, f)
-
-  pub items-step : (a : A) (r : List ℕ) → i < n → (F st).parse s ≡ got a r
-      → items_parse F next (n - i) st s ≡ bind (items_parse F next (n - (i + 1)) (next st a) r) (λ xs q. got (a ∷ xs) q)
-  unfolding repeat_parse
-  items-step a r h f = let e : n - i ≡ suc (n - (i + 1)) = omega arith in rw (e, f)
-
-  pub ends-step : (a : A) (r : List ℕ) → i < n → (F st).parse s ≡ got a r
-      → ends (items_parse F next (n - i) st s) ≡ ends (items_parse F next (n - (i + 1)) (next st a) r)
-  ends-step a r h f = ap ends (items-step a r h f) ∙ ends-bind (λ xs. a ∷ xs) (items_parse F next (n - (i + 1)) (next st a) r)
 
 -- ---- items before those that are still to be read
 

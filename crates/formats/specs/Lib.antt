@@ -7,5 +7,4 @@ pub mod Rising
 pub mod Exactly
 pub mod Numbers
 pub mod Name
-pub mod RunLaws
 pub mod PlaceInner

@@ -1,25 +1,14 @@
--- Places in a list of bytes, as the code has them.
-use Rattle.std.specs.Prelude.{List, [], ℕ, ◌≤◌, length, drop}
+-- Readings of a form at a place of a list of bytes, as the code answers them.
+use Rattle.std.specs.Prelude.{◌≡◌, List, ℕ, ◌≤◌, length, drop, Option, Some, None}
 use Rattle.formats.specs.Format.{Res, got, bad}
-use Rattle.formats.specs.RunLaws.{Run}
-use Rattle.formats.specs.declared.Mark.{Mark}
-use Rattle.formats.specs.declared.Mark.TheVariants.{At, No}
+use Rattle.formats.specs.declared.Val.{Val}
 
--- a mark as the end of a reading
-abbrev pub placed : List ℕ → Mark → Res (Unit {0})
-placed s (At n) = got tt (drop n s)
-placed s No = bad
+-- f, read in s from `at` on, finds v, and the answer is the place behind it; or f isn't there, and there is none
+abbrev pub Parsed : {A : Type 0} → (List ℕ → Res A) → List ℕ → ℕ → A → Option ℕ → Type 0
+Parsed f s at v (Some next) = (f (drop at s) ≡ got v (drop next s)) × (next ≤ length s)
+Parsed f s at v None = f (drop at s) ≡ bad
 
-abbrev pub Within : List ℕ → Mark → Type 0
-Within s (At n) = n ≤ length s
-Within s No = Unit {0}
-
--- what is left to read at a mark
-abbrev pub left : List ℕ → Mark → List ℕ
-left s (At n) = drop n s
-left s No = []
-
--- f, read in s at the mark m, ends at the mark r with the value v; where f isn't there, r is No
-pub record Parsed {A : Type 0} (f : List ℕ → Res A) (s : List ℕ) (m r : Mark) (v : A) : Type 0 where
-  pub run : Run f (placed s m) (placed s r) v
-  pub within : Within s r
+-- the same of an answer that tells the value that was found
+abbrev pub Valued : (List ℕ → Res ℕ) → List ℕ → ℕ → Option Val → Type 0
+Valued f s at (Some found) = (f (drop at s) ≡ got found.value (drop found.next s)) × (found.next ≤ length s)
+Valued f s at None = f (drop at s) ≡ bad

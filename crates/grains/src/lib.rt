@@ -6,7 +6,7 @@ ghost use Rattle.std.specs.Prelude.{◌≡◌, ◌*◌, ◌≤◌};
 ghost use Rattle.grains.specs.Grains.{grains, whole_watts, share};
 ghost use Rattle.grains.specs.GrainsInner.{Shares};
 
-#[derive(Clone, Copy)]
+#[derive(Clone, Copy, Debug, PartialEq, Eq, PartialOrd, Ord)]
 pub struct Grains {
     pub count: u64,
 }

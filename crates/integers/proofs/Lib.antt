@@ -3,6 +3,7 @@ pub mod AscendingLaws
 pub mod BitsLaws
 pub mod CountsLaws
 pub mod FirstLaws
+pub mod FoundLaws
 pub mod KeepLaws
 pub mod ListsLaws
 pub mod OnceLaws

@@ -1,5 +1,5 @@
 -- What each position adds to the floor of a running sum adds up to the floor of the whole.
-use Rattle.std.specs.Prelude.{◌≡◌, refl, ℕ, zero, suc, pred, ◌+◌, ◌-◌, ◌/◌, ◌≤◌}
+use Rattle.std.specs.Prelude.{◌≡◌, refl, ℕ, zero, suc, pred, ◌+◌, ◌/◌, ◌≤◌}
 use Rattle.std.proofs.Common.{sym, ap₂, le-div_iff_mul-le, div-mul-le_self, arith}
 use Rattle.std.proofs.Math.Nat.{zero-div, div-zero}
 use Rattle.integers.specs.Running.{up_to, floor_at}

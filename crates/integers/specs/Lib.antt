@@ -2,6 +2,7 @@ pub mod Counts
 pub mod Sums
 pub mod Running
 pub mod First
+pub mod FoundInner
 pub mod Ranges
 pub mod Rises
 pub mod All

@@ -1,2 +1,1 @@
-pub mod JudgedInner
 pub mod HeaderInner

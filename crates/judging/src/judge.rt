@@ -3,70 +3,81 @@ ghost use Rattle.std.specs.Prelude.{◌≡◌, true, ◌*◌, ◌≤◌, length}
 ghost use Rattle.quarters.specs.Quarters.{quarters_of};
 ghost use Rattle.book.specs.Header.{sizes, adjoining, calendar_section, table_section, register_section, reading_section, engagement_section};
 ghost use Rattle.book.specs.Judged.{rows_refusal, sections_refusal, refusal_of};
-ghost use Rattle.judging.specs.JudgedInner.{sent_back};
-ghost use Rattle.quarters.specs.QuartersInner.{Ranged};
+ghost use Rattle.refusals.specs.SentInner.{refusal_in};
 
-use crate::Judged;
-use quarters::Calendar;
-use searches::Found;
+use crate::header::{Header, header_good, layout_good};
+use crate::tables::{calendar_good, table_good};
+use book::Section;
+use book::sections::section;
+use refusals::Refused;
+use searches::engagements::judge_engagements;
+use searches::metering::judge_readings;
+use searches::register::judge_register;
 
-// The rows and the readings: 5 to 7.
-fn judge_rows(
-    version: u16,
-    c: Calendar,
-    points: usize,
-    rows: usize,
-    register: &[u8],
-    readings: &[u8],
-    engagements: &[u8],
-) -> Judged
-    requires { Ranged c × (points ≤ 256) × (64 * points ≤ length register.now) × (4 * quarters_of c * points ≤ length readings.now) × (16 * rows ≤ length engagements.now) }
-    ensures { sent_back result ≡ rows_refusal version c points rows register.now readings.now engagements.now }
-{
-    let days = quarters::days_of(c) as u32;
-    if let Found::At(row) = searches::register::judge_register(version, register, points, days) {
-        return Judged::Register(row);
+// The sections with rows, of a book whose layout is good.
+#[derive(Clone, Copy)]
+struct Rows<'a> {
+    header: Header,
+    register: &'a [u8],
+    readings: &'a [u8],
+    engagements: &'a [u8],
+    ghost registered: { 64 * header.points ≤ length register.now },
+    ghost read: { 4 * quarters_of header.calendar.calendar * header.points ≤ length readings.now },
+    ghost engaged: { 16 * header.rows ≤ length engagements.now },
+}
+
+impl<'a> Rows<'a> {
+    // The rows and the readings: 5 to 7.
+    #[tactic(auto, using(crate::proofs::JudgedLaws::few_rows), unfolding(book::specs::Judged::rows_refusal, book::specs::Metering::first_bad_reading))]
+    fn judge(self) -> Result<(), Refused>
+        ensures { refusal_in result ≡ rows_refusal self.entry.header.version self.entry.header.calendar.calendar self.entry.header.points self.entry.header.rows self.entry.register.now self.entry.readings.now self.entry.engagements.now }
+    {
+        let h = self.header;
+        let days = h.calendar.days() as u32;
+        let quarters = h.calendar.quarters() as usize;
+        if let Some(row) = judge_register(h.version, self.register, h.points, days) {
+            return Err(Refused::Register(row));
+        }
+        if let Some(i) = judge_readings(self.readings, quarters * h.points) {
+            return Err(Refused::Readings(i / quarters));
+        }
+        if let Some(row) = judge_engagements(self.engagements, h.rows, h.calendar, h.points) {
+            return Err(Refused::Engagements(row));
+        }
+        Ok(())
     }
-    let quarters = quarters::quarters_of(c) as usize;
-    if let Found::At(i) = searches::metering::judge_readings(readings, quarters * points) {
-        let point = i / quarters;
-        return Judged::Readings(point);
-    }
-    if let Found::At(row) = searches::engagements::judge_engagements(engagements, rows, c, points) {
-        return Judged::Engagements(row);
-    }
-    Judged::Passed
 }
 
 // The sections of a book whose layout is good: 4 to 7.
-fn judge_sections(book: &[u8], version: u16, c: Calendar, points: usize, rows: usize) -> Judged
-    requires { Ranged c × (points ≤ 256) × (rows ≤ 512) × (adjoining book.now 0 56 (sizes c points rows) ≡ true) }
-    ensures { sent_back result ≡ sections_refusal version c points rows (calendar_section book.now) (table_section book.now) (register_section book.now) (reading_section book.now) (engagement_section book.now) }
+#[tactic(auto, using(book::specs::HeaderLaws::laid), unfolding(book::specs::Judged::sections_refusal))]
+fn judge_sections(book: &[u8], header: Header) -> Result<(), Refused>
+    requires { adjoining book.now 0 56 (sizes header.calendar.calendar header.points header.rows) ≡ true }
+    ensures { refusal_in result ≡ sections_refusal header.version header.calendar.calendar header.points header.rows (calendar_section book.now) (table_section book.now) (register_section book.now) (reading_section book.now) (engagement_section book.now) }
 {
-    let calendar = book::sections::section(book, 0);
-    let table = book::sections::section(book, 1);
-    let register = book::sections::section(book, 2);
-    let readings = book::sections::section(book, 3);
-    let engagements = book::sections::section(book, 4);
-    let days = crate::tables::calendar_good(calendar);
-    if !(days & crate::tables::table_good(table)) {
-        return Judged::Tables;
+    let good = calendar_good(section(book, Section::Calendar))
+        && table_good(section(book, Section::Table));
+    if !good {
+        return Err(Refused::Tables);
     }
-    judge_rows(version, c, points, rows, register, readings, engagements)
+    let rows = Rows {
+        header,
+        register: section(book, Section::Register),
+        readings: section(book, Section::Readings),
+        engagements: section(book, Section::Engagements),
+    };
+    rows.judge()
 }
 
-pub fn judge_book(book: &[u8]) -> Judged
-    ensures { sent_back result ≡ refusal_of book.now }
+#[tactic(auto, using(book::specs::HeaderLaws::headed), unfolding(book::specs::Judged::refusal_of, book::specs::Header::layout_good))]
+pub fn judge_book(book: &[u8]) -> Result<(), Refused>
+    ensures { refusal_in result ≡ refusal_of book.now }
 {
-    if !crate::header::header_good(book) {
-        return Judged::Header;
+    if !header_good(book) {
+        return Err(Refused::Header);
     }
-    let version = book::header::version_of(book);
-    let c = book::header::calendar_of(book);
-    let points = book::header::point_count(book);
-    let rows = book::header::engagement_count(book);
-    if !crate::header::layout_good(book, c, points, rows) {
-        return Judged::Layout;
+    let header = Header::of(book);
+    if !layout_good(book, header) {
+        return Err(Refused::Layout);
     }
-    judge_sections(book, version, c, points, rows)
+    judge_sections(book, header)
 }

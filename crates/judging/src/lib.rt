@@ -4,15 +4,3 @@
 mod header;
 pub mod judge;
 mod tables;
-
-// What judging a book finds, in the order in which it is tried.
-#[derive(Clone, Copy)]
-pub enum Judged {
-    Passed,
-    Header,
-    Layout,
-    Tables,
-    Register(usize),
-    Readings(usize),
-    Engagements(usize),
-}

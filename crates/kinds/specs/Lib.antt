@@ -1,3 +1,3 @@
 pub mod Numbers
-pub mod NumbersInner
 pub mod NumbersLaws
+pub mod NumbersInner

@@ -1,7 +1,7 @@
 -- What a reading's answer shows, what each answer needs, and that ID and moment stand at the places that are named.
 use Rattle.std.proofs.Math.Path.{◌≡◌, refl, ap}
 use Rattle.std.proofs.Common.{sym, ◌∙◌, zero-add}
-use Rattle.std.specs.Prelude.{Bool, cond, ℕ, ◌*◌, ◌≤◌, ◌<◌, leb, drop}
+use Rattle.std.specs.Prelude.{Bool, cond, ℕ, ◌*◌, ◌≤◌, ◌<◌, leb, drop, Result, Ok, Err}
 use Rattle.std.proofs.Math.Bool.{true, false}
 use mathlib.Core.List.{List, ◌++◌, append_assoc, flat_map}
 use Rattle.std.proofs.Math.Option.{Option, none, some}
@@ -13,46 +13,48 @@ use Rattle.text.specs.Decimal.{fixed, plain}
 use Rattle.text.specs.WrittenInner.{written}
 use Rattle.formats.specs.Format.{Res, got, bad}
 use Rattle.refusals.specs.Refusals.{Refusal, refused}
+use Rattle.refusals.specs.Sent.{sent_back, said, says}
+use Rattle.refusals.specs.declared.Refused.{Refused}
+use Rattle.refusals.specs.declared.Refused.TheVariants.{Short, NoFile}
+use Rattle.refusals.proofs.SentLaws.{said-same}
 use Rattle.refusals.specs.Buffers.{over, afterwards}
 use Rattle.message.specs.declared.FileFacts.{FileFacts}
-use Rattle.message.specs.declared.ReadAnswer.{ReadAnswer}
-use Rattle.message.specs.declared.ReadAnswer.TheVariants.{File, Refused}
 use Rattle.message.specs.Bytes.{opening, element, closing, root, counter, partner_bytes, file_bytes}
 use Rattle.message.specs.Rows.{numbers, partners_of, Message, contents}
 use Rattle.message.specs.Messages.{message_bytes, read_message}
-use Rattle.message.specs.Calls.{id_place, moment_place, facts_of, read_refusal, message_in, read_says, read_answer, ReadCalled}
+use Rattle.message.specs.Calls.{id_place, moment_place, facts_of, read_refusal, message_in, read_answer, ReadCalled}
 
 -- ---- from what is known to the record
 
 module _ (file : List ℕ) (lent : ℕ) where
   -- 13
-  pub says-no-file : read_message file ≡ bad → Refused 13 0 ≡ read_answer file lent
-  unfolding read_answer read_refusal read_says
+  pub says-no-file : read_message file ≡ bad → said (Err NoFile) ≡ read_answer file lent
+  unfolding read_answer read_refusal
   says-no-file e = rw e
 
   module _ (m : Message) (rest : List ℕ) (e : read_message file ≡ got m rest) where
     -- 10
-    pub says-short : lent < 6 * length m.rows → Refused 10 0 ≡ read_answer file lent
-    unfolding read_answer read_refusal read_says
+    pub says-short : lent < 6 * length m.rows → said (Err (Short 0)) ≡ read_answer file lent
+    unfolding read_answer read_refusal
     says-short h = rw (e, lt-leb (6 * length m.rows) lent h)
 
     -- what the file says
-    pub says-file : 6 * length m.rows ≤ lent → File (facts_of m) ≡ read_answer file lent
-    unfolding read_answer read_refusal read_says message_in
+    pub says-file : 6 * length m.rows ≤ lent → said (Ok (facts_of m)) ≡ read_answer file lent
+    unfolding read_answer read_refusal message_in
     says-file h = rw (e, le-leb (6 * length m.rows) lent h)
 
 module _ (file before : List ℕ) where
   -- a refusal leaves the rows
-  kept-rows : (number item : ℕ) (x : Option Refusal) (facts : FileFacts) (new : List ℕ) → Refused number item ≡ read_says x facts → before ≡ afterwards x new before
-  unfolding read_says afterwards
-  kept-rows number item none facts new e = let z : ◌≡◌ {A = ℕ} 0 1 = cc in absurd (omega arith)
-  kept-rows number item (some r) facts new e = refl
+  kept-rows : (refusal : Refused) (x : Option Refusal) (facts : FileFacts) (new : List ℕ) → said (Err refusal) ≡ says x facts → before ≡ afterwards x new before
+  unfolding afterwards
+  kept-rows refusal none facts new e = let z : ◌≡◌ {A = ℕ} 0 1 = cc in absurd (omega arith)
+  kept-rows refusal (some r) facts new e = refl
 
-  pub called-refused : (number item : ℕ) → Refused number item ≡ read_answer file (length before) → ReadCalled file before before (Refused number item)
+  pub called-refused : (refusal : Refused) → said (Err refusal) ≡ read_answer file (length before) → ReadCalled file before before (Err refusal)
   unfolding read_answer
-  called-refused number item e = record { answer = e; rows = kept-rows number item (read_refusal (read_message file) (length before)) _ _ e }
+  called-refused refusal e = record { answer = e; rows = kept-rows refusal (read_refusal (read_message file) (length before)) _ _ e }
 
-  pub called-file : (m : Message) (rest : List ℕ) → read_message file ≡ got m rest → 6 * length m.rows ≤ length before → ReadCalled file before (over (numbers m.rows) before) (File (facts_of m))
+  pub called-file : (m : Message) (rest : List ℕ) → read_message file ≡ got m rest → 6 * length m.rows ≤ length before → ReadCalled file before (over (numbers m.rows) before) (Ok (facts_of m))
   unfolding read_refusal message_in afterwards
   called-file m rest e h = record { answer = says-file file (length before) m rest e h; rows = rw (e, le-leb (6 * length m.rows) (length before) h) }
 
@@ -68,35 +70,37 @@ pub record ReadAccepted (file before after : List ℕ) (facts : FileFacts) : Typ
 
 module _ (file before after : List ℕ) (facts : FileFacts) where
   accepted-message : (m : Message) (rest : List ℕ) → read_message file ≡ got m rest → (b : Bool) → leb (6 * length m.rows) (length before) ≡ b
-      → File facts ≡ read_says (cond b none (refused 10 0)) (facts_of m) → after ≡ afterwards (cond b none (refused 10 0)) (numbers m.rows) before → ReadAccepted file before after facts
-  unfolding read_says afterwards
+      → said (Ok facts) ≡ says (cond b none (refused 10 0)) (facts_of m) → after ≡ afterwards (cond b none (refused 10 0)) (numbers m.rows) before → ReadAccepted file before after facts
+  unfolding afterwards
   accepted-message m rest e true f a w =
       record { message = m; rest = rest; read = e; long = leb-true (6 * length m.rows) (length before) f; says = cc; rows = w }
   accepted-message m rest e false f a w = let z : ◌≡◌ {A = ℕ} 0 1 = cc in absurd (omega arith)
 
-  accepted-reading : (x : Res Message) → read_message file ≡ x → File facts ≡ read_says (read_refusal x (length before)) (facts_of (message_in x))
+  accepted-reading : (x : Res Message) → read_message file ≡ x → said (Ok facts) ≡ says (read_refusal x (length before)) (facts_of (message_in x))
       → after ≡ afterwards (read_refusal x (length before)) (numbers (message_in x).rows) before → ReadAccepted file before after facts
-  unfolding read_refusal message_in read_says
+  unfolding read_refusal message_in
   accepted-reading bad e a w = let z : ◌≡◌ {A = ℕ} 0 1 = cc in absurd (omega arith)
   accepted-reading (got m rest) e a w = accepted-message m rest e (leb (6 * length m.rows) (length before)) refl a w
 
-  pub accepted-is : ReadCalled file before after (File facts) → ReadAccepted file before after facts
+  pub accepted-is : ReadCalled file before after (Ok facts) → ReadAccepted file before after facts
   unfolding read_answer
   accepted-is c = accepted-reading (read_message file) refl c.answer c.rows
 
 -- 13 is answered of no file only
 module _ (file before after : List ℕ) where
-  refused-message : (facts : FileFacts) (b : Bool) → Refused 13 0 ≡ read_says (cond b none (refused 10 0)) facts → ⊥
-  unfolding read_says
+  refused-message : (facts : FileFacts) (b : Bool) → said (Err NoFile) ≡ says (cond b none (refused 10 0)) facts → ⊥
   refused-message facts true e = let z : ◌≡◌ {A = ℕ} 0 1 = cc in omega arith
-  refused-message facts false e = let z : ◌≡◌ {A = ℕ} 13 10 = cc in omega arith
+  refused-message facts false e =
+      let z : sent_back NoFile ≡ sent_back (Short 0) = cc in
+      let n : ◌≡◌ {A = ℕ} 13 10 = ap (λ (r : Refusal). r.number) z in
+      omega arith
 
-  refused-reading : (x : Res Message) → Refused 13 0 ≡ read_says (read_refusal x (length before)) (facts_of (message_in x)) → x ≡ bad
+  refused-reading : (x : Res Message) → said (Err NoFile) ≡ says (read_refusal x (length before)) (facts_of (message_in x)) → x ≡ bad
   unfolding read_refusal
   refused-reading bad e = refl
   refused-reading (got m rest) e = absurd (refused-message _ (leb (6 * length m.rows) (length before)) e)
 
-  pub refused-is : ReadCalled file before after (Refused 13 0) → read_message file ≡ bad
+  pub refused-is : ReadCalled file before after (Err NoFile) → read_message file ≡ bad
   unfolding read_answer
   refused-is c = refused-reading (read_message file) c.answer
 
@@ -108,8 +112,8 @@ unfolding written over
 written_over d bs = rw (zero-add (length bs))
 
 -- one call has one answer
-pub one-reading : {file before a b : List ℕ} {r s : ReadAnswer} → ReadCalled file before a r → ReadCalled file before b s → (r ≡ s) × (a ≡ b)
-one-reading c d = (c.answer ∙ sym d.answer, c.rows ∙ sym d.rows)
+pub one-reading : {file before a b : List ℕ} {r s : Result FileFacts Refused} → ReadCalled file before a r → ReadCalled file before b s → (r ≡ s) × (a ≡ b)
+one-reading c d = (said-same (c.answer ∙ sym d.answer), c.rows ∙ sym d.rows)
 
 -- ---- the places of ID and moment
 

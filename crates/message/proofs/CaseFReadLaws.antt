@@ -1,12 +1,11 @@
 -- Case F of document 01, read: its kind, receiver, month and two rows, and where its ID and moment stand.
-use Rattle.std.specs.Prelude.{◌≡◌, refl, ℕ, ◌≤◌, length}
+use Rattle.std.specs.Prelude.{◌≡◌, refl, ℕ, ◌≤◌, length, Ok}
 use Rattle.std.proofs.Common.{sym, ap, ◌∙◌, arith}
 use mathlib.Core.List.{List, [], ◌∷◌, flat_map}
 use Rattle.text.specs.Ascii.{bytes}
 use Rattle.formats.specs.Format.{got}
 use Rattle.kinds.specs.declared.Kind.TheVariants.{Toe01}
 use Rattle.message.specs.declared.FileFacts.{FileFacts}
-use Rattle.message.specs.declared.ReadAnswer.TheVariants.{File}
 use Rattle.message.specs.Bytes.{opening, ending, closing, root, file_bytes}
 use Rattle.message.specs.Valid.{periods, first_of}
 use Rattle.message.specs.Group.{spread}
@@ -50,5 +49,5 @@ unfolding message case_f series observations rows_of spread flat_map
 count = refl
 
 -- twelve numbers are enough
-pub case-F-read : (lent : List ℕ) → 12 ≤ length lent → ReadCalled text lent (over row_numbers_f lent) (File facts)
+pub case-F-read : (lent : List ℕ) → 12 ≤ length lent → ReadCalled text lent (over row_numbers_f lent) (Ok facts)
 case-F-read lent h = rw (← says, ← filled) (called-file text lent (message case_f) [] reads (omega (arith, count)))

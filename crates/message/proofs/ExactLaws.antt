@@ -1,10 +1,12 @@
 -- The reader is exact, since its answers go by the file's form, and the form has every valid file and nothing else.
-use Rattle.std.specs.Prelude.{◌≡◌, refl, List, [], ℕ, length}
+use Rattle.std.specs.Prelude.{◌≡◌, refl, List, [], ℕ, length, Result, Err}
 use Rattle.std.proofs.Common.{sym, subst, ◌∙◌}
 use Rattle.std.proofs.Math.Path.{ap}
 use Rattle.formats.specs.Format.{Res, got, bad}
-use Rattle.message.specs.declared.ReadAnswer.{ReadAnswer}
-use Rattle.message.specs.declared.ReadAnswer.TheVariants.{Refused}
+use Rattle.refusals.specs.declared.Refused.{Refused}
+use Rattle.refusals.specs.declared.Refused.TheVariants.{NoFile}
+use Rattle.refusals.proofs.SentLaws.{said-same}
+use Rattle.message.specs.declared.FileFacts.{FileFacts}
 use Rattle.message.specs.Contents.{File}
 use Rattle.message.specs.Bytes.{file_bytes}
 use Rattle.message.specs.Valid.{IsFile}
@@ -30,11 +32,11 @@ module _ (f : File) (ok : IsFile f) where
   is_read : read_message (file_bytes f) ≡ got (message f) []
   is_read = sym (ap read_message same_bytes) ∙ written-is-read (message f) by_rows
 
-read_of : (bytes before after : List ℕ) (r : ReadAnswer) → ReadCalled bytes before after r → (r ≡ Refused 13 0 → ⊥) → OfValidFile bytes
+read_of : (bytes before after : List ℕ) (r : Result FileFacts Refused) → ReadCalled bytes before after r → (r ≡ Err NoFile → ⊥) → OfValidFile bytes
 read_of bytes before after r c other = go (read_message bytes) refl
   where
     go : (x : Res Message) → read_message bytes ≡ x → OfValidFile bytes
-    go bad e = absurd (other (c.answer ∙ sym (says-no-file bytes (length before) e)))
+    go bad e = absurd (other (said-same (c.answer ∙ sym (says-no-file bytes (length before) e))))
     go (got m rest) e = let w = read-is-written bytes m rest e in record { file = contents m; valid = w.1.file; is = w.0 }
 
 pub reader-exact : ReaderExact
@@ -43,6 +45,6 @@ reader-exact =
     record {
       valid_not_refused = λ f ok before after r c e.
           refused-is-none (file_bytes f) (refused-is (file_bytes f) before after (subst (ReadCalled (file_bytes f) before after) e c)) (message f) (by_rows f ok) (sym (same_bytes f ok));
-      valid_accepted = λ f ok before after r c h. c.answer ∙ sym (says-file (file_bytes f) (length before) (message f) [] (is_read f ok) h);
+      valid_accepted = λ f ok before after r c h. said-same (c.answer ∙ sym (says-file (file_bytes f) (length before) (message f) [] (is_read f ok) h));
       only_valid = read_of;
     }

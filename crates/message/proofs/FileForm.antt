@@ -1,5 +1,5 @@
 -- The format of a file: its bytes and its valid contents are those of the definitions.
-use Rattle.std.specs.Prelude.{◌≡◌, refl, true, ◌&&◌, ℕ, zero, suc, ◌<◌, length, leb}
+use Rattle.std.specs.Prelude.{◌≡◌, refl, true, ◌&&◌, ℕ, zero, suc, ◌<◌, length, leb, Option, Some, None}
 use Rattle.std.proofs.Common.{sym, ap, ◌∙◌, arith, leb-true, le-leb}
 use mathlib.Core.List.{List, [], ◌∷◌, ◌++◌, append_assoc, flat_map}
 use Rattle.integers.proofs.TestsLaws.{and_left, and_right, and_both}
@@ -13,8 +13,7 @@ use Rattle.formats.specs.Combine.{strip, pre, post, seq, seq_by, Recast, recast}
 use Rattle.formats.specs.Exactly.{exactly, fixed_digits}
 use Rattle.formats.specs.Name.{name_byte, each, Name, name}
 use Rattle.formats.specs.Rising.{rising_items}
-use Rattle.moments.specs.declared.MomentRead.{MomentRead}
-use Rattle.moments.specs.declared.MomentRead.TheVariants.{Real, Malformed}
+use Rattle.moments.specs.declared.Moment.{Moment}
 use Rattle.moments.specs.Moments.{moment_of}
 use Rattle.moments.specs.MomentsLaws.{judged-is, length-moment}
 use Rattle.moments.specs.Ids.{is_transaction_id}
@@ -114,9 +113,9 @@ id-from s e =
 pub moment-length : (s : List ℕ) → is_moment s ≡ true → length s ≡ 29
 moment-length s e = go (moment_of s) refl e
   where
-    go : (j : MomentRead) → moment_of s ≡ j → is_real j ≡ true → length s ≡ 29
-    go (Real m) f e = ap length (judged-is s m f).form ∙ length-moment m
-    go Malformed f e = absurd (true-false (sym e))
+    go : (j : Option Moment) → moment_of s ≡ j → is_real j ≡ true → length s ≡ 29
+    go (Some m) f e = ap length (judged-is s m f).form ∙ length-moment m
+    go None f e = absurd (true-false (sym e))
 
 unfoldable pub file_body : Format Parts
 file_body =

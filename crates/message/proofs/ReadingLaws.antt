@@ -13,7 +13,7 @@ use Rattle.message.specs.Bytes.{opening, ending, closing, root, counter}
 use Rattle.message.specs.Valid.{is_moment}
 use Rattle.message.specs.Months.{next_months}
 use Rattle.message.specs.Rows.{message}
-use Rattle.message.specs.Reading.{plain_parse, counted_parse, quantity_parse, observation_parse, observations_parse, period_parse, volume_parse, own_series_parse, shared_series_parse, series_list_parse, own_partner_parse, shared_partner_parse, partner_parse, kind_parse, partners_parse, file_of, file_parse, message_parse}
+use Rattle.message.specs.Reading.{plain_parse, counted_parse, quantity_parse, position_parse, observation_parse, observations_parse, month_parse, period_parse, volume_parse, own_series_parse, shared_series_parse, series_list_parse, own_partner_parse, shared_partner_parse, partner_parse, kind_parse, partners_parse, file_of, file_parse, message_parse}
 use Rattle.message.specs.Messages.{read_message}
 use Rattle.message.proofs.ObservationForm.{quantity, observation_body, observation, observations, month_body, period}
 use Rattle.message.proofs.SeriesForm.{volume_body, own_body, shared_body}
@@ -25,7 +25,7 @@ use Rattle.message.proofs.MessageForm.{message_form}
 -- ---- a partner
 
 pub partner-parse : (k : Kind) (seen : ℕ × ℕ) → (partner_form k seen).parse ≡ partner_parse k seen
-unfolding partner_form own_partner own_partner_body shared_partner shared_partner_body series_list own_body shared_body volume_body observations observation observation_body quantity period month_body partner_parse own_partner_parse shared_partner_parse series_list_parse own_series_parse shared_series_parse volume_parse observations_parse observation_parse quantity_parse plain_parse counted_parse period_parse rising_parse fixed_parse
+unfolding partner_form own_partner own_partner_body shared_partner shared_partner_body series_list own_body shared_body volume_body observations observation observation_body quantity period month_body partner_parse own_partner_parse shared_partner_parse series_list_parse own_series_parse shared_series_parse volume_parse observations_parse observation_parse position_parse quantity_parse plain_parse counted_parse month_parse period_parse rising_parse fixed_parse
 partner-parse Toe01 seen = refl
 partner-parse Toe02 seen = refl
 partner-parse Toe03 seen = refl

@@ -11,7 +11,7 @@ use Rattle.formats.specs.Words.{Apart, apart-two, word_at, words}
 use Rattle.formats.specs.Combine.{strip, pre, post, seq, seq_by, only, Recast, recast}
 use Rattle.kinds.specs.declared.Kind.{Kind}
 use Rattle.kinds.specs.declared.Kind.TheVariants.{Toe03}
-use Rattle.message.specs.Contents.{Observation, TimeSeries}
+use Rattle.message.specs.Contents.{TimeSeries}
 use Rattle.message.specs.Bytes.{opening, ending, closing, element, observation_bytes, period_bytes, supplies, deliveries, supply_bytes, volume_bytes, series_bytes, in_series}
 use Rattle.message.proofs.PositionsLaws.{position-small}
 use Rattle.message.specs.Valid.{most, IsVolume, IsSeries, IsCounter, last_position}

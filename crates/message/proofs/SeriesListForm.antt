@@ -1,5 +1,5 @@
 -- The format of a partner's series: they rise, and they are of the month that was seen before them.
-use Rattle.std.specs.Prelude.{◌≡◌, refl, Bool, true, ◌&&◌, ◌||◌, ℕ, eqb, length}
+use Rattle.std.specs.Prelude.{◌≡◌, refl, Bool, true, ◌&&◌, ℕ, length}
 use mathlib.Core.List.{List, [], ◌∷◌, flat_map, map}
 use Rattle.integers.proofs.TestsLaws.{and_left, and_right, and_both}
 use Rattle.integers.specs.Rises.{rises}
@@ -10,7 +10,7 @@ use Rattle.formats.specs.Items.{ItemsOk}
 use Rattle.formats.specs.Rising.{rising_items}
 use Rattle.message.specs.Contents.{TimeSeries, place}
 use Rattle.message.specs.Valid.{month_of}
-use Rattle.message.specs.Months.{follows, after}
+use Rattle.message.specs.Months.{follows}
 
 -- ---- series of one month
 

@@ -1,14 +1,14 @@
 -- Reading a file: its answer, and the rows afterwards (document 01, "The file", "What is sent back").
-use Rattle.std.specs.Prelude.{◌≡◌, List, [], ◌++◌, ℕ, ◌*◌, length}
-use Rattle.std.proofs.Math.Option.{Option, none, some}
+use Rattle.std.specs.Prelude.{◌≡◌, List, [], ◌++◌, ℕ, ◌*◌, length, Result}
+use Rattle.std.proofs.Math.Option.{Option}
 use Rattle.formats.specs.Format.{Res, got, bad}
 use Rattle.refusals.specs.Refusals.{Refusal, refused, short}
+use Rattle.refusals.specs.Sent.{said, says}
+use Rattle.refusals.specs.declared.Refused.{Refused}
 use Rattle.refusals.specs.Buffers.{afterwards}
 use Rattle.kinds.specs.declared.Kind.{Kind}
 use Rattle.kinds.specs.declared.Kind.TheVariants.{Toe01}
 use Rattle.message.specs.declared.FileFacts.{FileFacts}
-use Rattle.message.specs.declared.ReadAnswer.{ReadAnswer}
-use Rattle.message.specs.declared.ReadAnswer.TheVariants.{File, Refused}
 use Rattle.message.specs.Bytes.{opening, element, root}
 use Rattle.message.specs.Rows.{numbers, Message}
 use Rattle.message.specs.Messages.{read_message}
@@ -44,15 +44,11 @@ unfoldable pub message_in : Res Message → Message
 message_in bad = record { kind = Toe01; receiver = 0; id = []; moment = []; year = 0; month = 0; rows = [] }
 message_in (got m rest) = m
 
--- what the file says, or the refusal's number and item
-unfoldable pub read_says : Option Refusal → FileFacts → ReadAnswer
-read_says none facts = File facts
-read_says (some r) facts = Refused r.number r.item
-
-unfoldable pub read_answer : List ℕ → ℕ → ReadAnswer
-read_answer file lent = read_says (read_refusal (read_message file) lent) (facts_of (message_in (read_message file)))
+-- what the file says, or the refusal
+unfoldable pub read_answer : List ℕ → ℕ → Result FileFacts Refusal
+read_answer file lent = says (read_refusal (read_message file) lent) (facts_of (message_in (read_message file)))
 
 -- a reading of these bytes, with the rows' numbers before it and after it
-pub record ReadCalled (file before after : List ℕ) (r : ReadAnswer) : Type 0 where
-  pub answer : r ≡ read_answer file (length before)
+pub record ReadCalled (file before after : List ℕ) (r : Result FileFacts Refused) : Type 0 where
+  pub answer : said r ≡ read_answer file (length before)
   pub rows : after ≡ afterwards (read_refusal (read_message file) (length before)) (numbers (message_in (read_message file)).rows) before

@@ -37,11 +37,15 @@ observable last p = leb p.0 last && ltb 0 p.1
 abbrev pub observed : ℕ × ℕ → Observation
 observed p = record { position = p.0; watts = p.1 }
 
-unfoldable pub observation_parse : ℕ → List ℕ → Res Observation
-observation_parse last =
-    map_parse observed (only_parse (observable last) (pre_parse (opening "Observation" ++ opening "Position")
+-- any position and any watts
+unfoldable pub position_parse : List ℕ → Res (ℕ × ℕ)
+position_parse =
+    pre_parse (opening "Observation" ++ opening "Position")
     (seq_parse (post_parse plain_parse (λ p. ending "Position" ++ opening "Quantity"))
-    (λ p. post_parse quantity_parse (λ w. closing "Quantity" ++ closing "Observation")))))
+    (λ p. post_parse quantity_parse (λ w. closing "Quantity" ++ closing "Observation")))
+
+unfoldable pub observation_parse : ℕ → List ℕ → Res Observation
+observation_parse last = map_parse observed (only_parse (observable last) position_parse)
 
 -- n of them, from position 1 on
 unfoldable pub observations_parse : ℕ → ℕ → List ℕ → Res (List Observation)
@@ -59,10 +63,12 @@ behind_month q =
     ++ element "PeriodEnd" (moment_bytes (period_end q.0 q.1))
     ++ element "PeriodResolution" (bytes "PT15M")
 
+-- the year and the month of its first moment
+unfoldable pub month_parse : List ℕ → Res (ℕ × ℕ)
+month_parse = only_parse is_period (pre_parse (opening "PeriodStart") (seq_parse (post_parse (fixed_parse 4) (λ y. bytes "-")) (λ y. fixed_parse 2)))
+
 unfoldable pub period_parse : List ℕ → Res (ℕ × ℕ)
-period_parse =
-    map_parse (λ q. q) (post_parse (only_parse is_period
-    (pre_parse (opening "PeriodStart") (seq_parse (post_parse (fixed_parse 4) (λ y. bytes "-")) (λ y. fixed_parse 2)))) behind_month)
+period_parse = map_parse (λ q. q) (post_parse month_parse behind_month)
 
 -- ---- a time series
 

@@ -1,11 +1,10 @@
 -- Which files are valid (document 01, "The file").
-use Rattle.std.specs.Prelude.{◌≡◌, Bool, true, false, ℕ, ◌^◌, ◌≤◌, ◌<◌, length}
+use Rattle.std.specs.Prelude.{◌≡◌, Bool, true, false, ℕ, ◌^◌, ◌≤◌, ◌<◌, length, Option, Some, None}
 use mathlib.Core.List.{List, [], ◌∷◌, map, flat_map}
 use Rattle.integers.specs.Rises.{rises}
 use Rattle.integers.specs.All.{All}
 use Rattle.quarters.specs.Quarters.{quarters_in_month}
-use Rattle.moments.specs.declared.MomentRead.{MomentRead}
-use Rattle.moments.specs.declared.MomentRead.TheVariants.{Real, Malformed}
+use Rattle.moments.specs.declared.Moment.{Moment}
 use Rattle.moments.specs.Moments.{moment_of}
 use Rattle.moments.specs.Ids.{is_transaction_id}
 use Rattle.kinds.specs.declared.Kind.{Kind}
@@ -66,9 +65,9 @@ pub record IsPartner (k : Kind) (p : Partner) : Type 0 where
   pub one : OneSupply k p.series
 
 -- "moment in the form shown, a real date and time of 2018 to 2099, with either offset"
-abbrev pub is_real : MomentRead → Bool
-is_real (Real m) = true
-is_real Malformed = false
+abbrev pub is_real : Option Moment → Bool
+is_real (Some m) = true
+is_real None = false
 
 abbrev pub is_moment : List ℕ → Bool
 is_moment s = is_real (moment_of s)

@@ -1,81 +1,53 @@
 // All single-byte changes of a file.
-ghost use Rattle.std.specs.Prelude.{◌≤◌, ◌<◌, length, IfOk};
+ghost use Rattle.std.specs.Prelude.{◌<◌, length};
 
+use crate::parts::{append, split_rows};
 use crate::reading::written_back;
-use crate::words::{append, row_numbers};
-use message::ReadAnswer;
+use crate::{FILE_ROOM, ROWS_ROOM};
 use std::io;
 
-// 1 for a file that is read, which must be written back, and 0 for another.
-fn count_read(rt: &impl Print, file: &[u8], rows: &mut [u64], again: &mut [u8]) -> io::Result<u64>
-    ensures { IfOk result (λ count. count ≤ 1) }
-{
-    let answer = reader::read(file, rows);
-    let ReadAnswer::File(facts) = answer else {
-        return Ok(0);
+// Whether a file is read; one that is must be written back.
+fn is_read(rt: &impl Print, file: &[u8], rows: &mut [u64]) -> io::Result<bool> {
+    let Ok(facts) = reader::read(file, rows) else {
+        return Ok(false);
     };
-    let n = row_numbers(facts.rows, rows.len());
-    if !written_back(facts, file, &rows[..n], again) {
-        cases::answers::text(rt, b"not written back\n")?;
+    if !written_back(facts, file, split_rows(rows, facts.rows).0) {
+        println!(rt; "not written back")?;
     }
-    Ok(1)
+    Ok(true)
 }
 
 // With how many of the 256 values of the byte at a place the file is read.
-fn values_at(
-    rt: &impl Print,
-    file: &mut [u8],
-    place: usize,
-    rows: &mut [u64],
-    again: &mut [u8],
-) -> io::Result<u64>
+fn values_at(rt: &impl Print, file: &mut [u8], place: usize, rows: &mut [u64]) -> io::Result<u64>
     requires { place < length file.old }
 {
     let old = file[place];
     let mut count = 0;
-    let mut value: usize = 0;
-    while value < 256 {
+    for value in 0..256u64 {
         file[place] = value as u8;
-        count += count_read(rt, file, rows, again)?;
-        value += 1;
+        if is_read(rt, file, rows)? {
+            count += 1;
+        }
     }
     file[place] = old;
     Ok(count)
 }
 
-fn print_count(rt: &impl Print, place: usize, count: u64) -> io::Result<()> {
-    cases::answers::number(rt, place as u64)?;
-    cases::answers::text(rt, b" ")?;
-    cases::answers::number(rt, count)?;
-    cases::answers::text(rt, b"\n")
-}
-
 // Each place where more values than one are read, and how many those are.
-fn print_changes(
-    rt: &impl Print,
-    file: &mut [u8],
-    rows: &mut [u64],
-    again: &mut [u8],
-) -> io::Result<()> {
-    let mut place = 0;
-    while place < file.len() {
-        let count = values_at(rt, file, place, rows, again)?;
+fn print_changes(rt: &impl Print, file: &mut [u8], rows: &mut [u64]) -> io::Result<()> {
+    for place in 0..file.len() {
+        let count = values_at(rt, file, place, rows)?;
         if 1 < count {
-            print_count(rt, place, count)?;
+            println!(rt; "{place} {count}")?;
         }
-        place += 1;
     }
     Ok(())
 }
 
 // The changes of the base.
-pub fn change_case(
-    rt: &impl Print,
-    base: &[u8],
-    file: &mut [u8],
-    rows: &mut [u64],
-    again: &mut [u8],
-) -> io::Result<()> {
-    let n = append(file, 0, base);
-    print_changes(rt, &mut file[..n], rows, again)
+pub fn change_case(rt: &impl Print, base: &[u8]) -> io::Result<()> {
+    let mut file = [0; FILE_ROOM];
+    let mut rows = [0; ROWS_ROOM];
+    let n = append(&mut file, 0, base);
+    print_changes(rt, &mut file[..n], &mut rows)
 }

@@ -2,4 +2,3 @@ pub mod Moments
 pub mod MomentsInner
 pub mod MomentsLaws
 pub mod Ids
-pub mod IdsLaws

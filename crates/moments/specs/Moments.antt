@@ -1,14 +1,10 @@
 -- Moments: their bytes, which are real, how bytes are judged, the instant, the period of a month (document 01, "The file").
-use Rattle.std.specs.Prelude.{Bool, true, false, ◌&&◌, List, ◌++◌, ℕ, eqb, leb, length}
+use Rattle.std.specs.Prelude.{Bool, true, false, ◌&&◌, List, ◌++◌, ℕ, eqb, leb, length, Option, Some, None, unwrap_or}
 use Rattle.text.specs.Ascii.{bytes}
 use Rattle.text.specs.Decimal.{fixed, fixed_at}
 use Rattle.text.specs.Tag.{begins}
-use Rattle.text.specs.declared.Number.{Number}
-use Rattle.text.specs.declared.Number.TheVariants.{Value, NotDigits}
 use Rattle.calendar.specs.Dates.{month_length, offset_hours, next_year, next_month}
 use Rattle.moments.specs.declared.Moment.{Moment}
-use Rattle.moments.specs.declared.MomentRead.{MomentRead}
-use Rattle.moments.specs.declared.MomentRead.TheVariants.{Real, Malformed}
 
 -- "moment in the form shown": 2021-08-02, T09:00:00, .000+02:00
 unfoldable pub date_bytes : Moment → List ℕ
@@ -39,12 +35,8 @@ real m =
     real_date m.year m.month m.day && real_time m.hour m.minute m.second m.milli && within 1 m.offset 2
 
 -- the number of n digits at a place, 0 where there is none
-abbrev pub value_or0 : Number → ℕ
-value_or0 (Value v) = v
-value_or0 NotDigits = 0
-
 unfoldable pub value_at : List ℕ → ℕ → ℕ → ℕ
-value_at s at n = value_or0 (fixed_at s at n)
+value_at s at n = unwrap_or (fixed_at s at n) 0
 
 -- what stands at the places of the form
 unfoldable pub parts : List ℕ → Moment
@@ -60,14 +52,15 @@ parts s =
       offset = value_at s 24 2;
     }
 
-abbrev pub pick_read : Bool → MomentRead → MomentRead
-pick_read true r = r
-pick_read false r = Malformed
+-- a moment where a test passes
+abbrev pub pick_read : Bool → Moment → Option Moment
+pick_read true m = Some m
+pick_read false m = None
 
 -- bytes are a moment where what stands at the places is real and has these bytes: so they are the bytes of a real
 -- moment, and the bytes of each real moment are read as it (`judged-is`, `is-judged` of MomentsLaws)
-unfoldable pub moment_of : List ℕ → MomentRead
-moment_of s = pick_read (eqb (length s) 29 && real (parts s) && begins (moment_bytes (parts s)) s) (Real (parts s))
+unfoldable pub moment_of : List ℕ → Option Moment
+moment_of s = pick_read (eqb (length s) 29 && real (parts s) && begins (moment_bytes (parts s)) s) (parts s)
 
 -- "PeriodStart", "PeriodEnd": the first of the month and of the next one, each with its own date's offset
 unfoldable pub period_start : ℕ → ℕ → Moment

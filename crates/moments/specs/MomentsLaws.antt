@@ -1,5 +1,5 @@
 -- Moments: bytes that are judged real are a real moment's and no other's, and a real moment's bytes are judged so.
-use Rattle.std.specs.Prelude.{◌≡◌, refl, Bool, true, false, ◌&&◌, List, [], ◌++◌, ℕ, ◌+◌, ◌*◌, ◌^◌, ◌≤◌, ◌<◌, eqb, leb, length, take, drop}
+use Rattle.std.specs.Prelude.{◌≡◌, refl, Bool, true, false, ◌&&◌, List, [], ◌++◌, ℕ, ◌+◌, ◌*◌, ◌^◌, ◌≤◌, ◌<◌, eqb, leb, length, take, drop, Some, None}
 use Rattle.std.proofs.Common.{sym, ◌∙◌, ap, append-nil, arith, eqb-true, leb-true, eq-eqb, ne_eqb, drop_of_length-le}
 use Rattle.integers.proofs.TestsLaws.{both}
 use Rattle.text.specs.Ascii.{bytes}
@@ -12,7 +12,6 @@ use Rattle.calendar.specs.Dates.{month_length, day_number, next_year, next_month
 use Rattle.calendar.proofs.DatesLaws.{is-month, month-length, first-offset}
 use Rattle.moments.specs.Moments.{moment_bytes, date_bytes, time_bytes, tail_bytes, within, real_date, real_time, real, value_at, parts, moment_of, pick_read, period_start, period_end}
 use Rattle.moments.specs.declared.Moment.{Moment}
-use Rattle.moments.specs.declared.MomentRead.TheVariants.{Real, Malformed}
 use Rattle.calendar.specs.DatesInner.{IsMonth}
 use Rattle.moments.specs.MomentsInner.{clock, instant}
 
@@ -94,11 +93,11 @@ pub record IsMoment (s : List ℕ) (m : Moment) : Type 0 where
   pub form : s ≡ moment_bytes m
   pub is-real : real m ≡ true
 
-pub judged-is : (s : List ℕ) (m : Moment) → moment_of s ≡ Real m → IsMoment s m
+pub judged-is : (s : List ℕ) (m : Moment) → moment_of s ≡ Some m → IsMoment s m
 unfolding moment_of
 judged-is s m e = go (eqb (length s) 29) (real (parts s)) (begins (moment_bytes (parts s)) s) refl refl refl e
   where
-    go : (a b c : Bool) → eqb (length s) 29 ≡ a → real (parts s) ≡ b → begins (moment_bytes (parts s)) s ≡ c → pick_read (a && b && c) (Real (parts s)) ≡ Real m → IsMoment s m
+    go : (a b c : Bool) → eqb (length s) 29 ≡ a → real (parts s) ≡ b → begins (moment_bytes (parts s)) s ≡ c → pick_read (a && b && c) (parts s) ≡ Some m → IsMoment s m
     go true true true l r f e =
         let p : parts s ≡ m = cc in
         let short : length s ≤ length (moment_bytes (parts s)) = omega (arith, eqb-true (length s) 29 l, length-moment (parts s)) in
@@ -111,11 +110,14 @@ judged-is s m e = go (eqb (length s) 29) (real (parts s)) (begins (moment_bytes 
     go true false c l r f e = let z : ◌≡◌ {A = ℕ} 0 1 = cc in absurd (omega arith)
     go false b c l r f e = let z : ◌≡◌ {A = ℕ} 0 1 = cc in absurd (omega arith)
 
+pub judged_real : (s : List ℕ) (m : Moment) → moment_of s ≡ Some m → real m ≡ true
+judged_real s m e = (judged-is s m e).is-real
+
 -- a list begins with itself
 own : (t : List ℕ) → begins t t ≡ true
 own t = ap (begins t) (sym (append-nil t)) ∙ begins-append t []
 
-pub is-judged : (s : List ℕ) (m : Moment) → IsMoment s m → moment_of s ≡ Real m
+pub is-judged : (s : List ℕ) (m : Moment) → IsMoment s m → moment_of s ≡ Some m
 unfolding moment_of
 is-judged s m i =
     let p : parts s ≡ m = ap parts i.form ∙ parts-of m (real-is m i.is-real) in
@@ -125,15 +127,15 @@ is-judged s m i =
 
 -- ---- judging in steps: the length, what stands at the places, the form
 
-pub not-length : (s : List ℕ) → (length s ≡ 29 → ⊥) → moment_of s ≡ Malformed
+pub not-length : (s : List ℕ) → (length s ≡ 29 → ⊥) → moment_of s ≡ None
 unfolding moment_of
 not-length s h = rw (ne_eqb (length s) 29 h)
 
-pub not-real : (s : List ℕ) → length s ≡ 29 → real (parts s) ≡ false → moment_of s ≡ Malformed
+pub not-real : (s : List ℕ) → length s ≡ 29 → real (parts s) ≡ false → moment_of s ≡ None
 unfolding moment_of
 not-real s l e = rw (eq-eqb (length s) 29 l, e)
 
-pub by_form : (s : List ℕ) → length s ≡ 29 → real (parts s) ≡ true → moment_of s ≡ pick_read (begins (moment_bytes (parts s)) s) (Real (parts s))
+pub by_form : (s : List ℕ) → length s ≡ 29 → real (parts s) ≡ true → moment_of s ≡ pick_read (begins (moment_bytes (parts s)) s) (parts s)
 unfolding moment_of
 by_form s l e = rw (eq-eqb (length s) 29 l, e)
 
@@ -163,3 +165,6 @@ june-2021 = rw (first-offset 2021 6, first-offset 2021 7)
 pub december-2099 : moment_bytes (period_start 2099 12) ++ moment_bytes (period_end 2099 12) ≡ bytes "2099-12-01T00:00:00.000+01:002100-01-01T00:00:00.000+01:00"
 unfolding moment_bytes date_bytes time_bytes tail_bytes fixed above bytes period_start period_end next_year next_month
 december-2099 = rw (first-offset 2099 12, first-offset 2100 1)
+
+-- the same, as the check cites it
+pub ruleset one_form = (form-is)

@@ -5,15 +5,13 @@ pub mod ids;
 
 ghost use Rattle.std.specs.Prelude.{◌≡◌, true, ◌+◌, ◌≤◌, length};
 ghost use Rattle.text.specs.WrittenInner.{Wrote};
-ghost use Rattle.moments.specs.Moments.{date_bytes, time_bytes, tail_bytes, moment_bytes, within, real_date, real_time, real, value_at, parts, moment_of, period_start, period_end};
-ghost use Rattle.calendar.specs.DatesInner.{IsMonth};
+ghost use Rattle.moments.specs.Moments.{date_bytes, time_bytes, tail_bytes, moment_bytes, real_date, real_time, real, value_at, parts, moment_of, period_start, period_end};
 ghost use Rattle.moments.specs.MomentsInner.{millis, instant};
 
-use calendar::dates::{day_number, month_length, next_month, offset_hours};
-use text::Number;
+use calendar::dates::{Month, month_length};
 
 // A date, a time of day and an offset in hours.
-#[derive(Clone, Copy)]
+#[derive(Clone, Copy, Debug, PartialEq, Eq)]
 pub struct Moment {
     pub year: u64,
     pub month: u64,
@@ -25,75 +23,33 @@ pub struct Moment {
     pub offset: u64,
 }
 
-// What bytes are judged to be.
-#[derive(Clone, Copy)]
-pub enum MomentRead {
-    Real(Moment),
-    Malformed,
-}
-
-// Whether n lies from `low` to `high`, both taken in.
-fn is_within(low: u64, n: u64, high: u64) -> bool
-    ensures { result ≡ within low n high }
-{
-    if n < low {
-        return false;
-    }
-    n <= high
-}
-
 // Whether there is such a day, from 2018 to 2099.
+#[tactic(auto, unfolding(crate::specs::Moments::real_date))]
 pub fn real_date(year: u64, month: u64, day: u64) -> bool
     ensures { result ≡ real_date year month day }
 {
-    if is_within(2018, year, 2099) {
-        is_within(1, day, month_length(year, month))
-    } else {
-        false
-    }
+    (2018..=2099).contains(&year) && (1..=month_length(year, month)).contains(&day)
 }
 
 // Whether there is such a time of day.
+#[tactic(auto, unfolding(crate::specs::Moments::real_time))]
 pub fn real_time(hour: u64, minute: u64, second: u64, milli: u64) -> bool
     ensures { result ≡ real_time hour minute second milli }
 {
-    if 23 < hour {
-        return false;
-    }
-    if 59 < minute {
-        return false;
-    }
-    if 59 < second {
-        return false;
-    }
-    milli <= 999
+    hour <= 23 && minute <= 59 && second <= 59 && milli <= 999
 }
 
-// Whether a moment is one of 2018 to 2099 with either offset.
-pub fn is_real(m: Moment) -> bool
-    ensures { result ≡ real m }
-{
-    if !real_date(m.year, m.month, m.day) {
-        return false;
-    }
-    if !real_time(m.hour, m.minute, m.second, m.milli) {
-        return false;
-    }
-    is_within(1, m.offset, 2)
-}
-
-// The number of n digits at `at`, 0 where there is none.
+// The number of n digits at `at`, 0 where there is none: a place, and no part, since the bytes may be too few.
+#[tactic(auto, unfolding(crate::specs::Moments::value_at))]
 fn value_at(s: &[u8], at: usize, n: usize) -> u64
     requires { n ≤ 18 }
     ensures { result ≡ value_at s.now at n }
 {
-    let Number::Value(v) = text::fixed_at(s, at, n) else {
-        return 0;
-    };
-    v
+    text::fixed_at(s, at, n).unwrap_or(0)
 }
 
 // What stands at the places of the form.
+#[tactic(auto, unfolding(crate::specs::Moments::parts))]
 fn parts_of(s: &[u8]) -> Moment
     ensures { result ≡ parts s.now }
 {
@@ -109,73 +65,6 @@ fn parts_of(s: &[u8]) -> Moment
     }
 }
 
-// 2021-08-02
-fn put_date(out: &mut [u8], at: usize, m: Moment) -> usize
-    requires { at + 10 ≤ length out.old }
-    ensures { Wrote out.old at (date_bytes m) out.new result }
-{
-    let a = text::put_fixed(out, at, 4, m.year);
-    let b = text::put(out, a, b"-");
-    let c = text::put_fixed(out, b, 2, m.month);
-    let d = text::put(out, c, b"-");
-    text::put_fixed(out, d, 2, m.day)
-}
-
-// T09:00:00
-fn put_time(out: &mut [u8], at: usize, m: Moment) -> usize
-    requires { at + 9 ≤ length out.old }
-    ensures { Wrote out.old at (time_bytes m) out.new result }
-{
-    let a = text::put(out, at, b"T");
-    let b = text::put_fixed(out, a, 2, m.hour);
-    let c = text::put(out, b, b":");
-    let d = text::put_fixed(out, c, 2, m.minute);
-    let e = text::put(out, d, b":");
-    text::put_fixed(out, e, 2, m.second)
-}
-
-// .000+02:00
-fn put_tail(out: &mut [u8], at: usize, m: Moment) -> usize
-    requires { at + 10 ≤ length out.old }
-    ensures { Wrote out.old at (tail_bytes m) out.new result }
-{
-    let a = text::put(out, at, b".");
-    let b = text::put_fixed(out, a, 3, m.milli);
-    let c = text::put(out, b, b"+");
-    let d = text::put_fixed(out, c, 2, m.offset);
-    text::put(out, d, b":00")
-}
-
-// Writes a moment's 29 bytes at `at`; answers the place behind them.
-pub fn write_moment(out: &mut [u8], at: usize, m: Moment) -> usize
-    requires { at + 29 ≤ length out.old }
-    ensures { Wrote out.old at (moment_bytes m) out.new result }
-{
-    let a = put_date(out, at, m);
-    let b = put_time(out, a, m);
-    put_tail(out, b, m)
-}
-
-// The moment that bytes are, or that they are none.
-pub fn read_moment(s: &[u8]) -> MomentRead
-    ensures { result ≡ moment_of s.now }
-{
-    if s.len() != 29 {
-        return MomentRead::Malformed;
-    }
-    let m = parts_of(s);
-    if !is_real(m) {
-        return MomentRead::Malformed;
-    }
-    let mut form = [0u8; 29];
-    write_moment(&mut form, 0, m);
-    if text::matches(s, 0, &form) {
-        MomentRead::Real(m)
-    } else {
-        MomentRead::Malformed
-    }
-}
-
 // Milliseconds from the start of day 0, of a day number and a time of that day.
 fn millis(days: u64, hour: u64, minute: u64, second: u64, milli: u64) -> u64
     requires { (days ≤ 4000000) × (hour ≤ 23) × (minute ≤ 59) × (second ≤ 59) × (milli ≤ 999) }
@@ -184,38 +73,117 @@ fn millis(days: u64, hour: u64, minute: u64, second: u64, milli: u64) -> u64
     (((days * 24 + hour) * 60 + minute) * 60 + second) * 1000 + milli
 }
 
-// Milliseconds from the start of day 0, the offset taken off.
-pub fn instant(m: Moment) -> u64
-    requires { real m ≡ true }
-    ensures { result ≡ instant m }
+impl Moment {
+    // Whether it is one of 2018 to 2099 with either offset.
+    #[tactic(auto, unfolding(crate::specs::Moments::real))]
+    pub fn is_real(self) -> bool
+        ensures { result ≡ real self }
+    {
+        real_date(self.year, self.month, self.day)
+            && real_time(self.hour, self.minute, self.second, self.milli)
+            && (1..=2).contains(&self.offset)
+    }
+
+    // 2021-08-02
+    #[tactic(auto, using(text::proofs::WrittenLaws::and_then), unfolding(crate::specs::Moments::date_bytes, text::specs::Ascii::bytes, text::specs::Decimal::fixed))]
+    fn write_date(self, out: &mut [u8], at: usize) -> usize
+        requires { at + 10 ≤ length out.old }
+        ensures { Wrote out.old at (date_bytes self) out.new result }
+    {
+        let a = text::put_fixed(out, at, 4, self.year);
+        let b = text::put(out, a, b"-");
+        let c = text::put_fixed(out, b, 2, self.month);
+        let d = text::put(out, c, b"-");
+        text::put_fixed(out, d, 2, self.day)
+    }
+
+    // T09:00:00
+    #[tactic(auto, using(text::proofs::WrittenLaws::and_then), unfolding(crate::specs::Moments::time_bytes, text::specs::Ascii::bytes, text::specs::Decimal::fixed))]
+    fn write_time(self, out: &mut [u8], at: usize) -> usize
+        requires { at + 9 ≤ length out.old }
+        ensures { Wrote out.old at (time_bytes self) out.new result }
+    {
+        let a = text::put(out, at, b"T");
+        let b = text::put_fixed(out, a, 2, self.hour);
+        let c = text::put(out, b, b":");
+        let d = text::put_fixed(out, c, 2, self.minute);
+        let e = text::put(out, d, b":");
+        text::put_fixed(out, e, 2, self.second)
+    }
+
+    // .000+02:00
+    #[tactic(auto, using(text::proofs::WrittenLaws::and_then), unfolding(crate::specs::Moments::tail_bytes, text::specs::Ascii::bytes, text::specs::Decimal::fixed))]
+    fn write_tail(self, out: &mut [u8], at: usize) -> usize
+        requires { at + 10 ≤ length out.old }
+        ensures { Wrote out.old at (tail_bytes self) out.new result }
+    {
+        let a = text::put(out, at, b".");
+        let b = text::put_fixed(out, a, 3, self.milli);
+        let c = text::put(out, b, b"+");
+        let d = text::put_fixed(out, c, 2, self.offset);
+        text::put(out, d, b":00")
+    }
+
+    // Writes its 29 bytes at `at`; answers the place behind them.
+    #[tactic(auto, using(text::proofs::WrittenLaws::and_then), unfolding(crate::specs::Moments::moment_bytes, crate::specs::Moments::date_bytes, crate::specs::Moments::time_bytes, crate::specs::Moments::tail_bytes, text::specs::Ascii::bytes, text::specs::Decimal::fixed))]
+    pub fn write(self, out: &mut [u8], at: usize) -> usize
+        requires { at + 29 ≤ length out.old }
+        ensures { Wrote out.old at (moment_bytes self) out.new result }
+    {
+        let a = self.write_date(out, at);
+        let b = self.write_time(out, a);
+        self.write_tail(out, b)
+    }
+
+    // Milliseconds from the start of day 0, the offset taken off.
+    pub fn instant(self) -> u64
+        requires { real self ≡ true }
+        ensures { result ≡ instant self }
+    {
+        let month = Month {
+            year: self.year,
+            month: self.month,
+        };
+        let days = month.day_number(self.day);
+        let clock = millis(days, self.hour, self.minute, self.second, self.milli);
+        clock - self.offset * 3600000
+    }
+}
+
+// The moment that bytes are, or none.
+#[tactic(auto, using(crate::specs::MomentsLaws::one_form), unfolding(crate::specs::Moments::moment_of))]
+pub fn read_moment(s: &[u8]) -> Option<Moment>
+    ensures { result ≡ moment_of s.now }
 {
-    let days = day_number(m.year, m.month, m.day);
-    let clock = millis(days, m.hour, m.minute, m.second, m.milli);
-    clock - m.offset * 3600000
+    let m = parts_of(s);
+    let mut form = [0u8; 29];
+    m.write(&mut form, 0);
+    (s.len() == 29 && m.is_real() && text::matches(s, 0, &form)).then_some(m)
 }
 
 // The first of a month.
-pub fn period_start(year: u64, month: u64) -> Moment
-    requires { IsMonth year month }
-    ensures { result ≡ period_start year month }
+#[tactic(auto, unfolding(crate::specs::Moments::period_start))]
+pub fn period_start(month: Month) -> Moment
+    ensures { result ≡ period_start month.year month.month }
 {
     Moment {
-        year,
-        month,
+        year: month.year,
+        month: month.month,
         day: 1,
         hour: 0,
         minute: 0,
         second: 0,
         milli: 0,
-        offset: offset_hours(year, month, 1),
+        offset: month.offset_hours(1),
     }
 }
 
 // The first of the month after.
-pub fn period_end(year: u64, month: u64) -> Moment
-    requires { IsMonth year month × (year ≤ 9998) }
-    ensures { result ≡ period_end year month }
+#[tactic(auto, using(calendar::proofs::DatesLaws::later_months), unfolding(crate::specs::Moments::period_end))]
+pub fn period_end(month: Month) -> Moment
+    requires { month.year ≤ 9998 }
+    ensures { result ≡ period_end month.year month.month }
 {
-    let next = next_month(year, month);
-    period_start(next.year, next.month)
+    let (year, month) = month.next();
+    period_start(Month { year, month })
 }

@@ -70,3 +70,6 @@ cut-output input = go (leb (length input) input_read) refl
     go : (b : Bool) → leb (length input) input_read ≡ b → output (take input_read input) ≡ output input
     go true e = ap output (take_all input_read input (leb-true (length input) input_read e))
     go false e = cut-long input (omega (arith, leb-false (length input) input_read e)) (line.parse (take input_read input)) refl
+
+-- the same, as the check cites it
+pub ruleset cut_outputs = (cut-output)

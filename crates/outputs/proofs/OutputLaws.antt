@@ -1,6 +1,6 @@
 -- The room that a line of refusal takes; and that each way through the program's function prints what the definition says.
 use Rattle.std.proofs.Math.Path.{◌≡◌, sym, ap}
-use Rattle.std.specs.Prelude.{refl, List, ℕ, ◌+◌, ◌-◌, ◌^◌, ◌≤◌, ◌<◌, ℤ, take, drop}
+use Rattle.std.specs.Prelude.{refl, List, ℕ, ◌+◌, ◌-◌, ◌^◌, ◌≤◌, ◌<◌, ℤ, take, drop, Result, Ok, Err, Some, None}
 use Rattle.std.proofs.Common.{◌∙◌, le-leb, length-append, length-drop, take_all, arith}
 use Rattle.std.proofs.Math.Option.{Option, none, some}
 use Rattle.std.proofs.lemmas.Bool.{lt-leb}
@@ -10,19 +10,20 @@ use Rattle.text.specs.Decimal.{plain}
 use Rattle.text.specs.WrittenInner.{Wrote}
 use Rattle.formats.specs.Format.{got}
 use Rattle.refusals.specs.Refusals.{Refusal}
+use Rattle.refusals.specs.Sent.{sent_back, said, says}
+use Rattle.refusals.specs.declared.Refused.{Refused}
+use Rattle.refusals.specs.declared.Refused.TheVariants.{Layout, Malformed}
 use Rattle.requests.specs.declared.Asked.{Asked}
-use Rattle.requests.specs.declared.Request.TheVariants.{Line, NoLine}
 use Rattle.requests.specs.Line.{Words, line}
 use Rattle.requests.proofs.LineLaws.{placed, found, found_none}
 use Rattle.book.specs.Book.{book_of}
 use Rattle.volumes.specs.Settlement.{rows, row_count}
 use Rattle.refusals.specs.Buffers.{over, afterwards}
-use Rattle.reports.specs.Calls.{text_of, file_refusal, file_says, file_answer, FileCalled}
+use Rattle.reports.specs.Calls.{text_of, file_refusal, file_answer, FileCalled}
 use Rattle.kinds.specs.Numbers.{kind_numbered}
 use Rattle.message.proofs.CallsLaws.{written_over}
-use Rattle.reports.specs.declared.FileAnswer.{FileAnswer}
-use Rattle.reports.specs.declared.FileAnswer.TheVariants.{File, Refused}
 use Rattle.outputs.specs.Output.{input_most, rows_lent, file_lent, refused_line, file_for, refusal_for, judged, file_in, rows_in, output, Printed}
+use Rattle.outputs.specs.OutputInner.{Filed}
 use Rattle.requests.specs.LineInner.{asked, request_of}
 use Rattle.text.proofs.DecimalLaws.{few-digits}
 
@@ -30,32 +31,67 @@ use Rattle.text.proofs.DecimalLaws.{few-digits}
 pub digits-few : (v : ℕ) → v < 2 ^ 64 → length (plain v) ≤ 20
 digits-few v h = few-digits 20 v (omega arith) (omega arith)
 
+-- the same, as the check cites it
+pub ruleset few_places = (digits-few)
+
 -- ---- what is printed
 
-module _ (input : List ℕ) where
-  pub printed-refused : (r : Refusal) (rows : List ℤ) (before after : List ℕ) (q : ℕ) → judged (length input) (line.parse input) ≡ some r
-      → Wrote before 0 (refused_line r.number r.item) after q → Printed input rows rows before after q
+-- what the file that is asked for leaves, by its judgement
+record Left (input : List ℕ) (x : Option Refusal) (rows_before rows_after : List ℤ) (before after : List ℕ) (r : Result ℕ Refused) : Type 0 where
+  judgement : judged (length input) (line.parse input) ≡ x
+  answer : said r ≡ says x (length (file_in (line.parse input)))
+  rows : rows_after ≡ afterwards x (rows_in (line.parse input)) rows_before
+  file : after ≡ afterwards x (file_in (line.parse input)) before
+
+module _ (input : List ℕ) (rows_before rows_after : List ℤ) (before between : List ℕ) where
+  left : {r : Result ℕ Refused} → Filed input rows_before rows_after before between r → Left input (judged (length input) (line.parse input)) rows_before rows_after before between r
+  left f = record { judgement = refl; answer = f.answer; rows = f.rows; file = f.file }
+
+  accepted-by : (x : Option Refusal) (count : ℕ) → Left input x rows_before rows_after before between (Ok count) → Printed input rows_before rows_after before between count
   unfolding output afterwards
-  printed-refused r rows before after q e w =
+  accepted-by none count k =
+      let c : count ≡ length (file_in (line.parse input)) = cc k.answer in
+      record { counted = rw k.judgement c; file = rw k.judgement k.file; rows = rw k.judgement k.rows }
+  accepted-by (some r) count k = let z : ◌≡◌ {A = ℕ} 0 1 = cc k.answer in absurd (omega arith)
+
+  pub printed-file : (count : ℕ) → Filed input rows_before rows_after before between (Ok count) → Printed input rows_before rows_after before between count
+  printed-file count f = accepted-by (judged (length input) (line.parse input)) count (left f)
+
+  refused-by : (x : Option Refusal) (e : Refused) (after : List ℕ) (q : ℕ) → Left input x rows_before rows_after before between (Err e)
+      → Wrote between 0 (refused_line (sent_back e).number (sent_back e).item) after q → Printed input rows_before rows_after before after q
+  unfolding output afterwards
+  refused-by none e after q k w = let z : ◌≡◌ {A = ℕ} 0 1 = cc k.answer in absurd (omega arith)
+  refused-by (some r) e after q k w =
+      let s : sent_back e ≡ r = cc k.answer in
+      let w' : Wrote before 0 (refused_line r.number r.item) after q = rw (← s, ← k.file) w in
       record {
-        counted = rw e (w.behind ∙ zero-add (length (refused_line r.number r.item)));
-        file = rw e (w.list ∙ written_over before (refused_line r.number r.item));
-        rows = rw e;
+        counted = rw k.judgement (w'.behind ∙ zero-add (length (refused_line r.number r.item)));
+        file = rw k.judgement (w'.list ∙ written_over before (refused_line r.number r.item));
+        rows = rw k.judgement k.rows;
       }
 
-  pub no_line : (rows : List ℤ) (before after : List ℕ) (q : ℕ) → NoLine ≡ request_of input → Wrote before 0 (refused_line 12 0) after q → Printed input rows rows before after q
-  no_line rows before after q e w = printed-refused (record { number = 12; item = 0 }) rows before after q (ap (judged (length input)) (found_none input e)) w
-
-  pub too_long : (a : Asked) (rows : List ℤ) (before after : List ℕ) (q : ℕ) → Line a ≡ request_of input → input_most < length input
-      → Wrote before 0 (refused_line 2 0) after q → Printed input rows rows before after q
-  unfolding refusal_for
-  too_long a rows before after q l h w =
-      printed-refused (record { number = 2; item = 0 }) rows before after q (ap (judged (length input)) (found input a l).parsed ∙ rw (lt-leb (length input) input_most h)) w
+  pub printed-refused : (e : Refused) (after : List ℕ) (q : ℕ) → Filed input rows_before rows_after before between (Err e)
+      → Wrote between 0 (refused_line (sent_back e).number (sent_back e).item) after q → Printed input rows_before rows_after before after q
+  printed-refused e after q f w = refused-by (judged (length input) (line.parse input)) e after q (left f) w
 
 -- the output lies in the buffer
 pub printed-fits : {input : List ℕ} {rows_before rows_after : List ℤ} {before after : List ℕ} {count : ℕ} → Printed input rows_before rows_after before after count → count ≤ length after
 unfolding over
 printed-fits {input} {before = before} p = omega (arith, p.counted, ap length p.file, length-append (output input) (drop (length (output input)) before))
+
+-- ---- a refusal before the file call
+
+module _ (input : List ℕ) (rows_before : List ℤ) (before : List ℕ) where
+  unfiled : (e : Refused) → judged (length input) (line.parse input) ≡ some (sent_back e) → Filed input rows_before rows_before before before (Err e)
+  unfolding afterwards
+  unfiled e j = record { answer = rw j; rows = rw j; file = rw j }
+
+  pub no_line : None ≡ request_of input → Filed input rows_before rows_before before before (Err Malformed)
+  no_line e = unfiled Malformed (ap (judged (length input)) (found_none input e))
+
+  pub too_long : (a : Asked) → Some a ≡ request_of input → input_most < length input → Filed input rows_before rows_before before before (Err Layout)
+  unfolding refusal_for
+  too_long a l h = unfiled Layout (ap (judged (length input)) (found input a l).parsed ∙ rw (lt-leb (length input) input_most h))
 
 -- ---- the file call, of the parts of the input
 
@@ -98,7 +134,7 @@ pub record Inside (input : List ℕ) (a : Asked) : Type 0 where
   pub moment : a.moment + 29 ≤ length input
   pub book : a.book ≤ length input
 
-pub inside : (input : List ℕ) (a : Asked) → Line a ≡ request_of input → Inside input a
+pub inside : (input : List ℕ) (a : Asked) → Some a ≡ request_of input → Inside input a
 unfolding asked
 inside input a l =
     let f = found input a l in
@@ -109,68 +145,42 @@ inside input a l =
       book = omega (arith, r, ap (λ (b : Asked). b.book) f.is);
     }
 
-module _ (input : List ℕ) (a : Asked) (l : Line a ≡ request_of input) where
-  -- they are what the slices hold
-  pub parts-on : (kind receiver : ℕ) (rows_before rows_after : List ℤ) (before after : List ℕ) (r : FileAnswer)
-      → FileCalled (take (length input - a.book) (drop a.book input)) kind receiver (take (a.id + a.id_length - a.id) (drop a.id input)) (take (a.moment + 29 - a.moment) (drop a.moment input)) rows_before rows_after before after r
-      → FileCalled (book_part input a) kind receiver (id_part input a) (moment_part input a) rows_before rows_after before after r
-  parts-on kind receiver rows_before rows_after before after r c =
+-- an answer without the number of settlement rows
+abbrev pub bytes_of : Result (ℕ × ℕ) Refused → Result ℕ Refused
+bytes_of (Ok counts) = Ok counts.1
+bytes_of (Err e) = Err e
+
+bytes-of : (x : Option Refusal) (m n : ℕ) (r : Result (ℕ × ℕ) Refused) → said r ≡ says x (m, n) → said (bytes_of r) ≡ says x n
+bytes-of none m n (Ok counts) e = let c : counts ≡ (m, n) = cc in ap (λ (k : ℕ × ℕ). Ok k.1) c
+bytes-of none m n (Err f) e = let z : ◌≡◌ {A = ℕ} 0 1 = cc in absurd (omega arith)
+bytes-of (some s) m n (Ok counts) e = let z : ◌≡◌ {A = ℕ} 0 1 = cc in absurd (omega arith)
+bytes-of (some s) m n (Err f) e = let c : sent_back f ≡ s = cc in ap Err c
+
+module _ (input : List ℕ) (a : Asked) (l : Some a ≡ request_of input) (h : length input ≤ input_most) (rows_before rows_after : List ℤ) (before after : List ℕ) (eʳ : length rows_before ≡ rows_lent) (eᶠ : length before ≡ file_lent) where
+  -- the parts are what the slices hold
+  parts-on : (r : Result (ℕ × ℕ) Refused)
+      → FileCalled (take (length input - a.book) (drop a.book input)) a.kind a.receiver (take (a.id + a.id_length - a.id) (drop a.id input)) (take (a.moment + 29 - a.moment) (drop a.moment input)) rows_before rows_after before after (said r)
+      → FileCalled (book_part input a) a.kind a.receiver (id_part input a) (moment_part input a) rows_before rows_after before after (said r)
+  parts-on r c =
       let b : take (length input - a.book) (drop a.book input) ≡ book_part input a = take_all (length input - a.book) (drop a.book input) (omega (arith, length-drop a.book input)) in
       let i : a.id + a.id_length - a.id ≡ a.id_length = omega arith in
       let m : a.moment + 29 - a.moment ≡ 29 = omega arith in
       rw (b, i, m) at c
 
-  module _ (h : length input ≤ input_most) (rows_before rows_after : List ℤ) (before after : List ℕ) (eʳ : length rows_before ≡ rows_lent) (eᶠ : length before ≡ file_lent) where
-    abbrev Called : FileAnswer → Type 0
-    Called r = FileCalled (book_part input a) a.kind a.receiver (id_part input a) (moment_part input a) rows_before rows_after before after r
+  called-on : (r : Result (ℕ × ℕ) Refused) → FileCalled (book_part input a) a.kind a.receiver (id_part input a) (moment_part input a) rows_before rows_after before after (said r) → Filed input rows_before rows_after before after (bytes_of r)
+  unfolding refusal_on text_on rows_on file_answer
+  called-on r c =
+      let f = found input a l in
+      let j : judged (length input) (line.parse input) ≡ refusal_on input a = refusal-on input f.words f.rest f.parsed h ∙ ap (refusal_on input) (sym f.is) in
+      let t : file_in (line.parse input) ≡ text_on input a = text-on input f.words f.rest f.parsed ∙ ap (text_on input) (sym f.is) in
+      let s : rows_in (line.parse input) ≡ rows_on input a = rows-on input f.words f.rest f.parsed ∙ ap (rows_on input) (sym f.is) in
+      record {
+        answer = rw (j, t) (bytes-of (refusal_on input a) (row_count (book_of (book_part input a))) (length (text_on input a)) r (rw (← eʳ, ← eᶠ) c.answer));
+        rows = rw (j, s, ← eʳ, ← eᶠ) c.rows;
+        file = rw (j, t, ← eʳ, ← eᶠ) c.file;
+      }
 
-    judged-on : judged (length input) (line.parse input) ≡ refusal_on input a
-    judged-on = let f = found input a l in refusal-on input f.words f.rest f.parsed h ∙ ap (refusal_on input) (sym f.is)
-
-    file-on : file_in (line.parse input) ≡ text_on input a
-    file-on = let f = found input a l in text-on input f.words f.rest f.parsed ∙ ap (text_on input) (sym f.is)
-
-    settled_on : rows_in (line.parse input) ≡ rows_on input a
-    settled_on = let f = found input a l in rows-on input f.words f.rest f.parsed ∙ ap (rows_on input) (sym f.is)
-
-    -- what a file call leaves, by its judgement
-    record Left (x : Option Refusal) (r : FileAnswer) : Type 0 where
-      answer : r ≡ file_says x (row_count (book_of (book_part input a))) (length (text_on input a))
-      rows : rows_after ≡ afterwards x (rows_on input a) rows_before
-      file : after ≡ afterwards x (text_on input a) before
-
-    left : (r : FileAnswer) → Called r → Left (refusal_on input a) r
-    unfolding refusal_on text_on rows_on file_answer
-    left r c =
-        record {
-          answer = rw (← eʳ, ← eᶠ) c.answer;
-          rows = rw (← eʳ, ← eᶠ) c.rows;
-          file = rw (← eʳ, ← eᶠ) c.file;
-        }
-
-    accepted-by : (x : Option Refusal) → refusal_on input a ≡ x → (n count : ℕ) → Left x (File n count) → Printed input rows_before rows_after before after count
-    unfolding output file_says afterwards
-    accepted-by none e n count k =
-        let c : count ≡ length (text_on input a) = cc k.answer in
-        record {
-          counted = rw (judged-on, e, file-on) c;
-          file = rw (judged-on, e, file-on) k.file;
-          rows = rw (judged-on, e, settled_on) k.rows;
-        }
-    accepted-by (some r) e n count k = let z : ◌≡◌ {A = ℕ} 0 1 = cc k.answer in absurd (omega arith)
-
-    pub file-accepted : (n count : ℕ) → Called (File n count) → Printed input rows_before rows_after before after count
-    file-accepted n count c = accepted-by (refusal_on input a) refl n count (left (File n count) c)
-
-    refused-by : (x : Option Refusal) → refusal_on input a ≡ x → (number item : ℕ) (out : List ℕ) (q : ℕ) → Left x (Refused number item)
-        → Wrote after 0 (refused_line number item) out q → Printed input rows_before rows_after before out q
-    unfolding file_says afterwards
-    refused-by none e number item out q k w = let z : ◌≡◌ {A = ℕ} 0 1 = cc k.answer in absurd (omega arith)
-    refused-by (some r) e number item out q k w =
-        let f : number ≡ r.number = cc k.answer in
-        let g : item ≡ r.item = cc k.answer in
-        let w' : Wrote before 0 (refused_line r.number r.item) out q = rw (← f, ← g, ← k.file) w in
-        rw k.rows (printed-refused input r rows_before before out q (judged-on ∙ e) w')
-
-    pub file-refused : (number item : ℕ) (out : List ℕ) (q : ℕ) → Called (Refused number item) → Wrote after 0 (refused_line number item) out q → Printed input rows_before rows_after before out q
-    file-refused number item out q c w = refused-by (refusal_on input a) refl number item out q (left (Refused number item) c) w
+  pub filed : (r : Result (ℕ × ℕ) Refused)
+      → FileCalled (take (length input - a.book) (drop a.book input)) a.kind a.receiver (take (a.id + a.id_length - a.id) (drop a.id input)) (take (a.moment + 29 - a.moment) (drop a.moment input)) rows_before rows_after before after (said r)
+      → Filed input rows_before rows_after before after (bytes_of r)
+  filed r c = called-on r (parts-on r c)

@@ -1,7 +1,10 @@
 -- Observations one position after the other, and those of a series' watts: they are the series' own.
-use Rattle.std.specs.Prelude.{◌≡◌, refl, true, List, [], ◌∷◌, ◌++◌, map, ℕ, suc, ◌+◌, ◌<◌, ◌≤◌, get_or}
-use Rattle.std.proofs.Common.{sym, ap, ◌∙◌, add-one, arith, lt-ltb}
+use Rattle.std.specs.Prelude.{◌≡◌, refl, true, List, [], ◌∷◌, ◌++◌, map, ℕ, suc, ◌+◌, ◌<◌, ◌≤◌, length, get_or, take, drop}
+use Rattle.std.proofs.Common.{sym, ap, ◌∙◌, add-one, arith, lt-ltb, take_at}
 use Rattle.std.proofs.lemmas.List.{map-append}
+use Rattle.std.proofs.Math.ListN.{length-map}
+use Rattle.std.proofs.Math.Seq.{drop-nil}
+use mathlib.Core.List.{append-nil}
 use Rattle.integers.specs.Ranges.{range}
 use Rattle.quarters.specs.declared.Calendar.{Calendar}
 use Rattle.quarters.specs.Quarters.{month_quarters}
@@ -21,7 +24,7 @@ use Rattle.reports.specs.FileRows.{is_written, observation_by, observations_by}
 use Rattle.series.specs.SumsInner.{by_position, cell_at, DeliveredIn}
 use Rattle.series.specs.SumsLaws.{parts-of, cell-is}
 use Rattle.partners.specs.ObservationsInner.{observation_if, observations_in}
-use Rattle.integers.proofs.RangesLaws.{range-more, map-range-cong}
+use Rattle.integers.proofs.RangesLaws.{range-more, map-range-cong, length-range}
 use Rattle.quarters.specs.QuartersInner.{Ranged, longest_month}
 use Rattle.reports.specs.FileRowsInner.{observations_of}
 
@@ -60,6 +63,16 @@ observations-are book kind receiver s before l n month e =
     rw (← month)
     (ap (keep is_written) (map-range-cong (λ p. observed (p, cell_at l p)) (λ p. observed (p, series_watts book kind receiver s p)) 1 n (λ p low high.
     ap (λ (w : ℕ). observed (p, w)) (ap (λ (t : List ℕ). cell_at t p) e ∙ cell-is (series_watts book kind receiver s) n before p low (omega arith)))))
+
+-- the same, of watts whose first positions only are lent
+pub observations-taken : (book : Book) (kind : Kind) (receiver : ℕ) (s : Series) (before l : List ℕ) (n : ℕ) → n ≡ month_quarters book.calendar → l ≡ by_position (series_watts book kind receiver s) (month_quarters book.calendar) before
+    → observations_in (take n l) (length (take n l)) ≡ observations_of book kind receiver s
+observations-taken book kind receiver s before l n month e =
+    let f = series_watts book kind receiver s in
+    let own : List ℕ = map f (range 1 n) in
+    let all : length own ≡ n = length-map (range 1 n) f ∙ length-range 1 n in
+    let first : take n l ≡ own = ap (take n) (e ∙ ap (λ (k : ℕ). by_position f k before) (sym month)) ∙ take_at own (drop n before) n all in
+    ap (observations_in (take n l)) (ap length first ∙ all) ∙ observations-are book kind receiver s [] (take n l) n month (first ∙ sym (ap (λ (r : List ℕ). own ++ r) (drop-nil n) ∙ append-nil own))
 
 -- ---- the month
 

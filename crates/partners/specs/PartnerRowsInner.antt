@@ -1,5 +1,5 @@
 -- A partner's file rows, as they are filled: series by series, position by position.
-use Rattle.std.specs.Prelude.{◌≡◌, ℕ, ◌+◌, ◌*◌, length}
+use Rattle.std.specs.Prelude.{◌≡◌, ℕ, ◌+◌, length}
 use mathlib.Core.List.{List, map, flat_map}
 use Rattle.std.proofs.lemmas.List.Edits.{sets}
 use Rattle.book.specs.declared.Supply.{Supply}
@@ -8,7 +8,7 @@ use Rattle.book.specs.Book.{Book}
 use Rattle.volumes.specs.declared.Series.{Series}
 use Rattle.volumes.specs.Series.{Kind, grains_at, series_of}
 use Rattle.message.specs.Contents.{Observation}
-use Rattle.message.specs.Rows.{Row, numbers}
+use Rattle.message.specs.Rows.{Row, row_numbers}
 use Rattle.reports.specs.FileRows.{supply_number, delivery_number, directions, Volumes, observations_by}
 use Rattle.quarters.specs.Quarters.{month_quarters}
 
@@ -33,7 +33,7 @@ series_rows_of book kind receiver = series_rows_by (grains_at book kind receiver
 abbrev pub partner_rows_of : Book → Kind → ℕ → ℕ → List Row
 partner_rows_of book kind receiver = partner_rows_by (grains_at book kind receiver) (month_quarters book.calendar)
 
--- rows are stored from number `at` on: what that leaves, and the place behind them
-pub record FileRowsFilled (rows : List Row) (before : List ℕ) (at : ℕ) (after : List ℕ) (next : ℕ) : Type 0 where
-  pub behind : next ≡ at + 6 * length rows
-  pub list : after ≡ sets before at (numbers rows)
+-- rows are stored from place `at` on, six numbers each: what that leaves, and the place behind them
+pub record FileRowsFilled (rows : List Row) (before : List (List ℕ)) (at : ℕ) (after : List (List ℕ)) (next : ℕ) : Type 0 where
+  pub behind : next ≡ at + length rows
+  pub list : after ≡ sets before at (map row_numbers rows)

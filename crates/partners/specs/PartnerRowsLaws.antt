@@ -1,12 +1,11 @@
 -- The rows that are filled of a partner are the file's, the writer can lay them, and lays the partner of them.
 use Rattle.std.specs.Prelude.{◌≡◌, refl, Bool, true, false, get_or, drop, set, ltb}
 use Rattle.std.proofs.Math.Path.{sym, ap}
-use Rattle.std.proofs.Common.{ap₂, subst, ◌∙◌, ⊎_elim, add-zero, arith, add-one, length-append, get_or-append-add, le-leb, le-ltb, lt-ltb}
+use Rattle.std.proofs.Common.{ap₂, subst, take, take_at, ◌∙◌, ⊎_elim, arith, length-append, le-leb, le-ltb, lt-ltb}
 use Rattle.std.proofs.Math.Bool.{cond}
 use mathlib.Core.List.Memᴰ
 use mathlib.Core.List.{List, [], ◌∷◌, ◌++◌, map, flat_map, map-map, map-append, append_assoc, append-nil, Memᴰ}
-use Prim.Native.Nat.{ℕ, zero, suc, ◌+◌, ◌*◌, ◌≤◌, ◌<◌}
-use Rattle.std.proofs.Math.Numerals.{add-two}
+use Prim.Native.Nat.{ℕ, ◌+◌, ◌≤◌, ◌<◌}
 use Rattle.std.proofs.Math.ListN.{length, length-map}
 use Rattle.std.proofs.lemmas.List.Edits.{sets, sets-eq}
 use Rattle.std.proofs.Math.Seq.{length-sets}
@@ -32,14 +31,13 @@ use Rattle.volumes.specs.SoundInner.{Sound}
 use Rattle.volumes.specs.Settlement.{rows}
 use Rattle.settlement.specs.StoresLaws.{sets-append}
 use Rattle.message.specs.Contents.{Observation, TimeSeries, Partner, number}
-use Rattle.message.specs.Valid.{month_of, periods, IsPartner, IsPeriod}
+use Rattle.message.specs.Valid.{month_of, periods, IsPartner}
 use Rattle.message.specs.Bytes.{partner_bytes}
 use Rattle.message.specs.Reading.{observed}
 use Rattle.message.specs.Group.{spread}
-use Rattle.message.specs.Rows.{Row, row_numbers, numbers, rows_from, series_rows, rows_of, partners_of as regrouped}
+use Rattle.message.specs.Rows.{Row, row_numbers, series_rows, rows_of, partners_of as regrouped}
 use Rattle.message.proofs.RowsLaws.{partners-undo}
-use Rattle.message.proofs.SixesLaws.{length-numbers}
-use Rattle.writer.specs.ContentsInner.{partners_in, Writable}
+use Rattle.writer.specs.ContentsInner.{partners_in}
 use Rattle.reports.specs.FileRows.{supply_number, delivery_number, directions, partner_numbers, is_written, partners_of, Volumes, observations_by, time_series_by, partner_by, partners_by}
 use Rattle.partners.specs.PartnersInner.{partner_if, partner_column, no_partner, Next}
 use Rattle.series.specs.SumsInner.{cell_at}
@@ -49,13 +47,12 @@ use Rattle.reports.specs.RegisteredInner.{Registered}
 use Rattle.reports.proofs.FormLaws.{partners-valid}
 use Rattle.partners.specs.PartnerRowsInner.{row_of, rows_by, series_rows_of, partner_rows_of, FileRowsFilled, series_rows_by, partner_rows_by}
 use Rattle.quarters.specs.Quarters.{month_quarters}
-use Rattle.integers.proofs.AllLaws.{each_all, all-each, all_append}
+use Rattle.integers.proofs.AllLaws.{each_all, all-each}
 use Rattle.integers.proofs.CountsLaws.{times-mem}
 use Rattle.integers.proofs.RangesLaws.{length-range}
 use Rattle.message.proofs.GroupLaws.{first_group}
 use Rattle.reports.specs.FileRowsInner.{observations_of, partner_at}
-use Rattle.writer.specs.RowsInner.{row_at, Directed}
-use Rattle.integers.proofs.ListsLaws.{flat_map-append}
+use Rattle.writer.specs.RowsInner.{row_in}
 
 -- ---- lists
 
@@ -156,9 +153,9 @@ module _ (book : Book) (kind : Kind) (receiver partner : ℕ) where
         ∙ partners-undo kind q (partner_if book kind receiver partner) partner-rises partner-ok (partner-month volumes q (month_quarters book.calendar) partner)
 
     -- what the writer's emitter lays of them
-    pub partner-bytes : (l : List ℕ) (n : ℕ) → rows_from l 0 n ≡ partner_rows_of book kind receiver partner
-        → flat_map (partner_bytes kind) (partners_in (book.calendar.year, book.calendar.month) l 0 n) ≡ flat_map (partner_bytes kind) (partner_if book kind receiver partner)
-    partner-bytes l n e = ap (flat_map (partner_bytes kind)) (ap (regrouped (book.calendar.year, book.calendar.month)) e ∙ partner-again)
+    pub partner-bytes : (rows : List (List ℕ)) → map row_in rows ≡ partner_rows_of book kind receiver partner
+        → flat_map (partner_bytes kind) (partners_in (book.calendar.year, book.calendar.month) rows) ≡ flat_map (partner_bytes kind) (partner_if book kind receiver partner)
+    partner-bytes rows e = ap (flat_map (partner_bytes kind)) (ap (regrouped (book.calendar.year, book.calendar.month)) e ∙ partner-again)
 
 -- ---- how many partners that is, and which numbers a scan finds
 
@@ -174,11 +171,11 @@ module _ (book : Book) (kind : Kind) (receiver partner : ℕ) (sound : Sound boo
   unfolding partner_if
   one-partner = keep-length (λ (p : Partner). is_some p.series) (partner_at book kind receiver partner ∷ [])
 
-  pub partner-count : (end : ℕ) → end ≡ 6 * length (partner_rows_of book kind receiver partner) → cond (ltb 0 end) 1 0 ≡ length (partner_if book kind receiver partner)
+  pub partner-count : (end : ℕ) → end ≡ length (partner_rows_of book kind receiver partner) → cond (ltb 0 end) 1 0 ≡ length (partner_if book kind receiver partner)
   unfolding regrouped group
   partner-count end e = go (partner_rows_of book kind receiver partner) e (ap length (partner-again book kind receiver partner sound registered known))
     where
-      go : (rows : List Row) → end ≡ 6 * length rows → length (regrouped (book.calendar.year, book.calendar.month) rows) ≡ length (partner_if book kind receiver partner) → cond (ltb 0 end) 1 0 ≡ length (partner_if book kind receiver partner)
+      go : (rows : List Row) → end ≡ length rows → length (regrouped (book.calendar.year, book.calendar.month) rows) ≡ length (partner_if book kind receiver partner) → cond (ltb 0 end) 1 0 ≡ length (partner_if book kind receiver partner)
       go [] e f = rw (le-ltb 0 end (omega arith)) f
       go (x ∷ rows) e f = rw (lt-ltb 0 end (omega arith)) (omega (arith, one-partner, group-some {n = length (partner_if book kind receiver partner)} (book.calendar.year, book.calendar.month) x rows (omega (arith, f))))
 
@@ -188,75 +185,46 @@ next_known book kind receiver low next s h =
     let column = partner_column book.points kind receiver in
     times-mem next (ascending column) (omega (arith, (ascending-once column).once next (s.member h).0))
 
--- ---- numbers that are stored read as their rows, whatever stands behind them
-
-at : (p s : List ℕ) (j : ℕ) → get_or (p ++ s) (length p + j) 0 ≡ get_or s j 0
-at p s j = get_or-append-add p s j 0
-
-row-stands : (p : List ℕ) (r : Row) (s : List ℕ) → row_at (p ++ (row_numbers r ++ s)) (length p) ≡ r
-unfolding row_numbers
-row-stands p r s =
-    let t = row_numbers r ++ s in
-    let a = ap (λ (n : ℕ). get_or (p ++ t) n 0) (sym (add-zero (length p))) ∙ at p t 0 in
-    let b = at p t 1 in
-    let c = at p t 2 in
-    let d = at p t 3 in
-    let e = at p t 4 in
-    λ i. (a i, ((b i, c i), record { position = d i; watts = e i }))
-
-longer : (p : List ℕ) (r : Row) → length (p ++ row_numbers r) ≡ length p + 6
-unfolding row_numbers
-longer p r = length-append p (row_numbers r)
-
-rows-stand : (p : List ℕ) (rows : List Row) (s : List ℕ) → rows_from (p ++ (numbers rows ++ s)) (length p) (length rows) ≡ rows
-unfolding rows_from numbers flat_map
-rows-stand p [] s = refl
-rows-stand p (r ∷ rows) s =
-    let l : List ℕ = p ++ (numbers (r ∷ rows) ++ s) in
-    let e : l ≡ p ++ (row_numbers r ++ (numbers rows ++ s)) = ap (λ t. p ++ t) (append_assoc (row_numbers r) (numbers rows) s) in
-    let f : l ≡ (p ++ row_numbers r) ++ (numbers rows ++ s) = e ∙ sym (append_assoc p (row_numbers r) (numbers rows ++ s)) in
-    ap₂ ◌∷◌ (ap (λ (t : List ℕ). row_at t (length p)) e ∙ row-stands p r (numbers rows ++ s))
-    (ap₂ (λ (t : List ℕ) (k : ℕ). rows_from t k (length rows)) f (sym (longer p r)) ∙ rows-stand (p ++ row_numbers r) rows s)
-
-pub filled-stand : (rows : List Row) (before after : List ℕ) (next : ℕ) → FileRowsFilled rows before 0 after next → 6 * length rows ≤ length before → rows_from after 0 (length rows) ≡ rows
-filled-stand rows before after next f h =
-    ap (λ (t : List ℕ). rows_from t 0 (length rows)) (f.list ∙ sets-eq (numbers rows) before 0 (omega (arith, length-numbers rows)))
-    ∙ rows-stand [] rows (drop (0 + length (numbers rows)) before)
-
 -- ---- rows stored one behind the other
 
-pub filled_none : (before : List ℕ) (at : ℕ) → FileRowsFilled [] before at before at
-unfolding numbers flat_map
+rows-again : (rows : List Row) → map row_in (map row_numbers rows) ≡ rows
+unfolding row_numbers
+rows-again [] = refl
+rows-again (r ∷ rows) = ap (λ (l : List Row). r ∷ l) (rows-again rows)
+
+pub filled_none : (before : List (List ℕ)) (at : ℕ) → FileRowsFilled [] before at before at
 filled_none before at = record { behind = omega arith; list = refl }
 
-pub filled-then : {a b : List Row} {before mid after : List ℕ} {at next last : ℕ} → FileRowsFilled a before at mid next → FileRowsFilled b mid next after last → FileRowsFilled (a ++ b) before at after last
-unfolding numbers
+pub filled-then : {a b : List Row} {before mid after : List (List ℕ)} {at next last : ℕ} → FileRowsFilled a before at mid next → FileRowsFilled b mid next after last → FileRowsFilled (a ++ b) before at after last
 filled-then {a} {b} {before} {mid} {after} {at} {next} {last} f g =
-    let n : length (numbers a) ≡ 6 * length a = length-numbers a in
-    let e : next ≡ at + length (numbers a) = omega (arith, f.behind, n) in
+    let e : next ≡ at + length (map row_numbers a) = omega (arith, f.behind, length-map a row_numbers) in
     record {
       behind = omega (arith, f.behind, g.behind, length-append a b);
       list =
           g.list
-          ∙ ap₂ (λ (t : List ℕ) (k : ℕ). sets t k (numbers b)) f.list e
-          ∙ sets-append before at (numbers a) (numbers b)
-          ∙ ap (sets before at) (sym (flat_map-append row_numbers a b));
+          ∙ ap₂ (λ (t : List (List ℕ)) (k : ℕ). sets t k (map row_numbers b)) f.list e
+          ∙ sets-append before at (map row_numbers a) (map row_numbers b)
+          ∙ ap (sets before at) (sym (map-append row_numbers a b));
     }
 
-pub filled_is : {a : List Row} {before after : List ℕ} {at next : ℕ} (b : List Row) → a ≡ b → FileRowsFilled a before at after next → FileRowsFilled b before at after next
+pub filled_is : {a : List Row} {before after : List (List ℕ)} {at next : ℕ} (b : List Row) → a ≡ b → FileRowsFilled a before at after next → FileRowsFilled b before at after next
 filled_is {a} {before} {after} {at} {next} b e f = subst (λ (r : List Row). FileRowsFilled r before at after next) e f
 
-pub filled-length : {a : List Row} {before after : List ℕ} {at next : ℕ} → FileRowsFilled a before at after next → length after ≡ length before
-filled-length {a} {before} {after} {at} {next} f = ap length f.list ∙ length-sets before at (numbers a)
+pub filled-length : {a : List Row} {before after : List (List ℕ)} {at next : ℕ} → FileRowsFilled a before at after next → length after ≡ length before
+filled-length {a} {before} {after} {at} {next} f = ap length f.list ∙ length-sets before at (map row_numbers a)
 
-pub filled_row : (l : List ℕ) (at : ℕ) (s : Series) (u v p w : ℕ) → u ≡ supply_number s.supply → v ≡ delivery_number s.delivery
-    → FileRowsFilled (row_of s (observed (p, w)) ∷ []) l at (set (set (set (set (set (set l at s.partner) (at + 1) u) (at + 2) v) (at + 3) p) (at + 4) w) (at + 5) 0) (at + 6)
-unfolding numbers row_numbers flat_map
-filled_row l at s u v p w f g =
-    let c : at + 3 ≡ suc (suc (suc at)) = omega arith in
-    let d : at + 4 ≡ suc (suc (suc (suc at))) = omega arith in
-    let e : at + 5 ≡ suc (suc (suc (suc (suc at)))) = omega arith in
-    record { behind = omega arith; list = rw (f, g, add-one, add-two, c, d, e) }
+pub filled_row : (l : List (List ℕ)) (at : ℕ) (s : Series) (u v p w : ℕ) → u ≡ supply_number s.supply → v ≡ delivery_number s.delivery
+    → FileRowsFilled (row_of s (observed (p, w)) ∷ []) l at (set l at (s.partner ∷ u ∷ v ∷ p ∷ w ∷ 0 ∷ [])) (at + 1)
+unfolding row_numbers
+filled_row l at s u v p w f g = record { behind = omega arith; list = rw (f, g) }
+
+-- the first places are the rows
+pub filled-stand : (rows : List Row) (before after : List (List ℕ)) (next : ℕ) → FileRowsFilled rows before 0 after next → length rows ≤ length before → map row_in (take next after) ≡ rows
+filled-stand rows before after next f h =
+    let n : length (map row_numbers rows) ≡ next = omega (arith, f.behind, length-map rows row_numbers) in
+    ap (map row_in)
+    (ap (take next) (f.list ∙ sets-eq (map row_numbers rows) before 0 (omega (arith, length-map rows row_numbers))) ∙ take_at (map row_numbers rows) (drop (0 + length (map row_numbers rows)) before) next n)
+    ∙ rows-again rows
 
 -- ---- the rows of a series, position by position
 
@@ -301,44 +269,3 @@ module _ (book : Book) (kind : Kind) (receiver : ℕ) where
       let c = rows Injection Up in
       let d = rows Injection Down in
       append_assoc (a ++ b) c d ∙ append_assoc a b (c ++ d) ∙ ap (λ (r : List Row). a ++ (b ++ (c ++ r))) (sym (append-nil d))
-
--- ---- the writer can lay them
-
-directed-all : (l : List ℕ) (at n : ℕ) → All (λ (r : Row). (r.1.0.0 < 2) × (r.1.0.1 < 2)) (rows_from l at n) → (j : ℕ) → j < n → Directed l (at + 6 * j)
-unfolding rows_from All
-directed-all l at zero h j k = absurd (omega (arith, k))
-directed-all l at (suc n) h zero k = subst (λ (p : ℕ). Directed l p) (omega arith) (record { supply = h.0.0; delivery = h.0.1 })
-directed-all l at (suc n) h (suc j) k = subst (λ (p : ℕ). Directed l p) (omega arith) (directed-all l (at + 6) n h.1 j (omega (arith, k)))
-
-supply-small : (u : Supply) → supply_number u < 2
-unfolding supply_number
-supply-small OffTake = omega arith
-supply-small Injection = omega arith
-
-delivery-small : (v : Direction) → delivery_number v < 2
-unfolding delivery_number
-delivery-small Up = omega arith
-delivery-small Down = omega arith
-
-module _ (book : Book) (kind : Kind) (receiver partner : ℕ) where
-  abbrev Small : Row → Type 0
-  Small r = (r.1.0.0 < 2) × (r.1.0.1 < 2)
-
-  by-small : (s : Series) (l : List Observation) → All Small (rows_by s l)
-  unfolding rows_by All
-  by-small s [] = tt
-  by-small s (o ∷ l) = ((supply-small s.supply, delivery-small s.delivery), by-small s l)
-
-  series-small : (l : List (Supply × Direction)) → All Small (flat_map (λ (d : Supply × Direction). series_rows_of book kind receiver (series_of partner d.0 d.1)) l)
-  unfolding flat_map series_rows_by All
-  series-small [] = tt
-  series-small (d ∷ l) =
-      let s = series_of partner d.0 d.1 in
-      all_append Small (series_rows_of book kind receiver s) (flat_map (λ (d : Supply × Direction). series_rows_of book kind receiver (series_of partner d.0 d.1)) l)
-      (by-small s (observations_by (grains_at book kind receiver s) (month_quarters book.calendar)))
-      (series-small l)
-
-  pub partner-writable : (l : List ℕ) (n year month : ℕ) → 6 * n ≤ length l → rows_from l 0 n ≡ partner_rows_of book kind receiver partner → IsPeriod year month → Writable l 0 n year month
-  unfolding partner_rows_by
-  partner-writable l n year month w e p =
-      record { within = omega arith; directed = directed-all l 0 n (subst (All Small) (sym e) (series-small directions)); period = λ h. p }

@@ -1,17 +1,18 @@
-// A partner's file rows, filled from a book's delivered volumes: six numbers each, as the write call takes them.
-ghost use Rattle.std.specs.Prelude.{◌≡◌, ◌∷◌, [], ◌+◌, ◌*◌, ◌≤◌, length};
+// A partner's file rows, filled from a book's delivered volumes: six numbers each, as the writer takes them.
+ghost use Rattle.std.specs.Prelude.{◌≡◌, ◌∷◌, [], ◌+◌, ◌*◌, ◌≤◌, ◌<◌, length};
 ghost use Rattle.book.specs.Book.{book_of};
 ghost use Rattle.message.specs.Reading.{observed};
 ghost use Rattle.reports.specs.FileRows.{supply_number, delivery_number};
-ghost use Rattle.series.specs.SumsInner.{DeliveredIn};
 ghost use Rattle.partners.specs.ObservationsInner.{observation_if, observations_in};
 ghost use Rattle.partners.specs.PartnerRowsInner.{row_of, rows_by, series_rows_of, partner_rows_of, FileRowsFilled};
+ghost use Rattle.volumes.specs.Series.{series_of};
 ghost use Rattle.quarters.specs.QuartersInner.{longest_month};
 
 use book::{Direction, Supply};
-use series::Role;
-use series::sums::series_watts;
+use series::sums::Delivered;
+use series::{FileSeries, Role};
 use volumes::Series;
+use writer::FileRow;
 
 // The directions as a file's rows have them.
 fn supply_number(supply: Supply) -> u64
@@ -32,27 +33,20 @@ fn delivery_number(delivery: Direction) -> u64
     }
 }
 
-// The six numbers of a row, from `at` on; the place behind them.
-fn push_row(rows: &mut [u64], at: usize, s: Series, position: u64, watts: u64) -> usize
-    requires { at + 6 ≤ length rows.old }
+// A row at `at`; the place behind it.
+fn push_row(rows: &mut [FileRow], at: usize, s: Series, position: u64, watts: u64) -> usize
+    requires { at < length rows.old }
     ensures { FileRowsFilled (row_of s (observed (position, watts)) ∷ []) rows.old at rows.new result }
 {
-    let supply = s.supply;
-    let delivery = s.delivery;
-    let row_supply = supply_number(supply);
-    let row_delivery = delivery_number(delivery);
-    rows[at] = s.partner;
-    rows[at + 1] = row_supply;
-    rows[at + 2] = row_delivery;
-    rows[at + 3] = position;
-    rows[at + 4] = watts;
-    rows[at + 5] = 0;
-    at + 6
+    let supply = supply_number(s.supply);
+    let delivery = delivery_number(s.delivery);
+    rows[at] = [s.partner, supply, delivery, position, watts, 0];
+    at + 1
 }
 
 // A position's row, if it has watts.
-fn push_position(rows: &mut [u64], at: usize, s: Series, position: u64, watts: u64) -> usize
-    requires { at + 6 ≤ length rows.old }
+fn push_position(rows: &mut [FileRow], at: usize, s: Series, position: u64, watts: u64) -> usize
+    requires { at < length rows.old }
     ensures { FileRowsFilled (rows_by s (observation_if position watts)) rows.old at rows.new result }
 {
     if watts == 0 {
@@ -61,77 +55,67 @@ fn push_position(rows: &mut [u64], at: usize, s: Series, position: u64, watts: u
     push_row(rows, at, s, position, watts)
 }
 
-// The rows of a series whose watts stand at the first n positions.
-pub fn push_watts(rows: &mut [u64], start: usize, s: Series, watts: &[u64], n: usize) -> usize
-    requires { (n ≤ length watts.now) × (start + 6 * n ≤ length rows.old) }
-    ensures { FileRowsFilled (rows_by s (observations_in watts.now n)) rows.old start rows.new result }
+// The rows of a series whose watts stand by position.
+pub fn push_watts(rows: &mut [FileRow], start: usize, s: Series, watts: &[u64]) -> usize
+    requires { start + length watts.now ≤ length rows.old }
+    ensures { FileRowsFilled (rows_by s (observations_in watts.now (length watts.now))) rows.old start rows.new result }
 {
     let mut at = start;
-    let mut i = 0;
-    while i < n {
-        let position = i + 1;
-        at = push_position(rows, at, s, position as u64, watts[i]);
-        i += 1;
+    for i in 0..watts.len() {
+        at = push_position(rows, at, s, i as u64 + 1, watts[i]);
     }
     at
 }
 
 // The rows of a series of a book, from `at` on.
-pub fn fill_series(
-    book: &[u8],
-    volumes: &[u64],
-    role: Role,
-    s: Series,
-    rows: &mut [u64],
-    at: usize,
-) -> usize
-    requires { DeliveredIn book.now volumes.now × (at + 6 * longest_month ≤ length rows.old) }
-    ensures { FileRowsFilled (series_rows_of (book_of book.now) role.kind role.receiver s) rows.old at rows.new result × (result ≤ at + 6 * longest_month) }
+pub fn fill_series(delivered: &Delivered, s: FileSeries, rows: &mut [FileRow], at: usize) -> usize
+    requires { at + longest_month ≤ length rows.old }
+    ensures { FileRowsFilled (series_rows_of (book_of delivered.now.book.now) s.role.kind s.role.receiver s.series) rows.old at rows.new result × (result ≤ at + longest_month) }
 {
     let mut watts = [0u64; quarters::LONGEST_MONTH];
-    series_watts(book, volumes, role, s, &mut watts);
-    let c = book::header::calendar_of(book);
-    let n = quarters::month_quarters(c);
-    push_watts(rows, at, s, &watts, n)
+    delivered.series_watts(s, &mut watts);
+    push_watts(rows, at, s.series, &watts[..delivered.c.month_quarters()])
 }
 
-// The rows of a partner, four series of a longest month at most: the numbers that they take.
-pub fn fill_partner(
-    book: &[u8],
-    volumes: &[u64],
-    role: Role,
-    partner: u64,
-    rows: &mut [u64],
-) -> usize
-    requires { DeliveredIn book.now volumes.now × (24 * longest_month ≤ length rows.old) }
-    ensures { FileRowsFilled (partner_rows_of (book_of book.now) role.kind role.receiver partner) rows.old 0 rows.new result × (result ≤ 24 * longest_month) }
+// A partner's series of a receiver's file.
+fn series_to(role: Role, partner: u64, supply: Supply, delivery: Direction) -> FileSeries
+    ensures { (result.role ≡ role) × (result.series ≡ series_of partner supply delivery) }
 {
-    let off = Supply::OffTake;
-    let inj = Supply::Injection;
-    let up = Direction::Up;
-    let down = Direction::Down;
-    let off_up = Series {
+    let series = Series {
         partner,
-        supply: off,
-        delivery: up,
+        supply,
+        delivery,
     };
-    let off_down = Series {
-        partner,
-        supply: off,
-        delivery: down,
-    };
-    let inj_up = Series {
-        partner,
-        supply: inj,
-        delivery: up,
-    };
-    let inj_down = Series {
-        partner,
-        supply: inj,
-        delivery: down,
-    };
-    let a = fill_series(book, volumes, role, off_up, rows, 0);
-    let b = fill_series(book, volumes, role, off_down, rows, a);
-    let c = fill_series(book, volumes, role, inj_up, rows, b);
-    fill_series(book, volumes, role, inj_down, rows, c)
+    FileSeries { role, series }
+}
+
+// The rows of a partner, four series of a longest month at most: how many they are.
+pub fn fill_partner(delivered: &Delivered, role: Role, partner: u64, rows: &mut [FileRow]) -> usize
+    requires { 4 * longest_month ≤ length rows.old }
+    ensures { FileRowsFilled (partner_rows_of (book_of delivered.now.book.now) role.kind role.receiver partner) rows.old 0 rows.new result × (result ≤ 4 * longest_month) }
+{
+    let a = fill_series(
+        delivered,
+        series_to(role, partner, Supply::OffTake, Direction::Up),
+        rows,
+        0,
+    );
+    let b = fill_series(
+        delivered,
+        series_to(role, partner, Supply::OffTake, Direction::Down),
+        rows,
+        a,
+    );
+    let c = fill_series(
+        delivered,
+        series_to(role, partner, Supply::Injection, Direction::Up),
+        rows,
+        b,
+    );
+    fill_series(
+        delivered,
+        series_to(role, partner, Supply::Injection, Direction::Down),
+        rows,
+        c,
+    )
 }

@@ -1,1 +1,1 @@
-pub mod PassagesInner
+pub mod ViewsInner

@@ -1,208 +1,133 @@
-// Passages: parts of a file that are passed in one go. The cursor that was lent is lent on, to one call after another, and what they find is told. What a
-// file's kind decides is read by value (`.._by`).
+// Passages: the parts of a file that hold no list. Each goes on from where the cursor stands, and is read as its form says.
 #![tactic(auto)]
 
-ghost use Rattle.std.specs.Prelude.{◌≡◌};
-ghost use Rattle.passages.specs.PassagesInner.{observation_found, observation_to, month_found, month_to, volume_found, volume_to, message_found, message_to, behind_month_by, own_start, shared_start, company_found, access_found, receiver_found};
+ghost use Rattle.std.specs.Prelude.{[], ◌∷◌, ◌≡◌, ◌≤◌, true, option_map, IfSome, take, drop};
+ghost use Rattle.formats.specs.Words.{words_parse};
+ghost use Rattle.formats.specs.Name.{name_byte, name_parse};
+ghost use Rattle.formats.specs.Combine.{strip};
+ghost use Rattle.formats.specs.Exactly.{exactly_parse};
+ghost use Rattle.cursor.specs.ReadsInner.{Reads};
+ghost use Rattle.message.specs.Valid.{is_moment};
+ghost use Rattle.message.specs.Reading.{quantity_parse, observation_parse, period_parse, behind_month, position_parse, month_parse};
+ghost use Rattle.passages.specs.ViewsInner.{bit, observation_of, numbers_of, year_and_month, month_in};
 
-use cursor::{Cursor, Read};
+use calendar::dates::Month;
+use cursor::Cursor;
 
-// An observation's position and its kilowatts, whole and three decimals.
-#[derive(Clone, Copy)]
-pub struct ObservationFound {
+// Watts, written as kilowatts with three decimals.
+#[tactic(auto, unfolding(message::specs::Reading::quantity_parse, formats::specs::Exactly::fixed_parse, formats::specs::Combine::map_parse, formats::specs::Combine::seq_parse))]
+pub fn quantity(c: &mut Cursor) -> Option<u64>
+    ensures { Reads quantity_parse c.old c.new result }
+{
+    let whole = c.number(46, 999999999)?;
+    let part = c.fixed(3)?;
+    Some(whole * 1000 + part)
+}
+
+// An observation's position in its month, and its watts.
+#[derive(Clone, Copy, Debug, PartialEq, Eq)]
+pub struct Observed {
     pub position: u64,
-    pub whole: u64,
-    pub part: u64,
+    pub watts: u64,
 }
 
-// Past an observation.
-pub fn observation(c: &mut Cursor, s: &[u8]) -> ObservationFound
-    ensures { (c.new ≡ observation_to s.now c.old) × (result ≡ observation_found s.now c.old) }
+// An observation of any position and watts.
+#[tactic(auto, unfolding(text::specs::Ascii::bytes, message::specs::Bytes::opening, message::specs::Bytes::ending, message::specs::Bytes::closing, message::specs::Reading::position_parse, message::specs::Reading::plain_parse, formats::specs::Combine::pre_parse, formats::specs::Combine::post_parse, formats::specs::Combine::seq_parse))]
+fn position(c: &mut Cursor) -> Option<Observed>
+    ensures { Reads position_parse c.old c.new (option_map numbers_of result) }
 {
-    cursor::past_tag(c, s, b"<Observation><Position>");
-    let position = cursor::past_number(c, s, 60, 18446744073709551615);
-    cursor::past_tag(c, s, b"/Position><Quantity>");
-    let whole = cursor::past_number(c, s, 46, 999999999);
-    let part = cursor::past_fixed(c, s, 3);
-    cursor::past_tag(c, s, b"</Quantity></Observation>");
-    ObservationFound {
-        position,
-        whole,
-        part,
+    c.tag(b"<Observation><Position>")?;
+    let position = c.number(60, u64::MAX)?;
+    c.tag(b"/Position><Quantity>")?;
+    let watts = quantity(c)?;
+    c.tag(b"</Quantity></Observation>")?;
+    Some(Observed { position, watts })
+}
+
+// An observation of a month with so many positions.
+#[tactic(auto, unfolding(message::specs::Reading::observation_parse, formats::specs::Combine::map_parse, formats::specs::Combine::only_parse))]
+pub fn observation(c: &mut Cursor, last: u64) -> Option<Observed>
+    ensures { Reads (observation_parse last) c.old c.new (option_map observation_of result) }
+{
+    let o = position(c)?;
+    if last < o.position {
+        return None;
     }
-}
-
-// The month in which a period starts.
-#[derive(Clone, Copy)]
-pub struct MonthFound {
-    pub year: u64,
-    pub month: u64,
-}
-
-// Past the year and the month of a period's first moment.
-pub fn month(c: &mut Cursor, s: &[u8]) -> MonthFound
-    ensures { (c.new ≡ month_to s.now c.old) × (result ≡ month_found s.now c.old) }
-{
-    cursor::past_tag(c, s, b"<PeriodStart>");
-    let year = cursor::past_fixed(c, s, 4);
-    cursor::past_tag(c, s, b"-");
-    let month = cursor::past_fixed(c, s, 2);
-    MonthFound { year, month }
-}
-
-// A time series' delivery direction and its counter of observations.
-#[derive(Clone, Copy)]
-pub struct VolumeFound {
-    pub delivery: u64,
-    pub count: u64,
-}
-
-// Past the start of a time series' volume.
-pub fn volume(c: &mut Cursor, s: &[u8]) -> VolumeFound
-    ensures { (c.new ≡ volume_to s.now c.old) × (result ≡ volume_found s.now c.old) }
-{
-    cursor::past_tag(c, s, b"<DeliveryDirection>");
-    let delivery = cursor::past_word(c, s, b"DeliveryUp", b"DeliveryDown");
-    cursor::past_tag(
-        c,
-        s,
-        b"</DeliveryDirection><UnitType>KWT</UnitType><ObservationCounter>",
-    );
-    let count = cursor::past_counter(c, s);
-    cursor::past_tag(c, s, b"/ObservationCounter><TimeSeriesPeriod>");
-    VolumeFound { delivery, count }
-}
-
-// Where a file's ID starts and ends, and where its moment starts.
-#[derive(Clone, Copy)]
-pub struct MessageFound {
-    pub id: Cursor,
-    pub end: Cursor,
-    pub moment: Cursor,
-}
-
-// Past a file's ID, up to its moment.
-pub fn message(c: &mut Cursor, s: &[u8]) -> MessageFound
-    ensures { (c.new ≡ message_to s.now c.old) × (result ≡ message_found s.now c.old) }
-{
-    cursor::past_tag(c, s, b"<TransactionID>");
-    let id = *c;
-    cursor::past_name(c, s, 1, 36, 60);
-    let end = *c;
-    cursor::past_tag(c, s, b"/TransactionID><MessageCreateDateTime>");
-    let moment = *c;
-    MessageFound { id, end, moment }
-}
-
-// What stands behind the year and month of a period: the rest of its first moment, and its end.
-pub fn behind_month_by(c: Cursor, s: &[u8], rest: &[u8], end: &[u8]) -> Cursor
-    ensures { result ≡ behind_month_by s.now c rest.now end.now }
-{
-    let a = cursor::tag_by(c, s, rest);
-    let b = cursor::tag_by(a, s, b"</PeriodStart><PeriodEnd>");
-    let d = cursor::tag_by(b, s, end);
-    cursor::tag_by(
-        d,
-        s,
-        b"</PeriodEnd><PeriodResolution>PT15M</PeriodResolution>",
-    )
-}
-
-// The start of a time series that has its own supply direction.
-pub fn own_start_by(c: Cursor, s: &[u8]) -> Read
-    ensures { result ≡ own_start s.now c }
-{
-    let a = cursor::tag_by(c, s, b"<ToETimeSeries><SupplyDirection>");
-    let x = cursor::word_by(a, s, b"Off-take", b"Injection");
-    let b = x.to;
-    let to = cursor::tag_by(b, s, b"</SupplyDirection>");
-    Read { to, value: x.value }
-}
-
-// The start of a time series that has the supply direction of its access point.
-pub fn shared_start_by(c: Cursor, s: &[u8], supply: u64) -> Read
-    ensures { result ≡ shared_start s.now c supply }
-{
-    let to = cursor::tag_by(c, s, b"<ToETimeSeries>");
-    Read { to, value: supply }
-}
-
-// The number of a supplier or an FSP and its counter of series.
-#[derive(Clone, Copy)]
-pub struct CompanyFound {
-    pub number: u64,
-    pub count: u64,
-    pub to: Cursor,
-}
-
-pub fn company_by(c: Cursor, s: &[u8], before: &[u8], behind: &[u8]) -> CompanyFound
-    ensures { result ≡ company_found s.now c before.now behind.now }
-{
-    let a = cursor::tag_by(c, s, before);
-    let k = cursor::fixed_by(a, s, 10);
-    let b = k.to;
-    let d = cursor::tag_by(b, s, behind);
-    let n = cursor::counter_by(d, s);
-    let e = n.to;
-    let to = cursor::tag_by(e, s, b"/DirectionCounter>");
-    CompanyFound {
-        number: k.value,
-        count: n.value,
-        to,
+    if o.watts == 0 {
+        return None;
     }
+    Some(o)
 }
 
-// An access point's EAN, its supply direction and its counter of series.
-#[derive(Clone, Copy)]
-pub struct AccessFound {
-    pub number: u64,
-    pub supply: u64,
-    pub count: u64,
-    pub to: Cursor,
-}
-
-pub fn access_by(c: Cursor, s: &[u8]) -> AccessFound
-    ensures { result ≡ access_found s.now c }
+// The month that a year and a number of a month make, from 2018 to 2099.
+fn month_of(year: u64, month: u64) -> Option<Month>
+    ensures month { option_map year_and_month result ≡ month_in (year, month) }
+    ensures early { IfSome result (λ m. m.year ≤ 2099) }
 {
-    let a = cursor::tag_by(c, s, b"<SDPSupplySeries><SDPSupply>");
-    let k = cursor::fixed_by(a, s, 18);
-    let b = k.to;
-    let d = cursor::tag_by(b, s, b"</SDPSupply><SupplyDirection>");
-    let x = cursor::word_by(d, s, b"Off-take", b"Injection");
-    let e = x.to;
-    let f = cursor::tag_by(e, s, b"</SupplyDirection><DirectionCounter>");
-    let n = cursor::counter_by(f, s);
-    let g = n.to;
-    let to = cursor::tag_by(g, s, b"/DirectionCounter>");
-    AccessFound {
-        number: k.value,
-        supply: x.value,
-        count: n.value,
-        to,
+    if !message::is_period(year, month) {
+        return None;
     }
+    Some(Month { year, month })
 }
 
-// A file's receiver and its counter of partners, by the tags around the counter.
-#[derive(Clone, Copy)]
-pub struct ReceiverFound {
-    pub receiver: u64,
-    pub count: u64,
-    pub to: Cursor,
-}
-
-pub fn receiver_by(c: Cursor, s: &[u8], before: &[u8], behind: &[u8]) -> ReceiverFound
-    ensures { result ≡ receiver_found s.now c before.now behind.now }
+// The year and the month of a period's first moment.
+#[tactic(auto, unfolding(text::specs::Ascii::bytes, message::specs::Bytes::opening, message::specs::Reading::month_parse, formats::specs::Exactly::fixed_parse, formats::specs::Combine::only_parse, formats::specs::Combine::pre_parse, formats::specs::Combine::post_parse, formats::specs::Combine::seq_parse))]
+fn month(c: &mut Cursor) -> Option<Month>
+    ensures reads { Reads month_parse c.old c.new (option_map year_and_month result) }
+    ensures early { IfSome result (λ m. m.year ≤ 2099) }
 {
-    let a = cursor::tag_by(c, s, b"</MessageCreateDateTime><ReceiverID>");
-    let k = cursor::fixed_by(a, s, 10);
-    let b = k.to;
-    let d = cursor::tag_by(b, s, before);
-    let n = cursor::number_by(d, s, 60, 18446744073709551615);
-    let e = n.to;
-    let to = cursor::tag_by(e, s, behind);
-    ReceiverFound {
-        receiver: k.value,
-        count: n.value,
-        to,
-    }
+    c.tag(b"<PeriodStart>")?;
+    let year = c.fixed(4)?;
+    c.tag(b"-")?;
+    let month = c.fixed(2)?;
+    month_of(year, month)
+}
+
+// What stands behind the year and the month of a period: the rest of its first moment, and its end.
+fn behind_month(c: &mut Cursor, month: Month) -> Option<()>
+    requires { month.year ≤ 9998 }
+    ensures { Reads (strip (behind_month (year_and_month month))) c.old c.new result }
+{
+    let start = message::moment_text(moments::period_start(month));
+    let end = message::moment_text(moments::period_end(month));
+    c.tag(&start[7..])?;
+    c.tag(b"</PeriodStart><PeriodEnd>")?;
+    c.tag(&end)?;
+    c.tag(b"</PeriodEnd><PeriodResolution>PT15M</PeriodResolution>")
+}
+
+// The period of a month.
+#[tactic(auto, unfolding(message::specs::Reading::period_parse, formats::specs::Combine::map_parse, formats::specs::Combine::post_parse))]
+pub fn period(c: &mut Cursor) -> Option<Month>
+    ensures { Reads period_parse c.old c.new (option_map year_and_month result) }
+{
+    let month = month(c)?;
+    behind_month(c, month)?;
+    Some(month)
+}
+
+// A transaction ID, and the byte that ends it.
+pub fn id<'a>(c: &mut Cursor<'a>) -> Option<&'a [u8]>
+    ensures { Reads (name_parse name_byte 1 36 60) c.old c.new (option_map (λ s. s.now) result) }
+{
+    let text = c.text;
+    let at = c.at;
+    c.name(1, 36, b'<')?;
+    Some(&text[at..c.at - 1])
+}
+
+// Whether the second of two words stands at the cursor; none where neither does.
+pub fn second_word(c: &mut Cursor, first: &[u8], second: &[u8]) -> Option<bool>
+    ensures { Reads (words_parse (first.now ∷ second.now ∷ [])) c.old c.new (option_map bit result) }
+{
+    let n = c.word(first, second)?;
+    Some(n == 1)
+}
+
+// The 29 bytes of a moment.
+pub fn moment(c: &mut Cursor) -> Option<()>
+    ensures { Reads (exactly_parse 29 is_moment) c.old c.new (option_map (λ u. take 29 (drop c.old.at c.old.text.now)) result) }
+{
+    c.at = message::moment_at(c.text, c.at)?;
+    Some(())
 }

@@ -1,7 +1,7 @@
 // The program, but for its name: a line and a book from standard input, and on standard output the file that the line asks for, or why there is none.
 #![tactic(auto)]
 
-ghost use Rattle.std.specs.Prelude.{◌≡◌, ◌+◌, ◌≤◌, length};
+ghost use Rattle.std.specs.Prelude.{◌≡◌, length};
 ghost use Rattle.program.specs.PrefixInner.{IsPrefixLen};
 ghost use Rattle.outputs.specs.Output.{input_read};
 
@@ -20,31 +20,21 @@ fn fail(rt: &impl Eprint, at: &str, error: io::Error) {
     let _ = eprintln!(rt; "toe: {at}: {error}");
 }
 
-// One read of standard input, behind n bytes; answers how many bytes came, 0 where the input ends or the read fails. A failure is said on standard error.
-fn read_more(rt: &(impl Input + Eprint), input: &mut [u8], n: usize) -> usize
-    requires { n ≤ length input.old }
-    ensures { n + result ≤ length input.old }
-{
-    match rt.reader().read(&mut input[n..]) {
-        Ok(more) => more,
-        Err(error) => {
-            fail(rt, "standard input", error);
-            0
-        }
-    }
-}
-
-// Reads standard input until the buffer is full, the input ends or a read fails; answers how many bytes.
+// Reads standard input until the buffer is full, the input ends or a read fails, which is said on standard error; answers how many bytes.
+// A loop over a place, since std's readers that fill a buffer don't say how much of it was filled before a failure.
 fn read_input(rt: &(impl Input + Eprint), input: &mut [u8]) -> usize
     ensures { IsPrefixLen result input.new }
 {
     let mut n = 0;
     while n < input.len() {
-        let more = read_more(rt, input, n);
-        if more == 0 {
-            break;
+        match rt.reader().read(&mut input[n..]) {
+            Ok(0) => break,
+            Ok(more) => n += more,
+            Err(error) => {
+                fail(rt, "standard input", error);
+                break;
+            }
         }
-        n += more;
     }
     n
 }

@@ -53,10 +53,6 @@ no_change c d e = go (eqb (quarters c d) 96) refl e
 
 -- ---- where days start
 
-pub day-start-zero : (c : Calendar) → day_start c 0 ≡ 0
-unfolding day_start
-day-start-zero c = refl
-
 pub day-start-next : (c : Calendar) (d : ℕ) → day_start c (suc d) ≡ day_start c d + quarters c d
 unfolding day_start
 day-start-next c d = refl
@@ -229,3 +225,17 @@ readings-few c points h k = mul-le-mul {n₁ = 4 * quarters_of c} {n₂ = 4 * lo
 
 pub origin-few : (c : Calendar) (p : ℕ) → Ranged c → p < 256 → origin_of c p ≤ farthest_origin
 origin-few c p h k = let m = mul-le-mul {n₁ = quarters_of c} {m₁ = p} {n₂ = longest_calendar} {m₂ = 255} (quarters-few c h) (omega arith) in omega arith
+
+-- ---- the laws as the check cites them
+
+pub ruleset closed_days = (day-start-is)
+
+pub ruleset few_quarters = (day-start-few)
+
+pub ruleset day_order = (day-start-mono)
+
+pub ruleset few_days = (days-few)
+
+pub ruleset few_origins = (origin-few)
+
+pub ruleset most_days = (days-most)

@@ -6,14 +6,22 @@ ghost use Rattle.quarters.specs.Quarters.{days_of, quarters, is_clock_change, da
 ghost use Rattle.quarters.specs.QuartersInner.{Ranged, cell_of};
 
 use calendar::Clock;
+use calendar::dates::{Month, month_length};
 
 // The month, the lead days before it, and on which of these days the clocks change.
-#[derive(Clone, Copy)]
+#[derive(Clone, Copy, Debug, PartialEq, Eq)]
 pub struct Calendar {
     pub year: u64,
     pub month: u64,
     pub lead: u64,
     pub clock: Clock,
+}
+
+// A calendar that a header may have: its numbers are in their ranges, and its clock is that of its month and lead days.
+#[derive(Clone, Copy, Debug, PartialEq, Eq)]
+pub struct RangedCalendar {
+    pub calendar: Calendar,
+    pub ghost ranged: { Ranged calendar },
 }
 
 // No day, and no month, has more quarter-hours; no book has more settlement rows.
@@ -23,94 +31,106 @@ pub const LONGEST_MONTH: usize = 2980;
 
 pub const MOST_ROWS: usize = 512 * LONGEST_DAY;
 
-// The days of the calendar.
-pub fn days_of(c: Calendar) -> u64
-    requires { Ranged c }
-    ensures { result ≡ days_of c }
-{
-    calendar::dates::calendar_days(c.year, c.month, c.lead)
-}
+impl Calendar {
+    // The quarter-hours of a day, and where it starts among those of the calendar.
+    #[tactic(auto, unfolding(crate::specs::Quarters::quarters, crate::specs::Quarters::quarters_by))]
+    pub fn quarters(self, day: u64) -> u64
+        ensures { result ≡ quarters self day }
+    {
+        match self.clock {
+            Clock::Shorter(at) if at == day => 92,
+            Clock::Longer(at) if at == day => 100,
+            _ => 96,
+        }
+    }
 
-// The quarter-hours of a day, where it starts among those of the calendar, and those of the whole calendar.
-pub fn quarters(c: Calendar, day: u64) -> u64
-    ensures { result ≡ quarters c day }
-{
-    let clock = c.clock;
-    match clock {
-        Clock::Same => 96,
-        Clock::Shorter(at) => if day == at { 92 } else { 96 },
-        Clock::Longer(at) => if day == at { 100 } else { 96 },
+    #[tactic(auto, using(crate::proofs::QuartersLaws::closed_days), unfolding(crate::proofs::QuartersLaws::closed_by))]
+    pub fn day_start(self, day: u64) -> u64
+        requires { day ≤ 64 }
+        ensures { result ≡ day_start self day }
+    {
+        let start = 96 * day;
+        match self.clock {
+            Clock::Shorter(at) if at < day => start - 4,
+            Clock::Longer(at) if at < day => start + 4,
+            _ => start,
+        }
+    }
+
+    // The clocks change on the day.
+    #[tactic(auto, unfolding(crate::specs::Quarters::is_clock_change))]
+    pub fn is_clock_change(self, day: u64) -> bool
+        ensures { result ≡ is_clock_change self day }
+    {
+        self.quarters(day) != 96
+    }
+
+    // Quarter-hour q of a day among those of the calendar.
+    #[tactic(auto, using(crate::proofs::QuartersLaws::few_quarters))]
+    pub fn in_calendar(self, day: u8, q: u8) -> usize
+        requires { day < 64 }
+        ensures { result ≡ in_calendar self day q }
+    {
+        (self.day_start(day as u64) + (q as u64)) as usize
+    }
+
+    // Its cell among those of the month.
+    #[tactic(auto, using(crate::proofs::QuartersLaws::day_order), unfolding(crate::specs::Quarters::position))]
+    pub fn cell_of(self, day: u8, q: u8) -> usize
+        requires { (day < 64) × (self.lead ≤ day) }
+        ensures { result ≡ cell_of self day q }
+    {
+        self.in_calendar(day, q) - (self.day_start(self.lead) as usize)
     }
 }
 
-// The clocks change on the day.
-pub fn is_clock_change(c: Calendar, day: u64) -> bool
-    ensures { result ≡ is_clock_change c day }
-{
-    quarters(c, day) != 96
-}
-
-pub fn day_start(c: Calendar, day: u64) -> u64
-    requires { day ≤ 64 }
-    ensures { result ≡ day_start c day }
-{
-    let clock = c.clock;
-    let start = 96 * day;
-    match clock {
-        Clock::Same => start,
-        Clock::Shorter(at) => if at < day { start - 4 } else { start },
-        Clock::Longer(at) => if at < day { start + 4 } else { start },
+impl RangedCalendar {
+    // The days of the calendar, and its quarter-hours.
+    pub fn days(self) -> u64
+        ensures { result ≡ days_of self.calendar }
+    {
+        let c = self.calendar;
+        let month = Month {
+            year: c.year,
+            month: c.month,
+        };
+        month.calendar_days(c.lead)
     }
-}
 
-pub fn quarters_of(c: Calendar) -> u64
-    requires { Ranged c }
-    ensures { result ≡ quarters_of c }
-{
-    day_start(c, days_of(c))
-}
+    #[tactic(auto, using(crate::proofs::QuartersLaws::few_days))]
+    pub fn quarters(self) -> u64
+        ensures { result ≡ quarters_of self.calendar }
+    {
+        self.calendar.day_start(self.days())
+    }
 
-// Quarter-hour q of a day among those of the calendar.
-pub fn in_calendar(c: Calendar, day: u8, q: u8) -> usize
-    requires { day < 64 }
-    ensures { result ≡ in_calendar c day q }
-{
-    (day_start(c, day as u64) + (q as u64)) as usize
-}
+    // The quarter-hours of its month: as many as it has cells, and its last position.
+    #[tactic(auto, using(crate::proofs::QuartersLaws::day_order, crate::proofs::QuartersLaws::few_days), unfolding(crate::specs::Quarters::month_quarters))]
+    pub fn month_quarters(self) -> usize
+        ensures { result ≡ month_quarters self.calendar }
+    {
+        let c = self.calendar;
+        (self.quarters() - c.day_start(c.lead)) as usize
+    }
 
-// Its cell among those of the month.
-pub fn cell_of(c: Calendar, day: u8, q: u8) -> usize
-    requires { (day < 64) × (c.lead ≤ day) }
-    ensures { result ≡ cell_of c day q }
-{
-    in_calendar(c, day, q) - (day_start(c, c.lead) as usize)
-}
-
-// The quarter-hours of the calendar's month: as many as it has cells, and its last position.
-pub fn month_quarters(c: Calendar) -> usize
-    requires { Ranged c }
-    ensures { result ≡ month_quarters c }
-{
-    (quarters_of(c) - day_start(c, c.lead)) as usize
+    // Where the readings of a point start.
+    #[tactic(auto, using(crate::proofs::QuartersLaws::few_origins))]
+    pub fn origin_of(self, point: u16) -> usize
+        requires { point < 256 }
+        ensures { result ≡ origin_of self.calendar point }
+    {
+        (self.quarters() as usize) * (point as usize)
+    }
 }
 
 // The quarter-hours of any month.
+#[tactic(auto, using(crate::proofs::QuartersLaws::most_days), unfolding(crate::specs::Quarters::quarters_in_month))]
 pub fn quarters_in_month(year: u64, month: u64) -> u64
     ensures { result ≡ quarters_in_month year month }
 {
-    if month == 3 {
-        return 2972;
+    match month {
+        3 => 2972,
+        10 => 2980,
+        _ => 96 * month_length(year, month),
     }
-    if month == 10 {
-        return 2980;
-    }
-    96 * calendar::dates::month_length(year, month)
-}
-
-// Where the readings of a point start.
-pub fn origin_of(c: Calendar, point: u16) -> usize
-    requires { Ranged c × (point < 256) }
-    ensures { result ≡ origin_of c point }
-{
-    (quarters_of(c) as usize) * (point as usize)
 }

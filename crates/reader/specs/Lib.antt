@@ -1,14 +1,2 @@
 pub mod PartnersInner
-pub mod PartnerLaws
-pub mod PartnersLaws
-pub mod PassagesLaws
-pub mod PartnersFillingLaws
 pub mod FileInner
-pub mod PlacesLaws
-pub mod FileLaws
-pub mod JudgedLaws
-pub mod PartnerTurnsInner
-pub mod PartnerTurnsLaws
-pub mod FileTurnsInner
-pub mod FileTurnsLaws
-pub mod FactsLaws

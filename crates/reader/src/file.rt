@@ -1,179 +1,97 @@
-// A file is judged, its rows are counted, and they fill the lent numbers as far as these go: one cursor goes through it, from its first byte on.
-ghost use Rattle.std.specs.Prelude.{◌≡◌, ◌++◌, suc};
-ghost use Rattle.message.specs.Bytes.{opening, ending, closing, counter};
-ghost use Rattle.message.specs.Reading.{kind_of};
-ghost use Rattle.passages.specs.PassagesInner.{receiver_found};
-ghost use Rattle.reader.specs.FileTurnsInner.{Rooted, Received, root_end, FileDone};
+// A file, from its first byte on.
+ghost use Rattle.std.specs.Prelude.{◌≡◌, ◌++◌, option_map};
+ghost use Rattle.formats.specs.Combine.{strip};
+ghost use Rattle.cursor.specs.ReadsInner.{Reads};
+ghost use Rattle.message.specs.Bytes.{opening, ending, closing, root, counter};
+ghost use Rattle.message.specs.Reading.{kind_parse, file_parse};
+ghost use Rattle.series_reader.specs.RowsInner.{Filled};
+ghost use Rattle.reader.specs.FileInner.{kept_of_file, rows_of_file, file_told};
 
-use crate::partners::PartnersTodo;
 use cursor::Cursor;
 use kinds::Kind;
-use passages::{MessageFound, ReceiverFound};
-
-// A file's kind.
-#[derive(Clone, Copy)]
-pub struct Root {
-    pub kind: Kind,
-}
-
-// A file's kind, and the cursor behind its root.
-#[derive(Clone, Copy)]
-pub struct RootRead {
-    pub to: Cursor,
-    pub root: Root,
-}
-
-// The kind of the second or the third root.
-fn later_kind(n: u64) -> Kind
-    ensures { result ≡ kind_of (suc n) }
-{
-    if n == 0 { Kind::Toe02 } else { Kind::Toe03 }
-}
+use message::FileFacts;
+use series_reader::rows::Rows;
 
 // The root that opens a file, by its kind.
-fn root_by(c: Cursor, s: &[u8]) -> RootRead
-    ensures { Rooted s.now c result.to result.root }
+fn opening(c: &mut Cursor) -> Option<Kind>
+    ensures { Reads kind_parse c.old c.new result }
 {
-    let a = cursor::tag_by(c, s, b"<AggregatedToEVolumesForFSP>");
-    if a.good {
-        let root = Root { kind: Kind::Toe01 };
-        return RootRead { to: a, root };
+    let mut first = *c;
+    if let Some(()) = first.tag(b"<AggregatedToEVolumesForFSP>") {
+        *c = first;
+        return Some(Kind::Toe01);
     }
-    let w = cursor::word_by(
-        c,
-        s,
+    let n = c.word(
         b"<AggregatedToEVolumesForSupplier>",
         b"<IndividualToEVolumesForSupplier>",
-    );
-    let to = w.to;
-    let kind = later_kind(w.value);
-    let root = Root { kind };
-    RootRead { to, root }
+    )?;
+    if n == 0 {
+        return Some(Kind::Toe02);
+    }
+    Some(Kind::Toe03)
 }
 
-// Past the root that opens a file.
-pub fn past_root(c: &mut Cursor, s: &[u8]) -> Root
-    ensures { Rooted s.now c.old c.new result }
-{
-    let r = root_by(*c, s);
-    *c = r.to;
-    r.root
-}
-
-// The receiver and the counter of partners, in a file of a kind.
-fn receiver_of(c: Cursor, s: &[u8], kind: Kind) -> ReceiverFound
-    ensures { result ≡ receiver_found s.now c (closing "ReceiverID" ++ opening (counter kind)) (ending (counter kind)) }
+// The tags before the counter of partners. (Each of these three matches names a kind's tags; one function of a kind and three tags is no plainer.)
+fn before_counter(c: &mut Cursor, kind: Kind) -> Option<()>
+    ensures { Reads (strip (closing "ReceiverID" ++ opening (counter kind))) c.old c.new result }
 {
     match kind {
-        Kind::Toe01 => passages::receiver_by(
-            c,
-            s,
-            b"</ReceiverID><SupplierCounter>",
-            b"/SupplierCounter>",
-        ),
-        Kind::Toe02 => passages::receiver_by(c, s, b"</ReceiverID><FSPCounter>", b"/FSPCounter>"),
-        Kind::Toe03 => passages::receiver_by(
-            c,
-            s,
-            b"</ReceiverID><SDPSupplyCounter>",
-            b"/SDPSupplyCounter>",
-        ),
+        Kind::Toe01 => c.tag(b"</ReceiverID><SupplierCounter>"),
+        Kind::Toe02 => c.tag(b"</ReceiverID><FSPCounter>"),
+        Kind::Toe03 => c.tag(b"</ReceiverID><SDPSupplyCounter>"),
     }
 }
 
-// A file's receiver, and the partners that are then left.
-#[derive(Clone, Copy)]
-pub struct Receiver {
-    pub receiver: u64,
-    pub todo: PartnersTodo,
-}
-
-// The same, and the cursor before the partners.
-#[derive(Clone, Copy)]
-pub struct ReceiverRead {
-    pub to: Cursor,
-    pub found: Receiver,
-}
-
-// A file's moment, which is read by its place, its receiver, and the partners that it announces.
-fn receiver_by(c: Cursor, s: &[u8], root: Root) -> ReceiverRead
-    ensures { Received s.now root c result.to result.found }
+// The rest of the tag behind it.
+fn behind_counter(c: &mut Cursor, kind: Kind) -> Option<()>
+    ensures { Reads (strip (ending (counter kind))) c.old c.new result }
 {
-    let kind = root.kind;
-    let m = cursor::place(c, s);
-    let b = message::moment_at(s, m);
-    let behind = cursor::at_mark(b);
-    let v = receiver_of(behind, s, kind);
-    let to = v.to;
-    let todo = PartnersTodo {
+    match kind {
+        Kind::Toe01 => c.tag(b"/SupplierCounter>"),
+        Kind::Toe02 => c.tag(b"/FSPCounter>"),
+        Kind::Toe03 => c.tag(b"/SDPSupplyCounter>"),
+    }
+}
+
+// The tag that ends a file.
+fn end(c: &mut Cursor, kind: Kind) -> Option<()>
+    ensures { Reads (strip (closing (root kind))) c.old c.new result }
+{
+    match kind {
+        Kind::Toe01 => c.tag(b"</AggregatedToEVolumesForFSP>"),
+        Kind::Toe02 => c.tag(b"</AggregatedToEVolumesForSupplier>"),
+        Kind::Toe03 => c.tag(b"</IndividualToEVolumesForSupplier>"),
+    }
+}
+
+// A file; its rows are stored, but not told.
+#[tactic(auto, unfolding(text::specs::Ascii::bytes, message::specs::Bytes::opening, message::specs::Bytes::ending, message::specs::Bytes::closing, message::specs::Reading::file_parse, message::specs::Reading::plain_parse, formats::specs::Exactly::fixed_parse, formats::specs::Combine::map_parse, formats::specs::Combine::pre_parse, formats::specs::Combine::post_parse, formats::specs::Combine::seq_parse))]
+pub fn file(c: &mut Cursor, rows: &mut Rows) -> Option<FileFacts>
+    ensures { Filled file_parse (kept_of_file c.old.at) rows_of_file c.old c.new rows.old rows.new (option_map file_told result) }
+{
+    let kind = opening(c)?;
+    c.tag(b"<TransactionID>")?;
+    let id = c.at;
+    let name = passages::id(c)?;
+    c.tag(b"/TransactionID><MessageCreateDateTime>")?;
+    let moment = c.at;
+    passages::moment(c)?;
+    c.tag(b"</MessageCreateDateTime><ReceiverID>")?;
+    let receiver = c.fixed(10)?;
+    before_counter(c, kind)?;
+    let count = c.number(b'<', u64::MAX)?;
+    behind_counter(c, kind)?;
+    let seen = crate::partners::partners(c, rows, kind, count)?;
+    end(c, kind)?;
+    let (year, month) = seen.numbers();
+    Some(FileFacts {
         kind,
-        left: v.count,
-        low: 0,
-        year: 0,
-        month: 0,
+        receiver,
+        year,
+        month,
         rows: 0,
-    };
-    let found = Receiver {
-        receiver: v.receiver,
-        todo,
-    };
-    ReceiverRead { to, found }
-}
-
-// Past a file's moment and its receiver; the partners that are then left.
-pub fn past_receiver(c: &mut Cursor, s: &[u8], root: Root) -> Receiver
-    ensures { Received s.now root c.old c.new result }
-{
-    let r = receiver_by(*c, s, root);
-    *c = r.to;
-    r.found
-}
-
-// The cursor behind the tag that ends a file.
-fn end_by(c: Cursor, s: &[u8], root: Root) -> Cursor
-    ensures { result ≡ root_end s.now root.kind c }
-{
-    let kind = root.kind;
-    match kind {
-        Kind::Toe01 => cursor::tag_by(c, s, b"</AggregatedToEVolumesForFSP>"),
-        Kind::Toe02 => cursor::tag_by(c, s, b"</AggregatedToEVolumesForSupplier>"),
-        Kind::Toe03 => cursor::tag_by(c, s, b"</IndividualToEVolumesForSupplier>"),
-    }
-}
-
-// Past the tag that ends a file.
-pub fn past_end(c: &mut Cursor, s: &[u8], root: Root)
-    ensures { c.new ≡ root_end s.now root.kind c.old }
-{
-    *c = end_by(*c, s, root);
-}
-
-// What was read of a file: where its ID starts and ends and its moment starts, and the cursor behind it.
-#[derive(Clone, Copy)]
-pub struct FileRead {
-    pub root: Root,
-    pub receiver: u64,
-    pub told: PartnersTodo,
-    pub message: MessageFound,
-    pub to: Cursor,
-}
-
-// A file from its first byte on; its rows are the first.
-pub fn file_read(s: &[u8], out: &mut [u64]) -> FileRead
-    ensures { FileDone s.now out.old result out.new }
-{
-    let mut c = Cursor { at: 0, good: true };
-    let root = past_root(&mut c, s);
-    let message = passages::message(&mut c, s);
-    let v = past_receiver(&mut c, s, root);
-    let todo = v.todo;
-    let told = crate::partners::partners(&mut c, s, todo, out);
-    past_end(&mut c, s, root);
-    FileRead {
-        root,
-        receiver: v.receiver,
-        told,
-        message,
-        to: c,
-    }
+        id,
+        id_length: name.len(),
+        moment,
+    })
 }

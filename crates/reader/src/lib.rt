@@ -4,78 +4,53 @@
 mod file;
 mod partners;
 
-ghost use Rattle.std.specs.Prelude.{◌≡◌, ◌+◌, ◌-◌};
+ghost use Rattle.std.specs.Prelude.{◌≡◌};
+ghost use Rattle.refusals.specs.Sent.{said};
 ghost use Rattle.message.specs.Calls.{read_answer, ReadCalled};
-ghost use Rattle.reader.specs.FileInner.{facts_read};
+ghost use Rattle.message.specs.Messages.{read_message};
+ghost use Rattle.reader.specs.FileInner.{facts_in, RowsRead};
 
-use crate::file::FileRead;
-use message::{FileFacts, ReadAnswer};
+use cursor::Cursor;
+use message::FileFacts;
+use refusals::Refused;
+use series_reader::rows::Rows;
 
-// The number of places between two.
-fn between(a: usize, b: usize) -> usize
-    ensures { result ≡ b - (a + 1) }
+// What all of a file says; its rows go into the numbers as far as these go.
+fn facts(file: &[u8], numbers: &mut [u64]) -> Option<FileFacts>
+    ensures facts { result ≡ facts_in (read_message file.now) }
+    ensures rows { RowsRead (read_message file.now) numbers.old numbers.new }
 {
-    if b <= a {
-        return 0;
+    let mut c = Cursor::new(file);
+    let mut rows = Rows { numbers, count: 0 };
+    let said = crate::file::file(&mut c, &mut rows)?;
+    if c.at != file.len() {
+        return None;
     }
-    b - a - 1
+    Some(FileFacts {
+        rows: rows.count,
+        ..said
+    })
 }
 
-// What the reading of a file tells of it.
-fn facts(j: FileRead) -> FileFacts
-    ensures { result ≡ facts_read j }
+// What reading a file answers where so many numbers of rows are lent; none is at hand (a refusal leaves the rows as they were).
+pub fn judge(file: &[u8], lent: usize) -> Result<FileFacts, Refused>
+    ensures { said result ≡ read_answer file.now lent }
 {
-    let root = j.root;
-    let told = j.told;
-    let m = j.message;
-    let kind = root.kind;
-    let id = m.id;
-    let end = m.end;
-    let moment = m.moment;
-    let id_length = between(id.at, end.at);
-    let rows = told.rows as usize;
-    FileFacts {
-        kind,
-        receiver: j.receiver,
-        year: told.year,
-        month: told.month,
-        rows,
-        id: id.at,
-        id_length,
-        moment: moment.at,
+    let mut none = [0u64; 0];
+    let Some(said) = facts(file, &mut none) else {
+        return Err(Refused::NoFile);
+    };
+    if lent / 6 < said.rows {
+        return Err(Refused::Short(0));
     }
-}
-
-// What reading a file answers where so many numbers of rows are lent; none is at hand.
-pub fn judge(file: &[u8], lent: usize) -> ReadAnswer
-    ensures { result ≡ read_answer file.now lent }
-{
-    let mut none = [0u64; 1];
-    let j = crate::file::file_read(file, &mut none);
-    let to = j.to;
-    if !to.good {
-        return ReadAnswer::Refused(13, 0);
-    }
-    if to.at != file.len() {
-        return ReadAnswer::Refused(13, 0);
-    }
-    let told = j.told;
-    let count = told.rows as usize;
-    if lent / 6 < count {
-        return ReadAnswer::Refused(10, 0);
-    }
-    let said = facts(j);
-    ReadAnswer::File(said)
+    Ok(said)
 }
 
 // A file is read: judged first, then read again into the lent rows.
-pub fn read(file: &[u8], rows: &mut [u64]) -> ReadAnswer
+pub fn read(file: &[u8], rows: &mut [u64]) -> Result<FileFacts, Refused>
     ensures { ReadCalled file.now rows.old rows.new result }
 {
-    let answer = judge(file, rows.len());
-    let ReadAnswer::File(said) = answer else {
-        return answer;
-    };
-    crate::file::file_read(file, rows);
-    ReadAnswer::File(said)
+    let said = judge(file, rows.len())?;
+    facts(file, rows);
+    Ok(said)
 }

@@ -1,2 +1,70 @@
-// What a call sends back and what it leaves in the buffers that it was lent, in specs/. No code.
+// What a call sends back and what it leaves in the buffers that it was lent, in specs/, and its refusals as one enum.
 #![tactic(auto)]
+
+ghost use Rattle.std.specs.Prelude.{◌≡◌};
+ghost use Rattle.refusals.specs.Sent.{sent_back};
+
+use std::error::Error;
+use std::fmt;
+
+// Why a call is refused. Where an item isn't 0 it stands beside: the first bad row, point or engagement row, or the buffer that is short.
+#[derive(Clone, Copy, Debug, PartialEq, Eq)]
+pub enum Refused {
+    Header,
+    Layout,
+    Tables,
+    Register(usize),
+    Readings(usize),
+    Engagements(usize),
+    Missing(usize),
+    TooFew(usize),
+    Short(usize),
+    Role,
+    Malformed,
+    NoFile,
+}
+
+impl Refused {
+    // The number that document 01 gives it.
+    pub fn number(self) -> u64
+        ensures { result ≡ (sent_back self).number }
+    {
+        match self {
+            Refused::Header => 1,
+            Refused::Layout => 2,
+            Refused::Tables => 4,
+            Refused::Register(_) => 5,
+            Refused::Readings(_) => 6,
+            Refused::Engagements(_) => 7,
+            Refused::Missing(_) => 8,
+            Refused::TooFew(_) => 9,
+            Refused::Short(_) => 10,
+            Refused::Role => 11,
+            Refused::Malformed => 12,
+            Refused::NoFile => 13,
+        }
+    }
+
+    // The item that is sent back with the number.
+    pub fn item(self) -> usize
+        ensures { result ≡ (sent_back self).item }
+    {
+        match self {
+            Refused::Register(item)
+            | Refused::Readings(item)
+            | Refused::Engagements(item)
+            | Refused::Missing(item)
+            | Refused::TooFew(item)
+            | Refused::Short(item) => item,
+            _ => 0,
+        }
+    }
+}
+
+impl fmt::Display for Refused {
+    fn fmt<W: fmt::Write>(&self, f: &mut fmt::Formatter<W>) -> fmt::Result {
+        write!(f, "refused {} {}", self.number(), self.item())
+    }
+}
+
+impl Error for Refused {}

@@ -1,5 +1,5 @@
 -- What an accepted call says of what was passed, and what a call in role and form with long enough buffers answers.
-use Rattle.std.specs.Prelude.{◌≡◌, true, ◌&&◌, ℕ, zero, suc, ◌*◌, ◌≤◌, length}
+use Rattle.std.specs.Prelude.{◌≡◌, true, ◌&&◌, ℕ, zero, suc, ◌*◌, ◌≤◌, length, Ok}
 use Rattle.std.proofs.Math.Path.{refl, ap}
 use Rattle.std.proofs.Common.{sym, ◌∙◌, arith}
 use mathlib.Core.List.{List, Memᴰ}
@@ -21,9 +21,8 @@ use Rattle.reports.specs.FileRows.{file_text}
 use Rattle.reports.specs.Roles.{receivers}
 use Rattle.refusals.specs.Buffers.{afterwards}
 use Rattle.refusals.specs.BuffersLaws.{over_first}
-use Rattle.reports.specs.Calls.{stands, sheet_refusal, sheet_says, sheet_answer, text_of, short_refusal, asked_refusal, file_refusal, file_says, file_answer}
-use Rattle.reports.specs.declared.SheetAnswer.TheVariants.{Sheet}
-use Rattle.reports.specs.declared.FileAnswer.TheVariants.{File}
+use Rattle.reports.specs.Calls.{stands, sheet_refusal, sheet_answer, text_of, short_refusal, asked_refusal, file_refusal, file_answer}
+use Rattle.refusals.specs.Sent.{says}
 use Rattle.reports.specs.Demand3.{is_sheet, is_file, written}
 use Rattle.quarters.specs.Quarters.{month_quarters}
 use Rattle.integers.proofs.CountsLaws.{mem-times, times-mem}
@@ -38,8 +37,8 @@ mem-stands x l m = le-leb 1 (times x l) (mem-times x l m)
 
 -- ---- the sheet call
 
-sheet-says-none : (r : Option Refusal) (n : ℕ) → is_sheet (sheet_says r n) ≡ true → r ≡ none
-unfolding is_sheet sheet_says
+sheet-says-none : (r : Option Refusal) (n : ℕ) → is_sheet (says r n) ≡ true → r ≡ none
+unfolding is_sheet
 sheet-says-none none n e = refl
 sheet-says-none (some r) n e = let z : ◌≡◌ {A = ℕ} 0 1 = cc in absurd (omega arith)
 
@@ -54,14 +53,14 @@ sheet-party bytes party lent e =
     let s = stands party (parties (book_of bytes)) in
     stands-mem party (parties (book_of bytes)) (not-refused s 11 long (not-later (book_refusal bytes) (unless s 11 long) e)).0
 
-pub sheet-answered : (bytes : List ℕ) (party lent : ℕ) → book_refusal bytes ≡ none → Memᴰ party (parties (book_of bytes)) → month_quarters (book_of bytes).calendar ≤ lent → sheet_answer bytes party lent ≡ Sheet (month_quarters (book_of bytes).calendar)
-unfolding sheet_answer sheet_refusal sheet_says or_else
+pub sheet-answered : (bytes : List ℕ) (party lent : ℕ) → book_refusal bytes ≡ none → Memᴰ party (parties (book_of bytes)) → month_quarters (book_of bytes).calendar ≤ lent → sheet_answer bytes party lent ≡ Ok (month_quarters (book_of bytes).calendar)
+unfolding sheet_answer sheet_refusal or_else
 sheet-answered bytes party lent e m h = rw (e, mem-stands party (parties (book_of bytes)) m, le-leb (month_quarters (book_of bytes).calendar) lent h)
 
 -- ---- the file call
 
-file-says-none : (r : Option Refusal) (m n : ℕ) → is_file (file_says r m n) ≡ true → r ≡ none
-unfolding is_file file_says
+file-says-none : (r : Option Refusal) (m n : ℕ) → is_file (says r (m, n)) ≡ true → r ≡ none
+unfolding is_file
 file-says-none none m n e = refl
 file-says-none (some r) m n e = let z : ◌≡◌ {A = ℕ} 0 1 = cc in absurd (omega arith)
 
@@ -116,13 +115,13 @@ module _ (bytes : List ℕ) (kind : Kind) (receiver : ℕ) (id moment : List ℕ
   -- what it wrote is the file
   pub file-written : is_file (file_answer bytes (kind_number kind) receiver id moment rows_lent file_lent) ≡ true → (before : List ℕ)
       → written (file_answer bytes (kind_number kind) receiver id moment rows_lent file_lent) (afterwards (file_refusal bytes (kind_number kind) receiver id moment rows_lent file_lent) (text_of (book_of bytes) (kind_numbered (kind_number kind)) receiver id moment) before) ≡ file_text (book_of bytes) kind receiver id moment
-  unfolding file_answer file_says written afterwards
+  unfolding file_answer written afterwards
   file-written e before =
       let text = text_of (book_of bytes) (kind_numbered (kind_number kind)) receiver id moment in
       rw (file-not-refused e) (over_first text before (length text) refl ∙ asked-text)
 
   pub file-answered : book_refusal bytes ≡ none → InForm (book_of bytes) kind receiver id moment → row_width * row_count (book_of bytes) ≤ rows_lent → length (file_text (book_of bytes) kind receiver id moment) ≤ file_lent
-      → file_answer bytes (kind_number kind) receiver id moment rows_lent file_lent ≡ File (row_count (book_of bytes)) (length (file_text (book_of bytes) kind receiver id moment))
-  unfolding file_answer file_refusal asked_refusal short_refusal file_says text_of or_else
+      → file_answer bytes (kind_number kind) receiver id moment rows_lent file_lent ≡ Ok (row_count (book_of bytes), length (file_text (book_of bytes) kind receiver id moment))
+  unfolding file_answer file_refusal asked_refusal short_refusal text_of or_else
   file-answered e f h k =
       rw (e, kind-numbered kind, mem-stands receiver (receivers (book_of bytes) kind) f.role, f.named, f.timed, le-leb (row_width * row_count (book_of bytes)) rows_lent h, le-leb (length (file_text (book_of bytes) kind receiver id moment)) file_lent k)

@@ -6,7 +6,7 @@ use Rattle.std.proofs.Math.Option.{none}
 use Rattle.std.proofs.Math.Seq.{drop-nil}
 use Rattle.integers.specs.First.{first}
 use Rattle.integers.specs.Ranges.{range}
-use Rattle.wire.specs.declared.Reading.{Reading}
+use Rattle.wire.specs.Readings.{Reading}
 use Rattle.wire.specs.Numbers.{little}
 use Rattle.quarters.specs.declared.Calendar.{Calendar}
 use Rattle.quarters.specs.Quarters.{days_of, quarters_of, month_quarters}

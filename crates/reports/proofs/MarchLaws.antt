@@ -13,9 +13,8 @@ use Rattle.integers.specs.Running.{up_to, floor_at}
 use Rattle.integers.proofs.RunningLaws.{up_to-cong, up_to-zero}
 use Rattle.integers.specs.Sums.{sum_by}
 use Rattle.grains.specs.Grains.{per_watt}
-use Rattle.wire.specs.declared.Reading.{Reading}
 use Rattle.wire.specs.Numbers.{little}
-use Rattle.wire.specs.Readings.{reading_of}
+use Rattle.wire.specs.Readings.{Reading, reading_of}
 use Rattle.calendar.specs.Dates.{leap, month_length, calendar_days}
 use Rattle.quarters.specs.Quarters.{days_of, quarters_by, quarters, day_start, quarters_of, position, month_quarters}
 use Rattle.book.specs.declared.Supply.TheVariants.{OffTake}

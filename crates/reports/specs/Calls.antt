@@ -1,9 +1,10 @@
 -- The sheet call and the file call: their answers, and every buffer afterwards (document 01, "What is sent back").
-use Rattle.std.specs.Prelude.{◌≡◌, ◌&&◌, List, [], ℕ, ◌*◌, ℤ, length}
+use Rattle.std.specs.Prelude.{◌≡◌, ◌&&◌, List, [], ℕ, ◌*◌, ℤ, length, Result}
 use Rattle.std.proofs.Math.Option.{Option, none, some}
 use Rattle.moments.specs.Ids.{is_transaction_id}
 use Rattle.book.specs.Book.{Book, book_of}
 use Rattle.refusals.specs.Refusals.{Refusal, refused, unless, or_else, short}
+use Rattle.refusals.specs.Sent.{says}
 use Rattle.refusals.specs.Buffers.{afterwards}
 use Rattle.volumes.specs.Settlement.{row_width, rows, row_count, book_refusal}
 use Rattle.volumes.specs.Sheets.{parties, sheet}
@@ -13,10 +14,6 @@ use Rattle.kinds.specs.Numbers.{kind_numbered}
 unfoldable pub use Rattle.integers.specs.Counts.{stands}
 use Rattle.reports.specs.FileRows.{file_text}
 use Rattle.reports.specs.Roles.{receivers}
-use Rattle.reports.specs.declared.SheetAnswer.{SheetAnswer}
-use Rattle.reports.specs.declared.SheetAnswer.TheVariants.{Sheet, Refused as SheetRefused}
-use Rattle.reports.specs.declared.FileAnswer.{FileAnswer}
-use Rattle.reports.specs.declared.FileAnswer.TheVariants.{File, Refused as FileRefused}
 use Rattle.quarters.specs.Quarters.{month_quarters}
 
 -- ---- a party's sheet
@@ -28,16 +25,12 @@ sheet_refusal bytes party lent =
     (unless (stands party (parties (book_of bytes))) 11
     (short 0 (month_quarters (book_of bytes).calendar) lent))
 
--- how many sums, or the refusal's number and item
-unfoldable pub sheet_says : Option Refusal → ℕ → SheetAnswer
-sheet_says none count = Sheet count
-sheet_says (some r) count = SheetRefused r.number r.item
+-- how many sums, or the refusal
+unfoldable pub sheet_answer : List ℕ → ℕ → ℕ → Result ℕ Refusal
+sheet_answer bytes party lent = says (sheet_refusal bytes party lent) (month_quarters (book_of bytes).calendar)
 
-unfoldable pub sheet_answer : List ℕ → ℕ → ℕ → SheetAnswer
-sheet_answer bytes party lent = sheet_says (sheet_refusal bytes party lent) (month_quarters (book_of bytes).calendar)
-
--- "its call fills the sheet alone"
-pub record SheetCalled (bytes : List ℕ) (party : ℕ) (before after : List ℤ) (r : SheetAnswer) : Type 0 where
+-- "its call fills the sheet alone": its answer as it is sent back, and the sums before it and after it
+pub record SheetCalled (bytes : List ℕ) (party : ℕ) (before after : List ℤ) (r : Result ℕ Refusal) : Type 0 where
   pub answer : r ≡ sheet_answer bytes party (length before)
   pub sums : after ≡ afterwards (sheet_refusal bytes party (length before)) (sheet (book_of bytes) party) before
 
@@ -64,17 +57,13 @@ unfoldable pub file_refusal : List ℕ → ℕ → ℕ → List ℕ → List ℕ
 file_refusal bytes kind receiver id moment rows_lent file_lent =
     or_else (book_refusal bytes) (asked_refusal (book_of bytes) (kind_numbered kind) receiver id moment rows_lent file_lent)
 
--- how many settlement rows and bytes, or the refusal's number and item
-unfoldable pub file_says : Option Refusal → ℕ → ℕ → FileAnswer
-file_says none row_count count = File row_count count
-file_says (some r) row_count count = FileRefused r.number r.item
-
-unfoldable pub file_answer : List ℕ → ℕ → ℕ → List ℕ → List ℕ → ℕ → ℕ → FileAnswer
+-- how many settlement rows and bytes, or the refusal
+unfoldable pub file_answer : List ℕ → ℕ → ℕ → List ℕ → List ℕ → ℕ → ℕ → Result (ℕ × ℕ) Refusal
 file_answer bytes kind receiver id moment rows_lent file_lent =
-    file_says (file_refusal bytes kind receiver id moment rows_lent file_lent) (row_count (book_of bytes)) (length (text_of (book_of bytes) (kind_numbered kind) receiver id moment))
+    says (file_refusal bytes kind receiver id moment rows_lent file_lent) (row_count (book_of bytes), length (text_of (book_of bytes) (kind_numbered kind) receiver id moment))
 
 -- "File calls take the book and fill the rows too."
-pub record FileCalled (bytes : List ℕ) (kind receiver : ℕ) (id moment : List ℕ) (rows_before rows_after : List ℤ) (before after : List ℕ) (r : FileAnswer) : Type 0 where
+pub record FileCalled (bytes : List ℕ) (kind receiver : ℕ) (id moment : List ℕ) (rows_before rows_after : List ℤ) (before after : List ℕ) (r : Result (ℕ × ℕ) Refusal) : Type 0 where
   pub answer : r ≡ file_answer bytes kind receiver id moment (length rows_before) (length before)
   pub rows : rows_after ≡ afterwards (file_refusal bytes kind receiver id moment (length rows_before) (length before)) (rows (book_of bytes)) rows_before
   pub file : after ≡ afterwards (file_refusal bytes kind receiver id moment (length rows_before) (length before)) (text_of (book_of bytes) (kind_numbered kind) receiver id moment) before

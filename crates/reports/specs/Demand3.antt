@@ -1,5 +1,5 @@
 -- Demand 3: one claim on all sheets and files of a book together, as the calls wrote them.
-use Rattle.std.specs.Prelude.{◌≡◌, Bool, true, false, cond, ◌&&◌, ℕ, ◌+◌, ◌*◌, ◌≤◌, ◌<◌, eqb, ℤ, pos, length, take, get_or}
+use Rattle.std.specs.Prelude.{◌≡◌, Bool, true, false, cond, ◌&&◌, ℕ, ◌+◌, ◌*◌, ◌≤◌, ◌<◌, eqb, ℤ, pos, length, take, get_or, Result, Ok, Err}
 use mathlib.Core.List.{List, [], map, Memᴰ}
 use Rattle.integers.specs.Counts.{times}
 use Rattle.integers.specs.Running.{up_to}
@@ -23,10 +23,7 @@ use Rattle.reports.specs.FileRows.{supply_number, delivery_number, file_text, me
 use Rattle.reports.specs.Roles.{receivers}
 use Rattle.reports.specs.Watts.{watts_in, directed_in, total_in}
 use Rattle.reports.specs.Calls.{SheetCalled, FileCalled}
-use Rattle.reports.specs.declared.SheetAnswer.{SheetAnswer}
-use Rattle.reports.specs.declared.SheetAnswer.TheVariants.{Sheet, Refused as SheetRefused}
-use Rattle.reports.specs.declared.FileAnswer.{FileAnswer}
-use Rattle.reports.specs.declared.FileAnswer.TheVariants.{File, Refused as FileRefused}
+use Rattle.refusals.specs.Refusals.{Refusal}
 
 -- ---- calls with one book: what was passed, what was lent before and after, and the answer
 
@@ -34,7 +31,7 @@ pub record SheetCall (bytes : List ℕ) : Type 0 where
   pub party : ℕ
   pub before : List ℤ
   pub after : List ℤ
-  pub answer : SheetAnswer
+  pub answer : Result ℕ Refusal
   pub called : SheetCalled bytes party before after answer
 
 pub record FileCall (bytes : List ℕ) : Type 0 where
@@ -46,17 +43,17 @@ pub record FileCall (bytes : List ℕ) : Type 0 where
   pub rows_after : List ℤ
   pub before : List ℕ
   pub after : List ℕ
-  pub answer : FileAnswer
+  pub answer : Result (ℕ × ℕ) Refusal
   pub called : FileCalled bytes kind receiver id moment rows_before rows_after before after answer
 
 -- "A refused call adds no sheet or file"
-unfoldable pub is_sheet : SheetAnswer → Bool
-is_sheet (Sheet count) = true
-is_sheet (SheetRefused number item) = false
+unfoldable pub is_sheet : Result ℕ Refusal → Bool
+is_sheet (Ok count) = true
+is_sheet (Err refusal) = false
 
-unfoldable pub is_file : FileAnswer → Bool
-is_file (File row_count count) = true
-is_file (FileRefused number item) = false
+unfoldable pub is_file : Result (ℕ × ℕ) Refusal → Bool
+is_file (Ok counts) = true
+is_file (Err refusal) = false
 
 unfoldable pub filled : {bytes : List ℕ} → SheetCall bytes → Bool
 filled c = is_sheet c.answer
@@ -68,9 +65,9 @@ wrote kind c = eqb c.kind (kind_number kind) && is_file c.answer
 unfoldable pub sum_at : {bytes : List ℕ} → ℕ → SheetCall bytes → ℤ
 sum_at q c = cond (filled c) (get_or c.after q (pos 0)) (pos 0)
 
-unfoldable pub written : FileAnswer → List ℕ → List ℕ
-written (File row_count count) after = take count after
-written (FileRefused number item) after = []
+unfoldable pub written : Result (ℕ × ℕ) Refusal → List ℕ → List ℕ
+written (Ok counts) after = take counts.1 after
+written (Err refusal) after = []
 
 -- "A file's watts are its Quantities times 1,000", as the reader's definition finds them
 unfoldable pub rows_read : Res Message → List Row
@@ -126,12 +123,12 @@ pub record Agreed (bytes : List ℕ) (sheets : List (SheetCall bytes)) (files : 
 -- lends long enough buffers"
 pub record Answered (bytes : List ℕ) : Type 0 where
   pub sheet_call : (c : SheetCall bytes) → Memᴰ c.party (parties (book_of bytes)) → month_quarters (book_of bytes).calendar ≤ length c.before
-      → c.answer ≡ Sheet (month_quarters (book_of bytes).calendar)
+      → c.answer ≡ Ok (month_quarters (book_of bytes).calendar)
   pub file_call : (c : FileCall bytes) (kind : Kind) → c.kind ≡ kind_number kind → Memᴰ c.receiver (receivers (book_of bytes) kind)
       → is_transaction_id c.id ≡ true → is_moment c.moment ≡ true
       → row_width * row_count (book_of bytes) ≤ length c.rows_before
       → length (file_text (book_of bytes) kind c.receiver c.id c.moment) ≤ length c.before
-      → c.answer ≡ File (row_count (book_of bytes)) (length (file_text (book_of bytes) kind c.receiver c.id c.moment))
+      → c.answer ≡ Ok (row_count (book_of bytes), length (file_text (book_of bytes) kind c.receiver c.id c.moment))
 
 -- "For every accepted book"
 pub record Holds (bytes : List ℕ) : Type 0 where

@@ -1,24 +1,10 @@
-// The sheets and files of a book: the calls' answers, and demand 3 of the calls' contracts. Definitions and laws stand in specs/; crate `filing` has the calls.
+// The sheets and files of a book: demand 3 of the calls' contracts. Definitions and laws stand in specs/; crate `filing` has the calls.
 #![tactic(auto)]
 
 ghost use Rattle.reports.specs.Demand3.{Demand3, Possible};
 ghost use Rattle.reports.specs.Small.{SmallShown};
 ghost use Rattle.reports.specs.Pool.{PoolShown};
 ghost use Rattle.reports.specs.March.{MarchShown};
-
-// What a sheet call answers: the sums that it filled, or a number and an item of document 01.
-#[derive(Clone, Copy)]
-pub enum SheetAnswer {
-    Sheet(usize),
-    Refused(u64, usize),
-}
-
-// What a file call answers: the settlement rows and the bytes that it filled, or a number and an item.
-#[derive(Clone, Copy)]
-pub enum FileAnswer {
-    File(usize, usize),
-    Refused(u64, usize),
-}
 
 // Demand 3. It does nothing: what it ensures has to be proved.
 pub fn sheets_and_files_agree()

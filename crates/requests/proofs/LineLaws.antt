@@ -1,7 +1,8 @@
 -- A line's words stand where the code says.
 use Rattle.std.specs.Prelude.{◌≡◌, refl, true, false, List, ◌++◌, ℕ, ◌+◌, ◌-◌, ◌≤◌, drop}
 use Rattle.std.proofs.Math.Path.{sym}
-use Rattle.std.proofs.Common.{ap, ◌∙◌, append_assoc, length-append, length-drop, take_at, drop_at}
+use Rattle.std.proofs.Common.{ap, ◌∙◌, append_assoc, length-append, take_at, drop_at}
+use Rattle.std.specs.Prelude.{Some, None, Result, Ok, Err}
 use Rattle.std.proofs.Math.ListN.{length, take}
 use native.Mathlib.Omega.{arith}
 use Rattle.text.specs.Ascii.{bytes}
@@ -9,89 +10,91 @@ use Rattle.text.specs.Decimal.{fixed}
 use Rattle.text.proofs.DecimalLaws.{length-fixed}
 use Rattle.formats.specs.Format.{Res, got, bad}
 use Rattle.formats.specs.FormatLaws.{sound-of}
-use Rattle.formats.specs.Combine.{strip, only_parse}
+use Rattle.formats.specs.Combine.{strip, seq_parse, post_parse, only_parse}
 use Rattle.formats.specs.Exactly.{exactly_parse, fixed_digits}
-use Rattle.formats.specs.Name.{name_byte, span, name_parse}
-use Rattle.formats.specs.RunLaws.{run-seq, run-post, run_only, run-fail}
-use Rattle.formats.specs.PlaceInner.{Parsed, left}
-use Rattle.formats.specs.declared.Mark.{Mark}
-use Rattle.formats.specs.declared.Mark.TheVariants.{At, No}
+use Rattle.formats.specs.Name.{name_byte, name_parse}
 use Rattle.message.specs.Valid.{is_moment}
 use Rattle.requests.specs.declared.Asked.{Asked}
-use Rattle.requests.specs.declared.Request.TheVariants.{Line, NoLine}
-use Rattle.kinds.specs.Numbers.{is_kind}
-use Rattle.kinds.specs.NumbersLaws.{kind-most}
+use Rattle.std.specs.Result.{result_ok}
+use Rattle.kinds.specs.declared.Kind.{Kind}
+use Rattle.kinds.specs.declared.UnknownKind.{UnknownKind}
+use Rattle.kinds.specs.Numbers.{kind_numbered, is_there, is_kind}
+use Rattle.kinds.specs.NumbersInner.{kind_in}
 use Rattle.requests.specs.Line.{Words, line}
-use Rattle.requests.specs.LineInner.{Lined, asked, request_by, request_of}
-
--- ---- a kind
-
-module _ (s : List ℕ) (m r : Mark) (n : ℕ) (p : Parsed (fixed_digits 2).parse s m r n) where
-  pub kind-is : is_kind n ≡ true → Parsed (only_parse is_kind (fixed_digits 2).parse) s m r n
-  kind-is e = record { run = run_only is_kind p.run e; within = p.within }
-
-  pub kind-none : is_kind n ≡ false → Parsed (only_parse is_kind (fixed_digits 2).parse) s m No n
-  kind-none e = record { run = run-fail is_kind p.run e; within = tt }
+use Rattle.requests.specs.LineInner.{asked, request_by, request_of}
 
 -- ---- the line
 
-module _ (s : List ℕ) {a b c d e f r : Mark} {kind receiver : ℕ} where
-  pub lined : Parsed (only_parse is_kind (fixed_digits 2).parse) s (At 0) a kind → Parsed (strip (bytes " ")) s a b tt
-      → Parsed (fixed_digits 10).parse s b c receiver → Parsed (strip (bytes " ")) s c d tt
-      → Parsed (name_parse name_byte 1 36 32) s d e (span name_byte (left s d)) → Parsed (exactly_parse 29 is_moment) s e f (take 29 (left s e))
-      → Parsed (strip (bytes "\n")) s f r tt → Lined s r kind receiver
-  unfolding line
-  lined p₀ p₁ p₂ p₃ p₄ p₅ p₆ =
-      record {
-        id = span name_byte (left s d);
-        moment = take 29 (left s e);
-        parsed = record {
-          run = run-seq _ (run-post _ p₀.run p₁.run) (run-seq _ (run-post _ p₂.run p₃.run) (run-seq _ p₄.run (run-post _ p₅.run p₆.run)));
-          within = p₆.within;
-        };
-      }
+-- the parts one after the other: a part that isn't there ends it
+module _ (s : List ℕ) where
+  pub no-kind : (fixed_digits 2).parse s ≡ bad → line.parse s ≡ bad
+  unfolding line seq_parse post_parse only_parse
+  no-kind e = rw e
+
+  module _ {kind : ℕ} {a : List ℕ} (e₀ : (fixed_digits 2).parse s ≡ got kind a) where
+    pub other-kind : is_kind kind ≡ false → line.parse s ≡ bad
+    unfolding line seq_parse post_parse only_parse
+    other-kind e = rw (e₀, e)
+
+    module _ (e₁ : is_kind kind ≡ true) where
+      pub no-space : strip (bytes " ") a ≡ bad → line.parse s ≡ bad
+      unfolding line seq_parse post_parse only_parse
+      no-space e = rw (e₀, e₁, e)
+
+      module _ {b : List ℕ} (e₂ : strip (bytes " ") a ≡ got tt b) where
+        pub no-receiver : (fixed_digits 10).parse b ≡ bad → line.parse s ≡ bad
+        unfolding line seq_parse post_parse only_parse
+        no-receiver e = rw (e₀, e₁, e₂, e)
+
+        module _ {receiver : ℕ} {c : List ℕ} (e₃ : (fixed_digits 10).parse b ≡ got receiver c) where
+          pub no-second-space : strip (bytes " ") c ≡ bad → line.parse s ≡ bad
+          unfolding line seq_parse post_parse only_parse
+          no-second-space e = rw (e₀, e₁, e₂, e₃, e)
+
+          module _ {d : List ℕ} (e₄ : strip (bytes " ") c ≡ got tt d) where
+            pub no-id : name_parse name_byte 1 36 32 d ≡ bad → line.parse s ≡ bad
+            unfolding line seq_parse post_parse only_parse
+            no-id e = rw (e₀, e₁, e₂, e₃, e₄, e)
+
+            module _ {id : List ℕ} {f : List ℕ} (e₅ : name_parse name_byte 1 36 32 d ≡ got id f) where
+              pub no-moment : exactly_parse 29 is_moment f ≡ bad → line.parse s ≡ bad
+              unfolding line seq_parse post_parse only_parse
+              no-moment e = rw (e₀, e₁, e₂, e₃, e₄, e₅, e)
+
+              module _ {moment : List ℕ} {g : List ℕ} (e₆ : exactly_parse 29 is_moment f ≡ got moment g) where
+                pub no-end : strip (bytes "\n") g ≡ bad → line.parse s ≡ bad
+                unfolding line seq_parse post_parse only_parse
+                no-end e = rw (e₀, e₁, e₂, e₃, e₄, e₅, e₆, e)
+
+                pub line-is : {h : List ℕ} → strip (bytes "\n") g ≡ got tt h → line.parse s ≡ got (kind, (receiver, (id, moment))) h
+                unfolding line seq_parse post_parse only_parse
+                line-is e = rw (e₀, e₁, e₂, e₃, e₄, e₅, e₆, e)
+
+pub request-none : (s : List ℕ) → line.parse s ≡ bad → None ≡ request_of s
+unfolding request_of
+request-none s e = sym (ap request_by e)
+
+-- a number that is no kind's, and one that is
+pub kind-off : (n : ℕ) (r : Result Kind UnknownKind) → kind_in r ≡ kind_numbered n → None ≡ result_ok r → is_kind n ≡ false
+kind-off n (Err u) e f = ap is_there (sym e)
+kind-off n (Ok k) e f = let z : ◌≡◌ {A = ℕ} 0 1 = cc in absurd (omega arith)
+
+pub kind-on : (n : ℕ) (r : Result Kind UnknownKind) (k : Kind) → kind_in r ≡ kind_numbered n → Some k ≡ result_ok r → is_kind n ≡ true
+kind-on n (Ok j) k e f = ap is_there (sym e)
+kind-on n (Err u) k e f = let z : ◌≡◌ {A = ℕ} 0 1 = cc in absurd (omega arith)
+
+-- the places that the code has are those of the words
+pub request-some : (s : List ℕ) (w : Words) (rest : List ℕ) (id moment book : ℕ) → line.parse s ≡ got w rest
+    → id ≡ 14 → moment ≡ 15 + length w.1.1.0 → book ≡ 45 + length w.1.1.0
+    → Some (record { kind = w.0; receiver = w.1.0; id = id; id_length = moment - id - 1; moment = moment; book = book }) ≡ request_of s
+unfolding request_of asked
+request-some s w rest id moment book e f g h =
+    let n : moment - id - 1 ≡ length w.1.1.0 = omega arith in
+    rw (e, n, f, g, h) refl
 
 pub line-length : (w : Words) → line.Ok w → length (line.render w) ≡ 45 + length w.1.1.0
 unfolding line bytes
 line-length w ok = simp (length-append, length-fixed) (omega (arith, ok.1.1.1.0))
-
-kind-small : (w : Words) → line.Ok w → w.0 ≤ 3
-unfolding line
-kind-small w ok = kind-most w.0 ok.0.1
-
--- where the line at the front of s ends, if q is the place behind it
-pub record Ended (s : List ℕ) (q : ℕ) (w : Words) : Type 0 where
-  pub form : s ≡ line.render w ++ drop q s
-  pub ok : line.Ok w
-  pub behind : q ≡ 45 + length w.1.1.0
-  pub kind : w.0 ≤ 3
-
-ended : (s : List ℕ) (q : ℕ) (w : Words) → q ≤ length s → line.parse s ≡ got w (drop q s) → Ended s q w
-ended s q w h e =
-    let f = sound-of line s w (drop q s) e in
-    record {
-      form = f.0;
-      ok = f.1;
-      behind = omega (arith, simp length-append at (ap length f.0), length-drop q s, line-length w f.1);
-      kind = kind-small w f.1;
-    }
-
-module _ (s : List ℕ) (q kind receiver : ℕ) (l : Lined s (At q) kind receiver) where
-  pub line-ended : Ended s q (kind, (receiver, (l.id, l.moment)))
-  line-ended = ended s q (kind, (receiver, (l.id, l.moment))) l.parsed.within l.parsed.run.run
-
-  pub line-there : Line (record { kind = kind; receiver = receiver; id = 14; id_length = q - 45; moment = q - 30; book = q }) ≡ request_of s
-  unfolding request_of asked
-  line-there =
-      let b = line-ended.behind in
-      let n : length l.id ≡ q - 45 = omega arith in
-      let m : 15 + length l.id ≡ q - 30 = omega arith in
-      let k : 45 + length l.id ≡ q = omega arith in
-      sym (ap request_by l.parsed.run.run ∙ (λ i. Line (record { kind = kind; receiver = receiver; id = 14; id_length = n i; moment = m i; book = k i })))
-
-pub no_line : (s : List ℕ) (kind receiver : ℕ) → Lined s No kind receiver → NoLine ≡ request_of s
-unfolding request_of
-no_line s kind receiver l = sym (ap request_by l.parsed.run.run)
 
 -- ---- the words of a line, as parts of the input
 
@@ -152,18 +155,18 @@ pub record FoundLine (s : List ℕ) (a : Asked) : Type 0 where
   pub parsed : line.parse s ≡ got words rest
   pub is : a ≡ asked words
 
-pub found : (s : List ℕ) (a : Asked) → Line a ≡ request_of s → FoundLine s a
+pub found : (s : List ℕ) (a : Asked) → Some a ≡ request_of s → FoundLine s a
 unfolding request_of
 found s a e = go (line.parse s) refl e
   where
-    go : (r : Res Words) → line.parse s ≡ r → Line a ≡ request_by r → FoundLine s a
+    go : (r : Res Words) → line.parse s ≡ r → Some a ≡ request_by r → FoundLine s a
     go (got w rest) p e = record { words = w; rest = rest; parsed = p; is = cc }
     go bad p e = let z : ◌≡◌ {A = ℕ} 0 1 = cc in absurd (omega arith)
 
-pub found_none : (s : List ℕ) → NoLine ≡ request_of s → line.parse s ≡ bad
+pub found_none : (s : List ℕ) → None ≡ request_of s → line.parse s ≡ bad
 unfolding request_of
 found_none s e = go (line.parse s) e
   where
-    go : (r : Res Words) → NoLine ≡ request_by r → r ≡ bad
+    go : (r : Res Words) → None ≡ request_by r → r ≡ bad
     go (got w rest) e = let z : ◌≡◌ {A = ℕ} 0 1 = cc in absurd (omega arith)
     go bad e = refl

@@ -4,10 +4,3 @@
 pub mod engagements;
 pub mod metering;
 pub mod register;
-
-// Where a search ended.
-#[derive(Clone, Copy)]
-pub enum Found {
-    At(usize),
-    Nothing,
-}

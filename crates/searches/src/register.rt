@@ -1,164 +1,144 @@
 // Refusal 5: the register's rows.
-ghost use Rattle.std.specs.Prelude.{◌≡◌, ◌+◌, ◌*◌, ◌^◌, ◌≤◌, ◌<◌, max, ltb, length};
+ghost use Rattle.std.specs.Prelude.{◌≡◌, ◌+◌, ◌*◌, ◌^◌, ◌≤◌, ◌<◌, ltb, length};
 ghost use Rattle.integers.specs.First.{first, any_below};
-ghost use Rattle.searches.specs.FoundInner.{found_at};
+ghost use Rattle.integers.specs.FoundInner.{found_at};
 ghost use Rattle.book.specs.Register.{access_in, register_row, numbers_good, rest_good, bytes_good, not_above, differs, bad_point};
-ghost use Rattle.searches.specs.RegisterInner.{is_known};
-ghost use Rattle.searches.specs.RegisterInner.{Topped};
+ghost use Rattle.searches.specs.RegisterInner.{differs_from, Topped};
 
-use crate::Found;
 use book::Takers;
-
-fn known(t: Takers) -> bool
-    ensures { result ≡ is_known t }
-{
-    match t {
-        Takers::Aggregated => true,
-        Takers::Individual => true,
-        Takers::Neither => true,
-        Takers::Refused => false,
-    }
-}
+use book::register::takers_of;
+use book::sections::row_at;
 
 // Bits from `days` up are 0.
+#[tactic(auto, using(crate::proofs::RegisterLaws::bits_above))]
 fn mask_good(mask: u64, days: u32) -> bool
     requires { days ≤ 64 }
     ensures { result ≡ ltb mask (2 ^ days) }
 {
-    if 64 <= days {
-        return true;
-    }
-    mask >> days == 0
+    days == 64 || mask >> days == 0
 }
 
-fn numbers_good(row: &[u8], days: u32) -> bool
-    requires { (64 ≤ length row.now) × (days ≤ 64) }
+#[tactic(auto, unfolding(book::specs::Register::numbers_good))]
+fn numbers_good(row: &[u8; 64], days: u32) -> bool
+    requires { days ≤ 64 }
     ensures { result ≡ numbers_good days row.now }
 {
-    let delivery = wire::u64_at(row, 0);
-    let access = wire::u64_at(row, 8);
-    let supplier = wire::u64_at(row, 16);
-    let fsp = wire::u64_at(row, 24);
-    let mask = mask_good(wire::u64_at(row, 32), days);
-    let upward = wire::u32_at(row, 40);
-    let downward = wire::u32_at(row, 44);
-    (delivery < 1000000000000000000)
-        & ((access < 1000000000000000000)
-            & ((supplier < 10000000000)
-                & ((fsp < 10000000000)
-                    & (mask & ((upward <= 1000000000) & (downward <= 1000000000))))))
+    wire::u64_at(row, 0) < 1_000_000_000_000_000_000
+        && wire::u64_at(row, 8) < 1_000_000_000_000_000_000
+        && wire::u64_at(row, 16) < 10_000_000_000
+        && wire::u64_at(row, 24) < 10_000_000_000
+        && mask_good(wire::u64_at(row, 32), days)
+        && wire::u32_at(row, 40) <= 1_000_000_000
+        && wire::u32_at(row, 44) <= 1_000_000_000
 }
 
-// The bytes that are no column are zero.
-fn rest_good(version: u16, row: &[u8]) -> bool
-    requires { 64 ≤ length row.now }
+// The bytes that are no column are zero: in version 1 from byte 55 on, and from version 2 on but for the injection party in bytes 56 and 57.
+#[tactic(auto, unfolding(book::specs::Register::rest_good))]
+fn rest_good(version: u16, row: &[u8; 64]) -> bool
     ensures { result ≡ rest_good version row.now }
 {
-    let first = wire::u8_at(row, 55) == 0;
     if book::header::splits(version) {
-        return first & ((wire::u16_at(row, 58) == 0) & (wire::u32_at(row, 60) == 0));
+        row[55] == 0 && wire::are_zero(&row[58..])
+    } else {
+        wire::are_zero(&row[55..])
     }
-    first & (wire::u64_at(row, 56) == 0)
 }
 
-fn bytes_good(version: u16, row: &[u8]) -> bool
-    requires { 64 ≤ length row.now }
+#[tactic(auto, unfolding(book::specs::Register::bytes_good))]
+fn bytes_good(version: u16, row: &[u8; 64]) -> bool
     ensures { result ≡ bytes_good version row.now }
 {
-    let situation = known(book::register::takers_of(wire::u8_at(row, 52)));
-    let supply = wire::u8_at(row, 53);
-    let method = wire::u8_at(row, 54);
-    situation & ((supply <= 1) & ((method <= 2) & rest_good(version, row)))
+    takers_of(wire::u8_at(row, 52)) != Takers::Refused
+        && wire::u8_at(row, 53) <= 1
+        && wire::u8_at(row, 54) <= 2
+        && rest_good(version, row)
 }
 
-// The delivery EAN of row i is not above that of the row before it.
-fn not_above(register: &[u8], i: usize) -> bool
-    requires { 64 * i + 64 ≤ length register.now }
-    ensures { result ≡ not_above register.now i }
-{
-    if i == 0 {
-        return false;
+// Row i of a register.
+#[derive(Clone, Copy)]
+struct Row<'a> {
+    register: &'a [u8],
+    i: usize,
+    ghost inside: { 64 * i + 64 ≤ length register.now },
+}
+
+impl<'a> Row<'a> {
+    fn bytes(self) -> &'a [u8; 64]
+        ensures { result.now ≡ register_row self.entry.register.now self.entry.i }
+    {
+        row_at(self.register, self.i)
     }
-    wire::u64_at(register, 64 * i) <= wire::u64_at(register, 64 * i - 64)
-}
 
-// Rows i and j are of one access point, and have another supplier or supply direction.
-fn differ(register: &[u8], i: usize, j: usize) -> bool
-    requires { (64 * i + 64 ≤ length register.now) × (64 * j + 64 ≤ length register.now) }
-    ensures { result ≡ differs register.now i j }
-{
-    let a = 64 * i;
-    let b = 64 * j;
-    let access = wire::u64_at(register, a + 8) == wire::u64_at(register, b + 8);
-    let supplier = wire::u64_at(register, a + 16) == wire::u64_at(register, b + 16);
-    let supply = wire::u8_at(register, a + 53) == wire::u8_at(register, b + 53);
-    access & !(supplier & supply)
-}
+    fn access(self) -> u64
+        ensures { result ≡ access_in (register_row self.entry.register.now self.entry.i) }
+    {
+        wire::u64_at(self.bytes(), 8)
+    }
 
-// Some earlier row differs from row i.
-fn differs_earlier(register: &[u8], i: usize) -> bool
-    requires { 64 * i + 64 ≤ length register.now }
-    ensures { result ≡ any_below (differs register.now i) i }
-{
-    let mut j = 0;
-    while j < i {
-        if differ(register, i, j) {
-            return true;
+    // Its delivery EAN is not above that of the row before it.
+    #[tactic(auto, using(crate::proofs::OrderLaws::first_point, crate::proofs::OrderLaws::later_point))]
+    fn not_above(self) -> bool
+        ensures { result ≡ not_above self.entry.register.now self.entry.i }
+    {
+        self.i > 0
+            && wire::u64_at(self.bytes(), 0)
+                <= wire::u64_at(row_at::<64>(self.register, self.i - 1), 0)
+    }
+
+    // Row j, which comes earlier, is of the same access point and has another supplier or supply direction.
+    #[tactic(auto, unfolding(crate::specs::RegisterInner::differs_from))]
+    fn differs_from(self, j: usize) -> bool
+        requires { j < self.i }
+        ensures { result ≡ differs_from self.entry.register.now self.entry.i j }
+    {
+        let a = self.bytes();
+        let b: &[u8; 64] = row_at(self.register, j);
+        wire::u64_at(a, 8) == wire::u64_at(b, 8)
+            && !(wire::u64_at(a, 16) == wire::u64_at(b, 16)
+                && wire::u8_at(a, 53) == wire::u8_at(b, 53))
+    }
+
+    // An earlier row differs from it.
+    fn differs_earlier(self) -> bool
+        ensures { result ≡ any_below (differs self.entry.register.now self.entry.i) self.entry.i }
+    {
+        (0..self.i).any(|j| self.differs_from(j))
+    }
+
+    // The same, where no access EAN of an earlier row is above `top`: none of them is this row's if that is.
+    fn differs_below(self, top: u64) -> bool
+        requires { Topped self.register.now self.i top }
+        ensures { result ≡ any_below (differs self.entry.register.now self.entry.i) self.entry.i }
+    {
+        if top < self.access() {
+            return false;
         }
-        j += 1;
+        self.differs_earlier()
     }
-    false
-}
 
-// The access EAN of row i.
-fn access_at(register: &[u8], i: usize) -> u64
-    requires { 64 * i + 64 ≤ length register.now }
-    ensures { result ≡ access_in (register_row register.now i) }
-{
-    wire::u64_at(register, 64 * i + 8)
-}
-
-// The same, where no access EAN of an earlier row is above `top`: none of them is row i's if that is.
-fn differs_below(register: &[u8], i: usize, top: u64) -> bool
-    requires { (64 * i + 64 ≤ length register.now) × Topped register.now i top }
-    ensures { result ≡ any_below (differs register.now i) i }
-{
-    if top < access_at(register, i) {
-        return false;
+    #[tactic(auto, unfolding(book::specs::Register::bad_point))]
+    fn is_bad(self, version: u16, days: u32, top: u64) -> bool
+        requires { (days ≤ 64) × Topped self.register.now self.i top }
+        ensures { result ≡ bad_point version days self.entry.register.now self.entry.i }
+    {
+        let row = self.bytes();
+        let good = numbers_good(row, days) && bytes_good(version, row);
+        !good || (self.not_above() || self.differs_below(top))
     }
-    differs_earlier(register, i)
-}
-
-fn bad_point(version: u16, register: &[u8], i: usize, days: u32, top: u64) -> bool
-    requires { (64 * i + 64 ≤ length register.now) × (days ≤ 64) × Topped register.now i top }
-    ensures { result ≡ bad_point version days register.now i }
-{
-    let a = 64 * i;
-    let e = a + 64;
-    let row = &register[a..e];
-    let good = numbers_good(row, days) & bytes_good(version, row);
-    !good | (not_above(register, i) | differs_below(register, i, top))
-}
-
-fn larger(a: u64, b: u64) -> u64
-    ensures { result ≡ max a b }
-{
-    if a < b { b } else { a }
 }
 
 // The first bad row of n.
-pub fn judge_register(version: u16, register: &[u8], n: usize, days: u32) -> Found
+pub fn judge_register(version: u16, register: &[u8], n: usize, days: u32) -> Option<usize>
     requires { (64 * n ≤ length register.now) × (days ≤ 64) }
     ensures { found_at result ≡ first (bad_point version days register.now) 0 n }
 {
-    let mut top: u64 = 0;
-    let mut i = 0;
-    while i < n {
-        if bad_point(version, register, i, days, top) {
-            return Found::At(i);
+    let mut top = 0;
+    for i in 0..n {
+        let row = Row { register, i };
+        if row.is_bad(version, days, top) {
+            return Some(i);
         }
-        top = larger(top, access_at(register, i));
-        i += 1;
+        top = top.max(row.access());
     }
-    Found::Nothing
+    None
 }

@@ -4,6 +4,7 @@ use Rattle.std.proofs.Math.Option.{none}
 use Rattle.integers.specs.Ranges.{range}
 use Rattle.integers.specs.Sums.{sum_of}
 use Rattle.quarters.specs.declared.Calendar.{Calendar}
+use Rattle.book.specs.Header.{calendar_of, register_section, engagement_section}
 use Rattle.book.specs.Register.{point_at}
 use Rattle.book.specs.Engagements.{engagement_at}
 use Rattle.book.specs.Book.{Book, book_of}
@@ -47,12 +48,13 @@ pub record Parts (c : Calendar) (register engagements volumes : List ℕ) (book 
   pub owner : (i : ℕ) → i < engagement_count_in engagements → point_of book (engagement_at engagements i) ≡ point_at register (engagement_at engagements i).point
   pub starts : take (length (book_volumes book)) volumes ≡ book_volumes book
 
--- there is such a book
-pub record Parted (c : Calendar) (register engagements volumes : List ℕ) : Type 0 where
-  pub book : Book
-  pub parts : Parts c register engagements volumes book
-
 -- the bytes of a book that refusals 1 to 9 pass, and numbers that start with its delivered volumes
 pub record DeliveredIn (bytes volumes : List ℕ) : Type 0 where
   pub accepted : book_refusal bytes ≡ none
   pub starts : take (length (book_volumes (book_of bytes))) volumes ≡ book_volumes (book_of bytes)
+
+-- the calendar, the register and the engagements that a book's bytes say
+pub record PartsOf (bytes : List ℕ) (c : Calendar) (third fifth : List ℕ) : Type 0 where
+  pub when : c ≡ calendar_of bytes
+  pub register : third ≡ register_section bytes
+  pub engagements : fifth ≡ engagement_section bytes

@@ -2,8 +2,10 @@
 #![tactic(auto)]
 
 use kinds::Kind;
+use volumes::Series;
 
 pub mod delivered;
+pub mod points;
 pub mod sums;
 
 // Whose file: a receiver in its role, "FSP for kind 01, supplier for 02 and 03".
@@ -11,4 +13,11 @@ pub mod sums;
 pub struct Role {
     pub kind: Kind,
     pub receiver: u64,
+}
+
+// A series of a receiver's file.
+#[derive(Clone, Copy)]
+pub struct FileSeries {
+    pub role: Role,
+    pub series: Series,
 }

@@ -1,15 +1,3 @@
-pub mod ReadingInner
-pub mod ReadingLaws
-pub mod ItemsLaws
-pub mod FillingInner
-pub mod FillingLaws
-pub mod SeriesInner
-pub mod SeriesLaws
-pub mod PassagesLaws
-pub mod SeriesFillingLaws
+pub mod RowsInner
+pub mod ViewsInner
 pub mod TurnsInner
-pub mod TurnsLaws
-pub mod VolumesInner
-pub mod VolumesLaws
-pub mod SeriesTurnsInner
-pub mod SeriesTurnsLaws

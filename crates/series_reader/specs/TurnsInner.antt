@@ -1,29 +1,23 @@
--- The loop over observations, on values: what is wanted, what is left of it, what a turn does to it, and what all turns do.
-use Rattle.std.specs.Prelude.{◌≡◌, ℕ, ◌-◌}
-use mathlib.Core.List.{List, flat_map}
-use Rattle.formats.specs.declared.Mark.{Mark}
-use Rattle.formats.specs.declared.Mark.TheVariants.{At, No}
+-- A loop over items whose keys rise, turn by turn: what was read so far, and what is left to read.
+use Rattle.std.specs.Prelude.{◌≡◌, ℕ, ◌-◌, drop}
+use mathlib.Core.List.{List, [], ◌∷◌, flat_map}
+use Rattle.formats.specs.Format.{Res}
+use Rattle.formats.specs.Items.{repeat_parse, onto}
 use Rattle.cursor.specs.declared.Cursor.{Cursor}
-use Rattle.cursor.specs.MovesInner.{standing, cursor_at, lost}
-use Rattle.message.specs.Valid.{last_position}
-use Rattle.message.specs.Reading.{observed}
-use Rattle.series_reader.specs.declared.elements.Wanted.{Wanted}
-use Rattle.series_reader.specs.declared.elements.Todo.{Todo}
-use Rattle.series_reader.specs.ReadingInner.{Passed, observations_of}
-use Rattle.series_reader.specs.FillingInner.{Fills, Stored, rows_of_observation}
+use Rattle.message.specs.Rows.{Row}
+use Rattle.series_reader.specs.declared.rows.Rows.{Rows}
+use Rattle.series_reader.specs.RowsInner.{held, with_rows, Lent}
 
-abbrev pub at_first : Wanted → Todo
-at_first w = record { left = w.count; behind = 0; last = last_position w.year w.month; key = w.key; rows = w.rows }
+-- the state behind items
+unfoldable pub behind : {A S : Type 0} → (S → A → S) → S → List A → S
+behind next st [] = st
+behind next st (a ∷ l) = behind next (next st a) l
 
--- what a turn leaves where an observation of these watts was read up to the mark, or none
-abbrev pub After : Mark → Todo → ℕ → ℕ → List ℕ → List ℕ → Cursor → Todo → Type 0
-After (At q) t position watts before after to t' =
-    (to ≡ cursor_at (At q)) × (t'.left ≡ t.left - 1) × (t'.behind ≡ position) × (t'.last ≡ t.last) × (t'.key ≡ t.key)
-    × Stored (t.key.partner, ((t.key.supply, t.key.delivery), observed (position, watts))) t.rows before after t'.rows
-After No t position watts before after to t' = (to ≡ lost) × (t'.left ≡ 0) × (t'.last ≡ t.last) × (t'.key ≡ t.key) × (after ≡ before)
-
--- all that is wanted, from the cursor c to the mark m
-abbrev pub Whole : List ℕ → Wanted → Cursor → List ℕ → Mark → List ℕ → Type 0
-Whole s w c before m after =
-    Passed (observations_of w.year w.month w.count) s (standing s c) m
-    × Fills (observations_of w.year w.month w.count) (flat_map (rows_of_observation w.key.partner (w.key.supply, w.key.delivery))) s (standing s c) w.rows before after
+-- i of n items were read from the cursor c to d: the state is st, and their rows were stored
+pub record Turned {A S : Type 0} (f : S → List ℕ → Res A) (next : S → A → S) (rows_of : A → List Row) (n i : ℕ) (first st : S) (c d : Cursor) (before after : Rows) : Type 0 where
+  pub done : List A
+  pub text : d.text.now ≡ c.text.now
+  pub rest : repeat_parse f next n first (drop c.at c.text.now) ≡ onto done (repeat_parse f next (n - i) st (drop d.at d.text.now))
+  pub state : behind next first done ≡ st
+  pub rows : held after ≡ with_rows (flat_map rows_of done) (held before)
+  pub lent : Lent before after

@@ -1,225 +1,74 @@
-// A time series, from its observations up: the cursor that was lent is lent on, to passages, to the loop over observations and to the tags behind them.
-ghost use Rattle.std.specs.Prelude.{◌≡◌, ◌+◌, ◌-◌, ◌*◌, ◌≤◌, ◌<◌};
-ghost use Rattle.cursor.specs.MovesInner.{standing, keep};
-ghost use Rattle.message.specs.Reading.{observed};
-ghost use Rattle.series_reader.specs.ReadingInner.{in_order};
-ghost use Rattle.series_reader.specs.FillingInner.{Stored};
-ghost use Rattle.series_reader.specs.TurnsInner.{at_first, After, Whole};
-ghost use Rattle.series_reader.specs.VolumesInner.{MonthPassed, VolumeDone};
+// A time series, from its observations up.
+ghost use Rattle.std.specs.Prelude.{◌≡◌, option_map, suc};
+ghost use Rattle.formats.specs.Words.{words_parse};
+ghost use Rattle.cursor.specs.ReadsInner.{Reads};
+ghost use Rattle.message.specs.Bytes.{deliveries};
+ghost use Rattle.message.specs.Contents.{position};
+ghost use Rattle.message.specs.Reading.{observations_parse, volume_parse, of_volume};
+ghost use Rattle.passages.specs.ViewsInner.{bit};
+ghost use Rattle.series_reader.specs.RowsInner.{Filled, directions, rows_of_observation, rows_of_observations, rows_of_series};
+ghost use Rattle.series_reader.specs.ViewsInner.{volume_told, volume_kept, next_observation};
 
+use crate::rows::{Key, Rows};
+use calendar::dates::Month;
 use cursor::Cursor;
-use passages::{MonthFound, ObservationFound};
 
-// An observation's watts, from its kilowatts.
-fn watts_of(whole: u64, part: u64) -> u64
-    ensures { (whole ≤ 999999999) × (part < 1000) → result ≡ whole * 1000 + part }
+// An observation of a month behind a position; its row is stored.
+fn observation(c: &mut Cursor, rows: &mut Rows, key: Key, last: u64, behind: u64) -> Option<u64>
+    ensures { Filled (next_observation last (suc behind)) position (rows_of_observation key.partner (directions key)) c.old c.new rows.old rows.new result }
 {
-    if 999999999 < whole {
-        return 0;
+    let o = passages::observation(c, last)?;
+    if o.position <= behind {
+        return None;
     }
-    if 999 < part {
-        return 0;
-    }
-    whole * 1000 + part
+    rows.push(key, o);
+    Some(o.position)
 }
 
-// Whether an observation may stand behind one at the position `behind`.
-fn in_order(position: u64, watts: u64, behind: u64, last: u64) -> bool
-    ensures { result ≡ in_order (behind + 1) last (position, watts) }
+// So many observations of a month.
+pub fn observations(c: &mut Cursor, rows: &mut Rows, key: Key, last: u64, count: u64) -> Option<()>
+    ensures { Filled (observations_parse last count) (λ l. tt) (rows_of_observations key.partner (directions key)) c.old c.new rows.old rows.new result }
 {
-    if last < position {
-        return false;
+    let mut behind = 0;
+    for _i in 0..count {
+        behind = observation(c, rows, key, last, behind)?;
     }
-    if watts == 0 {
-        return false;
-    }
-    behind < position
+    Some(())
 }
 
-// The partner, supply and delivery direction of a series.
-#[derive(Clone, Copy)]
-pub struct Key {
-    pub partner: u64,
-    pub supply: u64,
-    pub delivery: u64,
+// A time series from its delivery direction on.
+#[derive(Clone, Copy, Debug, PartialEq, Eq)]
+pub struct Delivered {
+    pub down: bool,
+    pub month: Month,
 }
 
-// An observation's six numbers behind `count` rows, where they have room; the number of rows with it.
-fn store(out: &mut [u64], count: u64, key: Key, position: u64, watts: u64) -> u64
-    ensures { Stored (key.partner, ((key.supply, key.delivery), observed (position, watts))) count out.old out.new result }
+// A delivery direction.
+#[tactic(auto, unfolding(text::specs::Ascii::bytes, message::specs::Bytes::deliveries))]
+fn delivery(c: &mut Cursor) -> Option<bool>
+    ensures { Reads (words_parse deliveries) c.old c.new (option_map bit result) }
 {
-    let k = count as usize;
-    if out.len() / 6 <= k {
-        return count;
-    }
-    let at = k * 6;
-    out[at] = key.partner;
-    out[at + 1] = key.supply;
-    out[at + 2] = key.delivery;
-    out[at + 3] = position;
-    out[at + 4] = watts;
-    out[at + 5] = 0;
-    count + 1
+    passages::second_word(c, b"DeliveryUp", b"DeliveryDown")
 }
 
-// So many observations of a month, whose rows go behind `rows` rows.
-#[derive(Clone, Copy)]
-pub struct Wanted {
-    pub count: u64,
-    pub year: u64,
-    pub month: u64,
-    pub key: Key,
-    pub rows: u64,
-}
-
-// What is left of them: so many, behind a position up to a last one, and behind so many rows.
-#[derive(Clone, Copy)]
-pub struct Todo {
-    pub left: u64,
-    pub behind: u64,
-    pub last: u64,
-    pub key: Key,
-    pub rows: u64,
-}
-
-// The cursor behind an observation, and what is then left.
-#[derive(Clone, Copy)]
-pub struct Turned {
-    pub to: Cursor,
-    pub todo: Todo,
-}
-
-// Where none has been read.
-fn at_first(w: Wanted) -> Todo
-    ensures { result ≡ at_first w }
+// A time series from its delivery direction on; its rows are stored.
+#[tactic(auto, unfolding(text::specs::Ascii::bytes, message::specs::Bytes::opening, message::specs::Bytes::ending, message::specs::Bytes::closing, message::specs::Reading::volume_parse, message::specs::Reading::counted_parse, message::specs::Reading::plain_parse, formats::specs::Combine::map_parse, formats::specs::Combine::pre_parse, formats::specs::Combine::post_parse, formats::specs::Combine::seq_parse))]
+pub fn volume(c: &mut Cursor, rows: &mut Rows, partner: u64, injection: bool) -> Option<Delivered>
+    ensures { Filled volume_parse volume_kept (λ v. rows_of_series partner (of_volume (bit injection) v)) c.old c.new rows.old rows.new (option_map volume_told result) }
 {
-    let last = message::last_position(w.year, w.month);
-    let key = w.key;
-    Todo {
-        left: w.count,
-        behind: 0,
-        last,
-        key,
-        rows: w.rows,
-    }
-}
-
-// An observation that the cursor has moved past is tested and its row stored; where it isn't good the cursor is lost, and nothing is left.
-fn turn(c: Cursor, s: &[u8], o: ObservationFound, t: Todo, out: &mut [u64]) -> Turned
-    ensures { (0 < t.left) × (o.whole ≤ 999999999) × (o.part < 1000) → After (keep (in_order (t.behind + 1) t.last (o.position, o.whole * 1000 + o.part)) (standing s.now c)) t o.position (o.whole * 1000 + o.part) out.old out.new result.to result.todo }
-{
-    let key = t.key;
-    let watts = watts_of(o.whole, o.part);
-    let good = in_order(o.position, watts, t.behind, t.last);
-    let to = cursor::keep(c, s, good);
-    if !to.good {
-        let none = Todo {
-            left: 0,
-            behind: 0,
-            last: t.last,
-            key,
-            rows: t.rows,
-        };
-        return Turned { to, todo: none };
-    }
-    let rows = store(out, t.rows, key, o.position, watts);
-    let left = less_one(t.left);
-    let rest = Todo {
-        left,
-        behind: o.position,
-        last: t.last,
-        key,
-        rows,
-    };
-    Turned { to, todo: rest }
-}
-
-// One less, down to none.
-pub fn less_one(n: u64) -> u64
-    ensures { result ≡ n - 1 }
-{
-    if n == 0 {
-        return 0;
-    }
-    n - 1
-}
-
-// The observations: one cursor, which was lent, is lent on for each of them.
-pub fn observations(c: &mut Cursor, s: &[u8], w: Wanted, out: &mut [u64])
-    ensures { Whole s.now w c.old out.old (standing s.now c.new) out.new }
-{
-    let mut t = at_first(w);
-    while 0 < t.left {
-        let o = passages::observation(c, s);
-        let x = turn(*c, s, o, t, out);
-        *c = x.to;
-        t = x.todo;
-    }
-}
-
-// What stands behind the year and month of a period, where there is such a month.
-fn month_by(c: Cursor, s: &[u8], p: MonthFound) -> Cursor
-    ensures { MonthPassed s.now p c result }
-{
-    let year = p.year;
-    let month = p.month;
-    if !message::is_period(year, month) {
-        return Cursor { at: 0, good: false };
-    }
-    let start = message::moment_text(moments::period_start(year, month));
-    let end = message::moment_text(moments::period_end(year, month));
-    passages::behind_month_by(c, s, &start[7..29], &end)
-}
-
-// Past what stands behind the year and month of a period.
-pub fn past_month(c: &mut Cursor, s: &[u8], p: MonthFound)
-    ensures { MonthPassed s.now p c.old c.new }
-{
-    *c = month_by(*c, s, p);
-}
-
-// The time series that is wanted: its partner and supply direction, and the rows before its own.
-#[derive(Clone, Copy)]
-pub struct VolumeTodo {
-    pub partner: u64,
-    pub supply: u64,
-    pub rows: u64,
-}
-
-// A time series that was read.
-#[derive(Clone, Copy)]
-pub struct SeriesFound {
-    pub delivery: u64,
-    pub year: u64,
-    pub month: u64,
-    pub rows: u64,
-}
-
-// Past a time series from its delivery direction on; its rows are stored.
-pub fn volume(c: &mut Cursor, s: &[u8], x: VolumeTodo, out: &mut [u64]) -> SeriesFound
-    ensures { VolumeDone s.now x c.old out.old c.new result out.new }
-{
-    let v = passages::volume(c, s);
-    let p = passages::month(c, s);
-    past_month(c, s, p);
+    c.tag(b"<DeliveryDirection>")?;
+    let down = delivery(c)?;
+    c.tag(b"</DeliveryDirection><UnitType>KWT</UnitType><ObservationCounter>")?;
+    let count = c.counter()?;
+    c.tag(b"/ObservationCounter><TimeSeriesPeriod>")?;
+    let month = passages::period(c)?;
+    let last = message::last_position(month.year, month.month);
     let key = Key {
-        partner: x.partner,
-        supply: x.supply,
-        delivery: v.delivery,
+        partner,
+        injection,
+        down,
     };
-    let w = Wanted {
-        count: v.count,
-        year: p.year,
-        month: p.month,
-        key,
-        rows: x.rows,
-    };
-    observations(c, s, w, out);
-    cursor::past_tag(c, s, b"</TimeSeriesPeriod>");
-    SeriesFound {
-        delivery: v.delivery,
-        year: p.year,
-        month: p.month,
-        rows: v.count,
-    }
+    observations(c, rows, key, last, count)?;
+    c.tag(b"</TimeSeriesPeriod>")?;
+    Some(Delivered { down, month })
 }

@@ -1,217 +1,163 @@
-// The series of a partner: the loop over them moves the cursor that was lent to it.
-ghost use Rattle.std.specs.Prelude.{◌≡◌, ◌+◌, ◌-◌, ◌*◌, ◌^◌, ◌≤◌, ◌<◌};
+// The series of a partner.
+ghost use Rattle.std.specs.Prelude.{◌≡◌, ◌+◌, ◌*◌, option_map, leb};
+ghost use Rattle.formats.specs.Words.{words_parse};
+ghost use Rattle.cursor.specs.ReadsInner.{Reads};
+ghost use Rattle.message.specs.Bytes.{supplies};
 ghost use Rattle.message.specs.Months.{follows};
-ghost use Rattle.series_reader.specs.SeriesInner.{joins};
-ghost use Rattle.series_reader.specs.SeriesTurnsInner.{series_start, series_none, series_next, SeriesEnd, SeriesStep, SeriesWhole};
+ghost use Rattle.message.specs.Reading.{own_series_parse, shared_series_parse, series_list_parse};
+ghost use Rattle.passages.specs.ViewsInner.{bit, year_and_month};
+ghost use Rattle.series_reader.specs.RowsInner.{Filled, rows_of_series, rows_of_all};
+ghost use Rattle.series_reader.specs.ViewsInner.{outline, outline_of, series_parse, next_series, low_of, month_seen, last_month};
 
-use crate::elements::{SeriesFound, VolumeTodo};
-use cursor::{Cursor, Read};
-use kinds::Kind;
+use crate::rows::Rows;
+use calendar::dates::Month;
+use cursor::Cursor;
 
-// The series that are left of a partner: so many, from place `low` on, behind the month that was seen and so many rows. In TOE03 `supply` is
-// the access point's.
-#[derive(Clone, Copy)]
-pub struct SeriesTodo {
-    pub kind: Kind,
-    pub partner: u64,
-    pub supply: u64,
-    pub left: u64,
-    pub low: u64,
-    pub year: u64,
-    pub month: u64,
-    pub rows: u64,
+// A time series: its directions and its month.
+#[derive(Clone, Copy, Debug, PartialEq, Eq)]
+pub struct Outline {
+    pub injection: bool,
+    pub down: bool,
+    pub month: Month,
 }
 
-// A series' supply direction, its own or its access point's, and the cursor behind it.
-fn start_by(c: Cursor, s: &[u8], t: SeriesTodo) -> Read
-    ensures { result ≡ series_start s.now t.kind t.supply c }
-{
-    let kind = t.kind;
-    match kind {
-        Kind::Toe01 => passages::own_start_by(c, s),
-        Kind::Toe02 => passages::own_start_by(c, s),
-        Kind::Toe03 => passages::shared_start_by(c, s, t.supply),
+impl Outline {
+    // Off-take before injection, up before down.
+    fn place(self) -> u64
+        ensures { result ≡ bit self.injection * 2 + bit self.down }
+    {
+        u64::from(self.injection) * 2 + u64::from(self.down)
     }
 }
 
-// Past the start of a series, up to its delivery direction.
-pub fn past_start(c: &mut Cursor, s: &[u8], t: SeriesTodo) -> u64
-    ensures { (c.new ≡ (series_start s.now t.kind t.supply c.old).to) × (result ≡ (series_start s.now t.kind t.supply c.old).value) }
+// A supply direction.
+#[tactic(auto, unfolding(text::specs::Ascii::bytes, message::specs::Bytes::supplies))]
+pub fn supply(c: &mut Cursor) -> Option<bool>
+    ensures { Reads (words_parse supplies) c.old c.new (option_map bit result) }
 {
-    let x = start_by(*c, s, t);
-    *c = x.to;
-    x.value
+    passages::second_word(c, b"Off-take", b"Injection")
+}
+
+// A series with its own supply direction (TOE01, TOE02).
+#[tactic(auto, unfolding(text::specs::Ascii::bytes, message::specs::Bytes::opening, message::specs::Bytes::ending, message::specs::Bytes::closing, message::specs::Reading::own_series_parse, formats::specs::Combine::map_parse, formats::specs::Combine::pre_parse, formats::specs::Combine::post_parse, formats::specs::Combine::seq_parse))]
+fn own_series(c: &mut Cursor, rows: &mut Rows, partner: u64) -> Option<Outline>
+    ensures { Filled own_series_parse outline (rows_of_series partner) c.old c.new rows.old rows.new (option_map outline_of result) }
+{
+    c.tag(b"<ToETimeSeries><SupplyDirection>")?;
+    let injection = supply(c)?;
+    c.tag(b"</SupplyDirection>")?;
+    let v = crate::elements::volume(c, rows, partner, injection)?;
+    c.tag(b"</ToETimeSeries>")?;
+    Some(Outline {
+        injection,
+        down: v.down,
+        month: v.month,
+    })
+}
+
+// A series with the supply direction of its access point (TOE03).
+#[tactic(auto, unfolding(text::specs::Ascii::bytes, message::specs::Bytes::opening, message::specs::Bytes::ending, message::specs::Bytes::closing, message::specs::Reading::shared_series_parse, formats::specs::Combine::map_parse, formats::specs::Combine::pre_parse, formats::specs::Combine::post_parse, formats::specs::Combine::seq_parse))]
+fn shared_series(c: &mut Cursor, rows: &mut Rows, partner: u64, injection: bool) -> Option<Outline>
+    ensures { Filled (shared_series_parse (bit injection)) outline (rows_of_series partner) c.old c.new rows.old rows.new (option_map outline_of result) }
+{
+    c.tag(b"<ToETimeSeries>")?;
+    let v = crate::elements::volume(c, rows, partner, injection)?;
+    c.tag(b"</ToETimeSeries>")?;
+    Some(Outline {
+        injection,
+        down: v.down,
+        month: v.month,
+    })
+}
+
+// A series of a partner, which may have one supply direction for all of them.
+fn series(c: &mut Cursor, rows: &mut Rows, partner: u64, shared: Option<bool>) -> Option<Outline>
+    ensures { Filled (series_parse (option_map bit shared)) outline (rows_of_series partner) c.old c.new rows.old rows.new (option_map outline_of result) }
+{
+    match shared {
+        Some(injection) => shared_series(c, rows, partner, injection),
+        None => own_series(c, rows, partner),
+    }
+}
+
+// Whether a key may stand behind the one before it.
+pub fn rises(behind: Option<u64>, key: u64) -> bool
+    ensures { result ≡ leb (low_of behind) key }
+{
+    match behind {
+        Some(k) => k < key,
+        None => true,
+    }
 }
 
 // Whether a month may stand behind the one that was seen.
-fn follows(seen_year: u64, seen_month: u64, year: u64, month: u64) -> bool
-    ensures { result ≡ follows (seen_year, seen_month) (year, month) }
+fn follows(seen: Option<Month>, month: Month) -> bool
+    ensures { result ≡ follows (month_seen seen) (year_and_month month) }
 {
-    if seen_year == 0 {
-        return true;
+    match seen {
+        Some(m) => month == m,
+        None => true,
     }
-    if year != seen_year {
-        return false;
-    }
-    month == seen_month
 }
 
-// Whether a series of these directions and this month may stand behind places below `low` and the month that was seen.
-fn joins(
-    supply: u64,
-    delivery: u64,
-    year: u64,
-    month: u64,
-    low: u64,
-    seen_year: u64,
-    seen_month: u64,
-) -> bool
-    ensures { (supply ≤ 1) × (delivery ≤ 1) → result ≡ joins low (seen_year, seen_month) (supply * 2 + delivery) (year, month) }
+// The next series of a partner: behind a place, and of the month that was seen.
+fn next_series(
+    c: &mut Cursor,
+    rows: &mut Rows,
+    partner: u64,
+    shared: Option<bool>,
+    behind: Option<u64>,
+    seen: Option<Month>,
+) -> Option<Outline>
+    ensures { Filled (next_series (option_map bit shared) (low_of behind, month_seen seen)) outline (rows_of_series partner) c.old c.new rows.old rows.new (option_map outline_of result) }
 {
-    if 1 < supply {
-        return false;
+    let s = series(c, rows, partner, shared)?;
+    if !follows(seen, s.month) {
+        return None;
     }
-    if 1 < delivery {
-        return false;
+    if !rises(behind, s.place()) {
+        return None;
     }
-    if supply * 2 + delivery < low {
-        return false;
-    }
-    follows(seen_year, seen_month, year, month)
+    Some(s)
 }
 
-// The place behind that of these directions.
-fn place_behind(supply: u64, delivery: u64) -> u64
-    ensures { (supply ≤ 1) × (delivery ≤ 1) → result ≡ supply * 2 + delivery + 1 }
+// A month that was seen, if any: a name for what would be an option in an option.
+#[derive(Clone, Copy, Debug, PartialEq, Eq)]
+pub struct Seen {
+    pub month: Option<Month>,
+}
+
+impl Seen {
+    // Its year and its month, 0 and 0 where none was seen.
+    pub fn numbers(self) -> (u64, u64)
+        ensures { result ≡ month_seen self.month }
+    {
+        match self.month {
+            Some(m) => (m.year, m.month),
+            None => (0, 0),
+        }
+    }
+}
+
+// So many series of a partner, behind the month that was seen; the month that was seen last.
+pub fn series_list(
+    c: &mut Cursor,
+    rows: &mut Rows,
+    partner: u64,
+    shared: Option<bool>,
+    count: u64,
+    before: Seen,
+) -> Option<Seen>
+    ensures { Filled (series_list_parse (series_parse (option_map bit shared)) count (month_seen before.month)) (last_month (month_seen before.month)) (rows_of_all partner) c.old c.new rows.old rows.new (option_map (λ s. month_seen s.month) result) }
 {
-    if 1 < supply {
-        return 0;
+    let mut behind = None;
+    let mut seen = before;
+    for _i in 0..count {
+        let s = next_series(c, rows, partner, shared, behind, seen.month)?;
+        behind = Some(s.place());
+        seen = Seen {
+            month: Some(s.month),
+        };
     }
-    if 1 < delivery {
-        return 0;
-    }
-    supply * 2 + delivery + 1
-}
-
-// The sum of two numbers of rows.
-fn sum(a: u64, b: u64) -> u64
-    ensures { a + b < 2 ^ 64 → result ≡ a + b }
-{
-    if 18446744073709551615 - a < b {
-        return 0;
-    }
-    a + b
-}
-
-// A series that was read up to its end, and what was left with it.
-#[derive(Clone, Copy)]
-pub struct SeriesSeen {
-    pub todo: SeriesTodo,
-    pub supply: u64,
-    pub series: SeriesFound,
-}
-
-// The cursor behind a series, and what is then left.
-#[derive(Clone, Copy)]
-pub struct SeriesRead {
-    pub to: Cursor,
-    pub todo: SeriesTodo,
-}
-
-// Nothing is left.
-fn none_left(t: SeriesTodo) -> SeriesTodo
-    ensures { result ≡ series_none t }
-{
-    let kind = t.kind;
-    SeriesTodo {
-        kind,
-        partner: t.partner,
-        supply: t.supply,
-        left: 0,
-        low: t.low,
-        year: t.year,
-        month: t.month,
-        rows: t.rows,
-    }
-}
-
-// What is left behind a series that was read.
-fn left_behind(x: SeriesSeen) -> SeriesTodo
-    ensures { ((x.supply ≤ 1) × (x.series.delivery ≤ 1) × (x.todo.rows + x.series.rows < 2 ^ 64) → result ≡ series_next x) × (result.left ≤ x.todo.left - 1) }
-{
-    let t = x.todo;
-    let v = x.series;
-    let kind = t.kind;
-    let left = crate::elements::less_one(t.left);
-    let low = place_behind(x.supply, v.delivery);
-    let rows = sum(t.rows, v.rows);
-    SeriesTodo {
-        kind,
-        partner: t.partner,
-        supply: t.supply,
-        left,
-        low,
-        year: v.year,
-        month: v.month,
-        rows,
-    }
-}
-
-// The end of a series, which is held against those before it; where it isn't good the cursor is lost, and nothing is left.
-fn end_by(c: Cursor, s: &[u8], x: SeriesSeen) -> SeriesRead
-    ensures { SeriesEnd s.now x c result.to result.todo }
-{
-    let t = x.todo;
-    let v = x.series;
-    let behind = cursor::tag_by(c, s, b"</ToETimeSeries>");
-    let good = joins(
-        x.supply, v.delivery, v.year, v.month, t.low, t.year, t.month,
-    );
-    let to = cursor::keep(behind, s, good);
-    if !to.good {
-        let todo = none_left(t);
-        return SeriesRead { to, todo };
-    }
-    let todo = left_behind(x);
-    SeriesRead { to, todo }
-}
-
-// Past the end of a series; what is then left.
-pub fn past_end(c: &mut Cursor, s: &[u8], x: SeriesSeen) -> SeriesTodo
-    ensures { SeriesEnd s.now x c.old c.new result }
-{
-    let r = end_by(*c, s, x);
-    *c = r.to;
-    r.todo
-}
-
-// Past a series, whose rows are stored; what is then left.
-pub fn series(c: &mut Cursor, s: &[u8], t: SeriesTodo, out: &mut [u64]) -> SeriesTodo
-    ensures { SeriesStep s.now t c.old out.old c.new result out.new }
-{
-    let supply = past_start(c, s, t);
-    let w = VolumeTodo {
-        partner: t.partner,
-        supply,
-        rows: t.rows,
-    };
-    let v = crate::elements::volume(c, s, w, out);
-    let x = SeriesSeen {
-        todo: t,
-        supply,
-        series: v,
-    };
-    past_end(c, s, x)
-}
-
-// Past the series of a partner; what is told of them when none is left.
-pub fn series_list(c: &mut Cursor, s: &[u8], todo: SeriesTodo, out: &mut [u64]) -> SeriesTodo
-    ensures { SeriesWhole s.now todo c.old out.old c.new result out.new }
-{
-    let mut t = todo;
-    while 0 < t.left {
-        let rest = series(c, s, t, out);
-        t = rest;
-    }
-    t
+    Some(seen)
 }

@@ -1,2 +1,1 @@
 pub mod FitsInner
-pub mod FitsLaws

@@ -2,25 +2,42 @@
 // the refusal, and `changed` if a number that is no part of the answer is not as it was.
 #![tactic(auto)]
 
-ghost use Rattle.std.specs.Prelude.{◌*◌, ◌≤◌, length};
+ghost use Rattle.std.specs.Prelude.{◌*◌, ◌≤◌, length, IfSome};
 ghost use Rattle.volumes.specs.Settlement.{row_width};
 ghost use Rattle.settle_vectors.specs.FitsInner.{RowsFit};
 
-use cases::Loaded;
+use cases::words::Words;
+use cases::{answers, lent};
+use settlement::rows::ROW_WIDTH;
+use settlement::settle;
 use settlement::settle::Settled;
 use std::io;
-use text::Number;
+
+// How many numbers are lent, and how many bytes of the buffer are the book.
+#[derive(Clone, Copy)]
+struct Case {
+    lent: usize,
+    book: usize,
+}
+
+// Reads a line, with that many numbers to lend, and puts its book into the buffer.
+fn read_case(line: &[u8], most: usize, book: &mut [u8]) -> Option<Case>
+    ensures { IfSome result (λ case. (case.lent ≤ most) × (case.book ≤ length book.new)) }
+{
+    let mut words = Words::new(line);
+    let lent = words.number_up_to(most)?;
+    let book = words.load(book)?;
+    Some(Case { lent, book })
+}
 
 // The number of rows, and the rows; the numbers behind them are to be kept.
 fn answer_rows(rt: &impl Print, rows: &[i64], count: usize) -> io::Result<()>
     requires { row_width * count ≤ length rows.now }
 {
-    cases::answers::text(rt, b"rows ")?;
-    cases::answers::number(rt, count as u64)?;
-    cases::answers::text(rt, b"\n")?;
-    let end = settlement::rows::ROW_WIDTH * count;
-    cases::answers::rows(rt, &rows[..end])?;
-    cases::lent::kept(rt, &rows[end..])
+    println!(rt; "rows {count}")?;
+    let (filled, rest) = rows.split_at(ROW_WIDTH * count);
+    answers::rows(rt, filled, ROW_WIDTH)?;
+    lent::kept(rt, rest)
 }
 
 fn answer(rt: &impl Print, settled: Settled, rows: &[i64]) -> io::Result<()>
@@ -29,8 +46,8 @@ fn answer(rt: &impl Print, settled: Settled, rows: &[i64]) -> io::Result<()>
     match settled {
         Settled::Rows(count) => answer_rows(rt, rows, count),
         Settled::Refused(number, item) => {
-            cases::answers::refused(rt, number, item as u64)?;
-            cases::lent::kept(rt, rows)
+            println!(rt; "refused {number} {item}")?;
+            lent::kept(rt, rows)
         }
     }
 }
@@ -39,57 +56,20 @@ fn answer(rt: &impl Print, settled: Settled, rows: &[i64]) -> io::Result<()>
 fn settle_case(rt: &impl Print, book: &[u8], rows: &mut [i64], n: usize) -> io::Result<()>
     requires { n ≤ length rows.old }
 {
-    cases::lent::prepare(rows);
-    let settled = settlement::settle::settle(book, &mut rows[..n]);
+    lent::prepare(rows);
+    let settled = settle::settle(book, &mut rows[..n]);
     answer(rt, settled, rows)
 }
 
-// The book is the words of the line from `at` on, as sparse bytes.
-fn run_book(
-    rt: &impl Print,
-    line: &[u8],
-    at: usize,
-    book: &mut [u8],
-    rows: &mut [i64],
-    n: usize,
-) -> io::Result<()>
-    requires { (at ≤ length line.now) × (n ≤ length rows.old) }
-{
-    let loaded = cases::sparse::load(line, at, book);
-    let Loaded::Bytes(size) = loaded else {
-        return cases::answers::no_case(rt);
-    };
-    settle_case(rt, &book[..size], rows, n)
-}
-
-// How many numbers are lent, and the book.
 fn run_case(rt: &impl Print, line: &[u8], book: &mut [u8], rows: &mut [i64]) -> io::Result<()> {
-    let end = cases::words::find(line, 0, b' ');
-    let said = cases::words::number(&line[..end]);
-    let Number::Value(lent) = said else {
-        return cases::answers::no_case(rt);
-    };
-    let n = lent as usize;
-    if rows.len() < n {
-        return cases::answers::no_case(rt);
+    match read_case(line, rows.len(), book) {
+        Some(case) => settle_case(rt, &book[..case.book], rows, case.lent),
+        None => answers::no_case(rt),
     }
-    run_book(rt, line, cases::words::next(line, end), book, rows, n)
-}
-
-fn run(rt: &impl Print, text: &[u8], book: &mut [u8], rows: &mut [i64]) -> io::Result<()> {
-    let mut at = 0;
-    while at < text.len() {
-        let end = cases::words::find(text, at, b'\n');
-        run_case(rt, &text[at..end], book, rows)?;
-        at = cases::words::next(text, end);
-    }
-    Ok(())
 }
 
 fn main(rt: HostRuntime) -> io::Result<()> {
-    let mut text = cases::text_buffer();
-    let mut book = cases::book_buffer();
+    let mut book = vec![in rt.alloc(); 0; cases::BOOK_ROOM]?;
     let mut rows = [0; 2560];
-    let n = cases::input::read_full(&rt, &mut text)?;
-    run(&rt, &text[..n], &mut book, &mut rows)
+    cases::input::each_line(&rt, |line| run_case(&rt, line, &mut book, &mut rows))
 }

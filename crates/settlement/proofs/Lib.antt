@@ -1,1 +1,5 @@
 mod Cited
+pub mod CallsLaws
+pub mod PartWritesLaws
+pub mod SectionsLaws
+pub mod SettlingLaws

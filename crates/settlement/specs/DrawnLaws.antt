@@ -1,14 +1,14 @@
 -- Each engagement of an opened book can be judged and settled from the sections of its bytes.
 use Rattle.std.specs.Prelude.{◌≡◌, refl, Bool, true, false, ◌||◌, ℕ, suc, ◌+◌, ◌*◌, ◌≤◌, ◌<◌, ltb, length, get_or}
 use Rattle.std.proofs.Math.Path.{sym, ap}
-use Rattle.std.proofs.Common.{◌∙◌, mul-le-mul_left, mul_assoc, mul-suc, arith, ltb-true, ltb-false}
+use Rattle.std.proofs.Common.{◌∙◌, mul-le-mul_left, mul_assoc, mul-suc, arith, ltb-true, ltb-false, length-drop}
 use mathlib.Core.List.{List, Memᴰ}
 use Rattle.std.proofs.Math.Option.{none}
 use Rattle.std.proofs.lemmas.List.{length-map}
 use Rattle.std.proofs.Math.ListN.{get_or-eq_default}
 use Rattle.quarters.specs.declared.Calendar.{Calendar}
 use Rattle.book.specs.declared.Engagement.{Engagement}
-use Rattle.quarters.specs.Quarters.{quarters_of}
+use Rattle.quarters.specs.Quarters.{quarters_of, origin_of}
 use Rattle.quarters.specs.QuartersInner.{longest_day}
 use Rattle.quarters.proofs.QuartersLaws.{days-few, quarters-most}
 use Rattle.book.specs.Header.{calendar_of, point_count, calendar_section, table_section, register_section, reading_section}
@@ -22,7 +22,8 @@ use Rattle.volumes.specs.SoundInner.{XOfY, Placed}
 use Rattle.volumes.proofs.SoundLaws.{passes}
 use Rattle.volumes.proofs.SettlementLaws.{refusal_at, refusal-next, refusal-end}
 use Rattle.baseline.specs.ShownInner.{Shows, Fits}
-use Rattle.settlement.specs.SectionsInner.{engagement_count_in, engagements_in, book_with, shown_in, Opened}
+use Rattle.baseline.proofs.PointReadings.{reading-from}
+use Rattle.settlement.specs.SectionsInner.{engagement_count_in, engagements_in, book_with, shown_in, readings_of, Opened}
 use Rattle.settlement.specs.SectionsLaws.{all_held, engaged-in}
 use Rattle.settlement.specs.DaysInner.{Gathered}
 use Rattle.integers.proofs.BitsLaws.{bit-or}
@@ -30,8 +31,8 @@ use Rattle.integers.proofs.RangesLaws.{length-range, get_d-made, get_d-mem}
 
 -- what is shown of an engagement fits the sections and is the book's: all that judging and settling it ask
 pub record Drawn (bytes engagements masks : List ℕ) (i : ℕ) : Type 0 where
-  pub fits : Fits (shown_in bytes engagements masks i) (calendar_section bytes) (reading_section bytes)
-  pub shows : Shows (shown_in bytes engagements masks i) (calendar_section bytes) (reading_section bytes) (book_with bytes engagements)
+  pub fits : Fits (shown_in bytes engagements masks i) (calendar_section bytes) (readings_of bytes (engagement_at engagements i).point)
+  pub shows : Shows (shown_in bytes engagements masks i) (calendar_section bytes) (readings_of bytes (engagement_at engagements i).point) (book_with bytes engagements)
 
 module _ {bytes engagements : List ℕ} (s : Opened bytes engagements) where
   -- the points are as many as the header says, the engagements as the length says
@@ -92,6 +93,9 @@ module _ {bytes engagements : List ℕ} (s : Opened bytes engagements) where
       let q = quarters_of (calendar_of bytes) in
       omega (arith, (all_held bytes s.passed).readings.size, mul-le-mul_left {m = suc p} {n = point_count bytes} (4 * q) (omega arith), mul_assoc 4 q (suc p), mul-suc q p)
 
+  pub readings-start : (i : ℕ) → i < engagement_count_in engagements → 4 * origin_of (calendar_of bytes) (engagement_at engagements i).point ≤ length (reading_section bytes)
+  readings-start i h = omega (arith, readings-room (engagement_at engagements i).point (placed i h).point)
+
   pub drawn : {masks : List ℕ} → Gathered engagements masks → (i : ℕ) → i < engagement_count_in engagements → Drawn bytes engagements masks i
   unfolding book_with shown_in
   drawn {masks} m i h =
@@ -106,15 +110,14 @@ module _ {bytes engagements : List ℕ} (s : Opened bytes engagements) where
               quarter = at.ends;
               some = at.some;
               soon = (s.sound.terms e (member i h)).notice;
-              few = point-few i h;
-              room = readings-room e.point at.point;
+              room = omega (arith, readings-room e.point at.point, length-drop (4 * origin_of (calendar_of bytes) e.point) (reading_section bytes));
               x_of_y = table_of e.day;
             };
         shows =
             record {
               when = refl;
               category = λ d. refl;
-              reading = λ p k. refl;
+              reading = λ k. sym (reading-from (reading_section bytes) (origin_of (calendar_of bytes) e.point) k);
               owner = owner_at e at.point;
               closed = λ d.
                   let mask = (point_at (register_section bytes) e.point).mask in

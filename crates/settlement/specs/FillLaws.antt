@@ -8,7 +8,6 @@ use Rattle.integers.proofs.TestsLaws.{both}
 use Rattle.integers.specs.Ranges.{range}
 use Rattle.wire.specs.Readings.{reading_at}
 use Rattle.book.specs.declared.Point.{Point}
-use Rattle.quarters.specs.Quarters.{origin_of}
 use Rattle.book.specs.Book.{Book}
 use Rattle.volumes.specs.Quarters.{start, quarter_hours}
 use Rattle.volumes.specs.Baseline.{point_of, complete, own_reading}
@@ -23,22 +22,21 @@ use Rattle.settlement.specs.RowsLaws.{rows-from}
 use Rattle.integers.proofs.RangesLaws.{map-range-cong}
 
 module _ {shown : Shown} {calendar readings : List ℕ} {book : Book} (s : Unrefused shown calendar readings book) where
-  pub own_at : (first : ℕ) → first ≡ origin_of shown.c shown.e.point + start shown.c shown.e → (k : ℕ) → reading_at readings (first + k) ≡ own_reading book shown.e k
+  pub own_at : (k : ℕ) → reading_at readings (start shown.c shown.e + k) ≡ own_reading book shown.e k
   unfolding own_reading
-  own_at first f k =
-      let q = start-at s.shows in
-      let place : first + k ≡ origin_of shown.c shown.e.point + (start book.calendar shown.e + k) = omega arith in
-      ap (reading_at readings) place ∙ sym (s.shows.reading shown.e.point (start book.calendar shown.e + k))
+  own_at k =
+      let place : start shown.c shown.e + k ≡ start book.calendar shown.e + k = omega (arith, start-at s.shows) in
+      ap (reading_at readings) place ∙ sym (s.shows.reading (start book.calendar shown.e + k))
 
-  pub own-whole : (first : ℕ) → first ≡ origin_of shown.c shown.e.point + start shown.c shown.e → complete (readings_from shown.e readings first) ≡ true
+  pub own-whole : complete (readings_from shown.e readings (start shown.c shown.e)) ≡ true
   unfolding needed quarter_hours
-  own-whole first f =
+  own-whole =
       let own = map (own_reading book shown.e) (range 0 shown.e.count) in
       let other = needed_by (point_of book shown.e).method book shown.e in
-      ap complete (map-range-cong (λ k. reading_at readings (first + k)) (own_reading book shown.e) 0 shown.e.count (λ k _ _. own_at first f k))
+      ap complete (map-range-cong (λ k. reading_at readings (start shown.c shown.e + k)) (own_reading book shown.e) 0 shown.e.count (λ k _ _. own_at k))
       ∙ (both (complete own) (complete other) (sym (complete-append own other) ∙ (settles book shown.e s.good).known)).0
 
-  pub rows_are : {before : List ℕ} (levels : List ℕ) (first : ℕ) → LevelsFilled shown calendar readings before levels → first ≡ origin_of shown.c shown.e.point + start shown.c shown.e → rows_from book.version shown.e shown.point levels readings first ≡ rows_of book shown.e
-  rows_are levels first f g =
-      ap (λ (p : Point). rows_from book.version shown.e p levels readings first) (sym s.shows.owner)
-      ∙ rows-from book shown.e levels readings first (f.levels book s) (λ k h. own_at first g k)
+  pub rows_are : {before : List ℕ} (levels : List ℕ) → LevelsFilled shown calendar readings before levels → rows_from book.version shown.e shown.point levels readings (start shown.c shown.e) ≡ rows_of book shown.e
+  rows_are levels f =
+      ap (λ (p : Point). rows_from book.version shown.e p levels readings (start shown.c shown.e)) (sym s.shows.owner)
+      ∙ rows-from book shown.e levels readings (start shown.c shown.e) (f.levels book s) (λ k h. own_at k)

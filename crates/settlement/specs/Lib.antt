@@ -8,11 +8,13 @@ pub mod SectionsInner
 pub mod SectionsLaws
 pub mod DrawnLaws
 pub mod DaysInner
+pub mod OpenedInner
 pub mod DaysLaws
-pub mod VerdictsInner
+pub mod RefusedInner
 pub mod VerdictsLaws
 pub mod Calls
 pub mod PartsLaws
 pub mod SettlingLaws
 pub mod CallsLaws
 pub mod AcceptedLaws
+pub mod CallsInner

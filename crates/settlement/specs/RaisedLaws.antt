@@ -1,12 +1,10 @@
 -- What raised numbers stand for, as equations and in ℕ: their differences need no sign.
-use Rattle.std.specs.Prelude.{◌≡◌, refl, Bool, true, false, List, map, ℕ, zero, suc, ◌+◌, ◌-◌, ◌*◌, ◌≤◌, ◌<◌, eqb, ℤ, pos, negsuc, neg_ℤ, ◌-ℤ◌}
+use Rattle.std.specs.Prelude.{◌≡◌, refl, Bool, true, false, List, map, ℕ, zero, suc, ◌+◌, ◌-◌, ◌*◌, ◌≤◌, ◌<◌, eqb, ℤ, pos, negsuc, neg_ℤ, ◌-ℤ◌, Some}
 use Rattle.std.proofs.Common.{sym, ap, ◌∙◌, ⊎_elim, eq-or-lt_of_le, arith}
 use Rattle.integers.proofs.TestsLaws.{both}
 use Rattle.integers.specs.Ranges.{range}
 use Rattle.integers.proofs.ZLaws.{up, Over, over-sub, is-sub, mul, neg, dif}
-use Rattle.wire.specs.declared.Reading.{Reading}
-use Rattle.wire.specs.declared.Reading.TheVariants.{Watts}
-use Rattle.wire.specs.Readings.{watts_at, reading_of, reading_at, missing_if}
+use Rattle.wire.specs.Readings.{Reading, watts_at, reading_of, reading_at, missing_if}
 use Rattle.wire.specs.ReadingsLaws.{raised-over}
 use Rattle.grains.specs.Grains.{per_watt, grains, grains_z}
 use Rattle.volumes.specs.Baseline.{watts, known, complete}
@@ -63,7 +61,7 @@ unfolding reading_of known watts
 known-watts (pos w) h = refl
 known-watts (negsuc w) h = go (eqb (suc w) 2147483648) h
   where
-    go : (b : Bool) → known (missing_if b (Watts (negsuc w))) ≡ true → watts (missing_if b (Watts (negsuc w))) ≡ negsuc w
+    go : (b : Bool) → known (missing_if b (Some (negsuc w))) ≡ true → watts (missing_if b (Some (negsuc w))) ≡ negsuc w
     go true h = let z : ◌≡◌ {A = ℕ} 0 1 = cc in absurd (omega arith)
     go false h = refl
 

@@ -1,8 +1,7 @@
 -- Settlement rows from what they depend on (document 01, "Delivered volume, corrections, series").
 use mathlib.Core.List.{List, [], ◌∷◌, map, flat_map}
 use Rattle.std.specs.Prelude.{ℕ, ◌+◌, ◌≤◌, ◌<◌, ℤ, pos, ◌-ℤ◌, get_or}
-use Rattle.wire.specs.declared.Reading.{Reading}
-use Rattle.wire.specs.Readings.{reading_at}
+use Rattle.wire.specs.Readings.{Reading, reading_at}
 use Rattle.grains.specs.Grains.{grains, grains_z}
 use Rattle.book.specs.declared.Direction.{Direction}
 use Rattle.book.specs.declared.Direction.TheVariants.{Up, Down}

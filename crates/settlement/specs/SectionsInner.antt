@@ -1,5 +1,5 @@
 -- The book of a book's bytes with given engagements: rows of a section, whose length says how many they are.
-use Rattle.std.specs.Prelude.{◌≡◌, Bool, List, map, ℕ, ◌/◌, length, get_or}
+use Rattle.std.specs.Prelude.{◌≡◌, Bool, List, map, ℕ, ◌*◌, ◌/◌, length, get_or, drop}
 use Rattle.std.proofs.Math.Option.{none}
 use Rattle.std.specs.Int.Bits.{bit_or}
 use Rattle.integers.specs.Ranges.{range}
@@ -7,6 +7,8 @@ use Rattle.integers.specs.Sums.{sum_of}
 use Rattle.integers.specs.First.{any_of}
 use Rattle.book.specs.declared.Engagement.{Engagement}
 use Rattle.book.specs.declared.Point.{Point}
+use Rattle.quarters.specs.declared.Calendar.{Calendar}
+use Rattle.quarters.specs.Quarters.{origin_of}
 use Rattle.book.specs.Header.{version_of, calendar_of, point_count, point_width, engagement_width, calendar_section, table_section, register_section, reading_section}
 use Rattle.book.specs.Tables.{category_at, x_at, y_at}
 use Rattle.book.specs.Register.{point_at}
@@ -65,7 +67,20 @@ shown_in bytes engagements masks i =
       y = y_at (table_section bytes) category;
     }
 
+-- the readings from those of point p on
+abbrev pub readings_of : List ℕ → ℕ → List ℕ
+readings_of bytes p = drop (4 * origin_of (calendar_of bytes) p) (reading_section bytes)
+
 -- the bytes pass refusals 1 to 7, and with these engagements too they are a sound book
 pub record Opened (bytes engagements : List ℕ) : Type 0 where
   pub passed : refusal_of bytes ≡ none
   pub sound : Sound (book_with bytes engagements)
+
+-- the parts of a book that are read of the bytes: its version, its calendar, and its sections but the last
+pub record Spread (bytes : List ℕ) (number : ℕ) (c : Calendar) (first second third fourth : List ℕ) : Type 0 where
+  pub version : number ≡ version_of bytes
+  pub when : c ≡ calendar_of bytes
+  pub calendar : first ≡ calendar_section bytes
+  pub table : second ≡ table_section bytes
+  pub register : third ≡ register_section bytes
+  pub readings : fourth ≡ reading_section bytes

@@ -3,6 +3,9 @@ use Rattle.std.specs.Prelude.{◌≡◌, refl, true, List, ℕ, zero, suc, ◌+�
 use Rattle.std.proofs.Common.{ap, ◌∙◌, arith}
 use Rattle.std.proofs.Math.Option.{none}
 use Rattle.book.specs.Header.{calendar_of, point_count, engagement_count, offset_of, length_of, header_good, layout_good, register_section, engagement_section}
+use Rattle.book.specs.declared.Section.{Section}
+use Rattle.book.specs.declared.Section.TheVariants.{Calendar, Table, Register, Readings, Engagements}
+use Rattle.book.specs.SectionsInner.{extent_of}
 use Rattle.book.specs.HeaderLaws.{LaidOut, laid, headed}
 use Rattle.book.specs.Book.{book_of}
 use Rattle.book.specs.Judged.{refusal_of}
@@ -24,19 +27,12 @@ pub bytes-long : (bytes : List ℕ) → refusal_of bytes ≡ none → 56 ≤ len
 bytes-long bytes e = (all_held bytes e).long
 
 -- each section is a part of the book
-pub section-inside : (bytes : List ℕ) → refusal_of bytes ≡ none → (k : ℕ) → k ≤ 4 → offset_of bytes k + length_of bytes k ≤ length bytes
-section-inside bytes e k h = at k h
-  where
-    l : LaidOut bytes (calendar_of bytes) (point_count bytes) (engagement_count bytes)
-    l = all_held bytes e
-
-    at : (k : ℕ) → k ≤ 4 → offset_of bytes k + length_of bytes k ≤ length bytes
-    at zero h = l.calendar.inside
-    at (suc zero) h = l.table.inside
-    at (suc (suc zero)) h = l.register.inside
-    at (suc (suc (suc zero))) h = l.readings.inside
-    at (suc (suc (suc (suc zero)))) h = l.engagements.inside
-    at (suc (suc (suc (suc (suc n))))) h = absurd (omega arith)
+pub section-inside : (bytes : List ℕ) → refusal_of bytes ≡ none → (section : Section) → offset_of bytes (extent_of section) + length_of bytes (extent_of section) ≤ length bytes
+section-inside bytes e Calendar = (all_held bytes e).calendar.inside
+section-inside bytes e Table = (all_held bytes e).table.inside
+section-inside bytes e Register = (all_held bytes e).register.inside
+section-inside bytes e Readings = (all_held bytes e).readings.inside
+section-inside bytes e Engagements = (all_held bytes e).engagements.inside
 
 -- the rows that the lengths tell are those that the header counts
 pub points-counted : (bytes : List ℕ) → refusal_of bytes ≡ none → point_count_in (register_section bytes) ≡ point_count bytes
@@ -53,7 +49,7 @@ same-book bytes e = rw (rows-counted bytes e)
 pub opened : (bytes : List ℕ) → refusal_of bytes ≡ none → Opened bytes (engagement_section bytes)
 opened bytes e = record { passed = e; sound = rw (same-book bytes e) (sound bytes e) }
 
-count-with : (bytes engagements : List ℕ) → row_count_in engagements ≡ row_count (book_with bytes engagements)
+pub count-with : (bytes engagements : List ℕ) → row_count_in engagements ≡ row_count (book_with bytes engagements)
 unfolding row_count_in row_count book_with
 count-with bytes engagements = refl
 

@@ -1,14 +1,11 @@
 -- An engagement of a book that is settled can be settled, and the rows of all engagements are the book's.
 use Rattle.std.specs.Prelude.{◌≡◌, List, ℕ, ◌≤◌, ◌<◌}
 use Rattle.std.proofs.Math.Option.{none}
-use Rattle.book.specs.Header.{calendar_section, reading_section}
 use Rattle.book.specs.Engagements.{engagement_at}
 use Rattle.volumes.specs.Settlement.{refusal_number, settlement_refusal, rows_of, rows}
 use Rattle.volumes.proofs.SettlementLaws.{all-settle}
-use Rattle.baseline.specs.FilledInner.{Unrefused, Accepts}
-use Rattle.settlement.specs.SectionsInner.{engagement_count_in, book_with, shown_in, Opened}
-use Rattle.settlement.specs.DaysInner.{Gathered}
-use Rattle.settlement.specs.DrawnLaws.{drawn, member}
+use Rattle.settlement.specs.SectionsInner.{engagement_count_in, book_with, Opened}
+use Rattle.settlement.specs.DrawnLaws.{member}
 use Rattle.settlement.specs.PartsLaws.{parts_to, parts_all}
 
 module _ {bytes engagements : List ℕ} (s : Opened bytes engagements) where
@@ -23,12 +20,3 @@ module _ {bytes engagements : List ℕ} (s : Opened bytes engagements) where
 pub rows-all : (bytes engagements : List ℕ) (i : ℕ) → engagement_count_in engagements ≤ i → parts_to (rows_of (book_with bytes engagements)) engagements i ≡ rows (book_with bytes engagements)
 unfolding rows book_with
 rows-all bytes engagements i h = parts_all (rows_of (book_with bytes engagements)) engagements i h
-
-module _ {bytes engagements masks : List ℕ} (s : Opened bytes engagements) (m : Gathered engagements masks) (i : ℕ) (h : i < engagement_count_in engagements) (good : refusal_number (book_with bytes engagements) (engagement_at engagements i) ≡ none) where
-  -- what settling an engagement asks, of one that is not refused
-  pub settled : Unrefused (shown_in bytes engagements masks i) (calendar_section bytes) (reading_section bytes) (book_with bytes engagements)
-  unfolding shown_in
-  settled = record { shows = (drawn s m i h).shows; good = good }
-
-  pub accepts : Accepts (shown_in bytes engagements masks i) (calendar_section bytes) (reading_section bytes)
-  accepts = record { fits = (drawn s m i h).fits; book = book_with bytes engagements; settled = settled }

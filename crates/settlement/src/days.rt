@@ -19,12 +19,9 @@ pub fn gather_days(engagements: &[u8], engaged: &mut [u64])
     requires { Gatherable engagements.now (length engaged.old) }
     ensures { Gathers engagements.now engaged.old engaged.new }
 {
-    let n = engagements.len() / 16;
-    let mut i = 0;
-    while i < n {
+    for i in 0..engagements.len() / 16 {
         let e = book::engagements::engagement_at(engagements, i);
         let p = e.point as usize;
         engaged[p] = with_day(engaged[p], e.day as u32);
-        i += 1;
     }
 }

@@ -1,86 +1,56 @@
 // Refusals 1 to 9: those of the book, then by engagement.
-ghost use Rattle.std.specs.Prelude.{◌≡◌, ◌<◌};
-ghost use Rattle.book.specs.Header.{calendar_of};
-ghost use Rattle.book.specs.Engagements.{engagement_at};
-ghost use Rattle.judging.specs.JudgedInner.{sent_back};
-ghost use Rattle.volumes.specs.Settlement.{refusal_number, settlement_refusal, book_refusal};
-ghost use Rattle.baseline.specs.NeedsInner.{number_of};
-ghost use Rattle.settlement.specs.SectionsInner.{engagement_count_in, book_with, Opened};
-ghost use Rattle.settlement.specs.DaysInner.{Gathered};
-ghost use Rattle.settlement.specs.VerdictsInner.{refusal_in};
+ghost use Rattle.std.specs.Prelude.{◌≡◌};
+ghost use Rattle.std.proofs.Math.Option.{some};
+ghost use Rattle.refusals.specs.Sent.{sent_back};
+ghost use Rattle.refusals.specs.SentInner.{refusal_in};
+ghost use Rattle.volumes.specs.Settlement.{book_refusal};
+ghost use Rattle.settlement.specs.RefusedInner.{lack_at};
 
+use crate::opened::OpenBook;
 use baseline::judge::Lack;
-use judging::Judged;
-use quarters::Calendar;
+use refusals::Refused;
 
-// Passed, or refused with a number and its item.
-#[derive(Clone, Copy)]
-pub enum Verdict {
-    Passed,
-    Refused(u64, usize),
-}
-
-// A book's own refusal, by its number and item.
-fn verdict_of(judged: Judged) -> Verdict
-    ensures { refusal_in result ≡ sent_back judged }
+// What engagement i lacks, as it is sent back.
+fn refused_at(lack: Lack, i: usize) -> Refused
+    ensures { sent_back result ≡ lack_at lack i }
 {
-    match judged {
-        Judged::Passed => Verdict::Passed,
-        Judged::Header => Verdict::Refused(1, 0),
-        Judged::Layout => Verdict::Refused(2, 0),
-        Judged::Tables => Verdict::Refused(4, 0),
-        Judged::Register(row) => Verdict::Refused(5, row),
-        Judged::Readings(point) => Verdict::Refused(6, point),
-        Judged::Engagements(row) => Verdict::Refused(7, row),
+    match lack {
+        Lack::Reading => Refused::Missing(i),
+        Lack::Days => Refused::TooFew(i),
     }
 }
 
-// What engagement i lacks.
-fn judge_engagement_at(
-    c: Calendar,
-    book: &[u8],
-    engagements: &[u8],
-    engaged: &[u64],
-    i: usize,
-) -> Lack
-    requires { Opened book.now engagements.now × (c ≡ calendar_of book.now) × (i < engagement_count_in engagements.now) × Gathered engagements.now engaged.now }
-    ensures { number_of result ≡ refusal_number (book_with book.now engagements.now) (engagement_at engagements.now i) }
-{
-    let shown = crate::sections::shown_at(c, book, engagements, engaged, i);
-    let calendar = crate::sections::section(book, 0);
-    let readings = crate::sections::section(book, 3);
-    baseline::judge::judge_engagement(shown, calendar, readings)
-}
+impl<'a> OpenBook<'a> {
+    ghost use Rattle.std.specs.Prelude.{◌<◌};
+    ghost use Rattle.std.proofs.Math.Option.{none};
+    ghost use Rattle.book.specs.Engagements.{engagement_at};
+    ghost use Rattle.volumes.specs.Settlement.{refusal_number, row_refusal, settlement_refusal};
+    ghost use Rattle.settlement.specs.SectionsInner.{engagement_count_in};
+    ghost use Rattle.settlement.specs.OpenedInner.{book_in};
 
-// Refusals 8 and 9, by engagement.
-pub fn judge_engagements(c: Calendar, book: &[u8], engagements: &[u8], engaged: &[u64]) -> Verdict
-    requires { Opened book.now engagements.now × (c ≡ calendar_of book.now) × Gathered engagements.now engaged.now }
-    ensures { refusal_in result ≡ settlement_refusal (book_with book.now engagements.now) }
-{
-    let n = engagements.len() / 16;
-    let mut i = 0;
-    while i < n {
-        let lack = judge_engagement_at(c, book, engagements, engaged, i);
-        match lack {
-            Lack::Nothing => {}
-            Lack::Reading => return Verdict::Refused(8, i),
-            Lack::Days => return Verdict::Refused(9, i),
+    // What engagement i lacks.
+    fn judge_engagement_at(&self, i: usize) -> Result<(), Refused>
+        requires { i < engagement_count_in self.now.engagements.now }
+        ensures { refusal_in result ≡ row_refusal i (refusal_number (book_in self.now) (engagement_at self.now.engagements.now i)) none }
+    {
+        self.case_at(i).judge().map_err(|lack| refused_at(lack, i))
+    }
+
+    // Refusals 8 and 9, by engagement.
+    pub fn judge(&self) -> Result<(), Refused>
+        ensures { refusal_in result ≡ settlement_refusal (book_in self.now) }
+    {
+        for i in 0..self.count() {
+            self.judge_engagement_at(i)?;
         }
-        i += 1;
+        Ok(())
     }
-    Verdict::Passed
 }
 
 // Refusals 1 to 9.
-pub fn judge_settlement(book: &[u8]) -> Verdict
+pub fn judge_settlement(book: &[u8]) -> Result<(), Refused>
     ensures { refusal_in result ≡ book_refusal book.now }
 {
-    let verdict = verdict_of(judging::judge::judge_book(book));
-    if let Verdict::Refused(number, item) = verdict {
-        return Verdict::Refused(number, item);
-    }
-    let engagements = crate::sections::section(book, 4);
-    let mut engaged = [0u64; crate::days::MOST_POINTS];
-    crate::days::gather_days(engagements, &mut engaged);
-    judge_engagements(book::header::calendar_of(book), book, engagements, &engaged)
+    judging::judge::judge_book(book)?;
+    OpenBook::of(book).judge()
 }

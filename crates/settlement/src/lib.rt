@@ -4,6 +4,7 @@
 pub mod days;
 pub mod fill;
 pub mod judge;
+pub mod opened;
 pub mod rows;
 pub mod sections;
 pub mod settle;

@@ -32,57 +32,14 @@ fn reading_grains(raised: u32) -> u64
 fn above(a: u64, b: u64, most: u64) -> u64
     ensures { result ≡ min (a - b) most }
 {
-    if a <= b {
-        return 0;
-    }
-    if most <= a - b {
-        return most;
-    }
-    a - b
-}
-
-// The register's largest watts in a direction.
-fn largest(direction: Direction, point: Point) -> u32
-    ensures { result ≡ largest direction point }
-{
-    match direction {
-        Direction::Up => point.upward,
-        Direction::Down => point.downward,
-    }
-}
-
-// The delivered volume, in grains, limited to `most` watts.
-fn delivered(direction: Direction, most: u32, level: u64, raised: u32) -> u64
-    ensures { (result ≡ limited (signed direction (baseline_of level -ℤ grains_z (watts_of raised))) most) × (result ≤ grains 4294967295) }
-{
-    let reading = reading_grains(raised);
-    let limit = Grains::from_watts(most).count;
-    match direction {
-        Direction::Up => above(level, reading, limit),
-        Direction::Down => above(reading, level, limit),
-    }
+    a.saturating_sub(b).min(most)
 }
 
 // What is off-take of a level, or of a reading with its bias.
 fn off_take(biased: u64) -> u64
     ensures { result ≡ biased - bias }
 {
-    above(biased, bias(), biased)
-}
-
-// Of a delivered volume what the source party gets: all of it, or from version 2 on, as the off-take party, what is off-take.
-fn source_volume(version: u16, direction: Direction, level: u64, raised: u32, volume: u64) -> u64
-    ensures { result ≡ source_by version direction (baseline_of level) (grains_z (watts_of raised)) volume }
-{
-    if !book::header::splits(version) {
-        return volume;
-    }
-    let base = off_take(level);
-    let read = off_take(reading_grains(raised));
-    match direction {
-        Direction::Up => above(base, read, volume),
-        Direction::Down => above(read, base, volume),
-    }
+    biased.saturating_sub(bias())
 }
 
 // a less b.
@@ -93,17 +50,6 @@ fn difference(a: u64, b: u64) -> i64
     (a as i64) - (b as i64)
 }
 
-// A party's correction, a less b: "negated downward".
-fn correction(direction: Direction, a: u64, b: u64) -> i64
-    requires { (a < 9223372036854775808) × (b < 9223372036854775808) }
-    ensures { result ≡ signed direction (pos a -ℤ pos b) }
-{
-    match direction {
-        Direction::Up => difference(a, b),
-        Direction::Down => difference(b, a),
-    }
-}
-
 // The baseline of a raised one.
 pub fn baseline_of(level: u64) -> i64
     requires { level ≤ greatest }
@@ -112,61 +58,90 @@ pub fn baseline_of(level: u64) -> i64
     difference(level, bias())
 }
 
-// A quarter-hour's row, from `at` on.
-pub fn write_row(
-    out: &mut [i64],
-    at: usize,
-    version: u16,
-    direction: Direction,
-    point: Point,
-    requested: u32,
-    level: u64,
-    raised: u32,
-)
-    requires { (at + row_width ≤ length out.old) × (level ≤ greatest) }
-    ensures { out.new ≡ sets out.old at (row_from version direction point (grains requested) (baseline_of level) (watts_of raised)) }
-{
-    let most = largest(direction, point);
-    let volume = delivered(direction, most, level, raised);
-    let source = source_volume(version, direction, level, raised, volume);
-    let asked = Grains::from_watts(requested).count;
-    out[at] = baseline_of(level);
-    out[at + 1] = difference(volume, 0);
-    out[at + 2] = correction(direction, source, 0);
-    out[at + 3] = correction(direction, asked, volume);
-    out[at + 4] = correction(direction, volume, source);
+// What an engagement's rows depend on besides its baselines and readings: its delivery point, and the book's version.
+#[derive(Clone, Copy)]
+pub struct Terms {
+    pub version: u16,
+    pub e: Engagement,
+    pub point: Point,
 }
 
-// An engagement's rows, from `at` on: `levels` are its raised baselines, and its own readings start at reading `first`.
-pub fn write_rows(
-    out: &mut [i64],
-    at: usize,
-    version: u16,
-    e: Engagement,
-    point: Point,
-    levels: &[u64],
-    readings: &[u8],
-    first: usize,
-)
-    requires { (at + row_width * e.count ≤ length out.old) × (e.count ≤ length levels.now) × AllAtMost greatest e.count levels.now × (4 * (first + e.count) ≤ length readings.now) × (complete (readings_from e readings.now first) ≡ true) }
-    ensures { out.new ≡ sets out.old at (rows_from version e point levels.now readings.now first) }
-{
-    let count = e.count as usize;
-    let direction = e.direction;
-    let requested = e.requested;
-    let mut k: usize = 0;
-    while k < count {
-        let raised = wire::raised_at(readings, first + k);
-        write_row(
-            out,
-            at + ROW_WIDTH * k,
-            version,
-            direction,
-            point,
-            requested,
-            levels[k],
-            raised,
-        );
-        k += 1;
+impl Terms {
+    // The register's largest watts in the engagement's direction.
+    #[tactic(auto, unfolding(crate::specs::RowsInner::largest))]
+    fn largest(self) -> u32
+        ensures { result ≡ largest self.e.direction self.point }
+    {
+        match self.e.direction {
+            Direction::Up => self.point.upward,
+            Direction::Down => self.point.downward,
+        }
+    }
+
+    // The delivered volume, in grains, limited to the largest watts.
+    fn delivered(self, level: u64, raised: u32) -> u64
+        ensures { (result ≡ limited (signed self.e.direction (baseline_of level -ℤ grains_z (watts_of raised))) (largest self.e.direction self.point)) × (result ≤ grains 4294967295) }
+    {
+        let reading = reading_grains(raised);
+        let limit = Grains::from_watts(self.largest()).count;
+        match self.e.direction {
+            Direction::Up => above(level, reading, limit),
+            Direction::Down => above(reading, level, limit),
+        }
+    }
+
+    // Of a delivered volume what the source party gets: all of it, or from version 2 on, as the off-take party, what is off-take.
+    fn source_volume(self, level: u64, raised: u32, volume: u64) -> u64
+        ensures { result ≡ source_by self.version self.e.direction (baseline_of level) (grains_z (watts_of raised)) volume }
+    {
+        if !book::header::splits(self.version) {
+            return volume;
+        }
+        let base = off_take(level);
+        let read = off_take(reading_grains(raised));
+        match self.e.direction {
+            Direction::Up => above(base, read, volume),
+            Direction::Down => above(read, base, volume),
+        }
+    }
+
+    // A party's correction, a less b: "negated downward".
+    fn correction(self, a: u64, b: u64) -> i64
+        requires { (a < 9223372036854775808) × (b < 9223372036854775808) }
+        ensures { result ≡ signed self.e.direction (pos a -ℤ pos b) }
+    {
+        match self.e.direction {
+            Direction::Up => difference(a, b),
+            Direction::Down => difference(b, a),
+        }
+    }
+
+    // A quarter-hour's row: baseline, delivered volume, and the source, FSP and injection corrections.
+    fn row(self, level: u64, raised: u32) -> [i64; ROW_WIDTH]
+        requires { level ≤ greatest }
+        ensures { result ≡ row_from self.version self.e.direction self.point (grains self.e.requested) (baseline_of level) (watts_of raised) }
+    {
+        let volume = self.delivered(level, raised);
+        let source = self.source_volume(level, raised, volume);
+        let asked = Grains::from_watts(self.e.requested).count;
+        [
+            baseline_of(level),
+            difference(volume, 0),
+            self.correction(source, 0),
+            self.correction(asked, volume),
+            self.correction(volume, source),
+        ]
+    }
+
+    // The engagement's rows: `levels` starts with its raised baselines, and its own readings start at reading `first`.
+    pub fn write_rows(self, levels: &[u64], readings: &[u8], first: usize, out: &mut [i64])
+        requires { (row_width * self.e.count ≤ length out.old) × (self.e.count ≤ length levels.now) × AllAtMost greatest self.e.count levels.now × (4 * (first + self.e.count) ≤ length readings.now) × (complete (readings_from self.e readings.now first) ≡ true) }
+        ensures { out.new ≡ sets out.old 0 (rows_from self.version self.e self.point levels.now readings.now first) }
+    {
+        for k in 0..self.e.count as usize {
+            let raised = wire::raised_at(readings, first + k);
+            let at = ROW_WIDTH * k;
+            out[at..at + ROW_WIDTH].copy_from_slice(&self.row(levels[k], raised));
+        }
     }
 }

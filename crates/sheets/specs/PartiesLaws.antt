@@ -1,7 +1,7 @@
 -- A party stands in the register where it stands in a column of one of its rows; a register's parties are those of its book.
-use Rattle.std.specs.Prelude.{◌≡◌, Bool, cond, ◌&&◌, ℕ, zero, suc, ◌+◌, ◌≤◌, ◌<◌}
+use Rattle.std.specs.Prelude.{◌≡◌, Bool, cond, ◌&&◌, ◌||◌, ℕ, zero, suc, ◌+◌, ◌≤◌, ◌<◌}
 use Rattle.std.proofs.Math.Path.{refl, ap}
-use Rattle.std.proofs.Common.{sym, ◌∙◌, ⊎_elim, eq-or-lt_of_le, add-one}
+use Rattle.std.proofs.Common.{sym, ◌∙◌, add-one, zero-add}
 use Rattle.std.proofs.Math.Bool.{true, false}
 use mathlib.Core.List.Memᴰ
 use mathlib.Core.List.{List, [], ◌∷◌, ◌++◌, flat_map, map, append-nil, map-append}
@@ -11,6 +11,7 @@ use Rattle.std.proofs.Math.Dec.{eqb, leb}
 use borrow.Author.Tests.{eqb-true, eqb-false, eq-eqb, ne_eqb, leb-true, leb-false, le-leb, lt-leb}
 use Rattle.integers.specs.Counts.{times, stands}
 use Rattle.integers.specs.Ranges.{range}
+use Rattle.integers.specs.First.{any_below}
 use Rattle.book.specs.declared.Point.{Point}
 use Rattle.book.specs.Register.{point_at}
 use Rattle.book.specs.Book.{book_of}
@@ -19,7 +20,7 @@ use Rattle.book.specs.Judged.{refusal_of}
 use Rattle.volumes.specs.Sheets.{parties_of, parties}
 use Rattle.settlement.specs.SectionsInner.{point_count_in}
 use Rattle.settlement.specs.SectionsLaws.{points-counted}
-use Rattle.sheets.specs.PartiesInner.{parties_to, parties_in}
+use Rattle.sheets.specs.PartiesInner.{parties_to, parties_in, in_row}
 use Rattle.integers.proofs.CountsLaws.{times-append, mem-times}
 use Rattle.integers.proofs.RangesLaws.{range-more}
 use Rattle.integers.proofs.ListsLaws.{flat_map-append}
@@ -61,29 +62,18 @@ module _ (version : ℕ) (register : List ℕ) where
   times-next : (party i : ℕ) → times party (parties_to version register (suc i)) ≡ times party (parties_to version register i) + times party (parties_of version (point_at register i))
   times-next party i = ap (times party) (to-next i) ∙ times-append party (parties_to version register i) (parties_of version (point_at register i))
 
-  pub no-party : (party : ℕ) → stands party (parties_to version register 0) ≡ false
-  unfolding stands parties_to flat_map range times
-  no-party party = refl
+  -- in one list behind the other, where in one of them
+  one-of : (a b : ℕ) → leb 1 (a + b) ≡ (leb 1 a || leb 1 b)
+  one-of zero b = ap (leb 1) (zero-add b)
+  one-of (suc a) b = le-leb 1 (suc a + b) (omega arith) ∙ sym (ap (λ (t : Bool). t || leb 1 b) (le-leb 1 (suc a) (omega arith)))
 
-  -- not in the first i, and not in row i
-  pub party-next : (party i : ℕ) → stands party (parties_to version register i) ≡ false → stands party (parties_of version (point_at register i)) ≡ false → stands party (parties_to version register (i + 1)) ≡ false
-  unfolding stands
-  party-next party i p q =
-      rw (add-one, times-next party i)
-      (lt-leb 1 (times party (parties_to version register i) + times party (parties_of version (point_at register i))) (omega (arith, leb-false 1 (times party (parties_to version register i)) p, leb-false 1 (times party (parties_of version (point_at register i))) q)))
-
-  -- in row i, which is one of n
-  in_row : (party i n : ℕ) → i < n → 1 ≤ times party (parties_of version (point_at register i)) → 1 ≤ times party (parties_to version register n)
-  in_row party i zero h k = absurd (omega arith)
-  in_row party i (suc n) h k =
-      ⊎_elim
-      (λ e. let f : n ≡ i = omega arith in rw f (omega (arith, times-next party i)))
-      (λ l. let m : 1 ≤ times party (parties_to version register n) = in_row party i n (omega arith) k in omega (arith, times-next party n))
-      (eq-or-lt_of_le h)
-
-  pub party-here : (party i : ℕ) → i < point_count_in register → stands party (parties_of version (point_at register i)) ≡ true → stands party (parties_in version register) ≡ true
-  unfolding stands
-  party-here party i h p = le-leb 1 _ (in_row party i (point_count_in register) h (leb-true 1 (times party (parties_of version (point_at register i))) p))
+  -- in the first n rows, where in one of them
+  pub party-below : (party n : ℕ) → any_below (in_row version register party) n ≡ stands party (parties_to version register n)
+  unfolding in_row stands any_below parties_to flat_map range times
+  party-below party zero = refl
+  party-below party (suc n) =
+      ap (λ (t : Bool). t || stands party (parties_of version (point_at register n))) (party-below party n)
+      ∙ sym (ap (leb 1) (times-next party n) ∙ one-of (times party (parties_to version register n)) (times party (parties_of version (point_at register n))))
 
 -- the parties of the register of a book that passes refusals 1 to 7
 pub parties-are : (bytes : List ℕ) → refusal_of bytes ≡ none → parties_in (version_of bytes) (register_section bytes) ≡ parties (book_of bytes)

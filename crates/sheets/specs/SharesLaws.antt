@@ -51,16 +51,16 @@ module _ (version party : ℕ) (point : Point) (rows : List ℤ) where
   gets-length count = length-map (range 0 count) _ ∙ length-range 0 count
 
   -- one row more
-  pub gets-next : (l : List ℤ) (at k : ℕ) → adds (adds l at (gets_of version party point rows k)) (at + k) (gets_at version party point rows k ∷ []) ≡ adds l at (gets_of version party point rows (k + 1))
+  pub gets-next : (l : List ℤ) (at k place : ℕ) → place ≡ at + k → adds (adds l at (gets_of version party point rows k)) place (gets_at version party point rows k ∷ []) ≡ adds l at (gets_of version party point rows (k + 1))
   unfolding gets_of
-  gets-next l at k = adds-next l at (gets_at version party point rows) k
+  gets-next l at k place e = rw e (adds-next l at (gets_at version party point rows) k)
 
   -- the next cell is as it was
-  pub gets-fits : (l : List ℤ) (at count k : ℕ) → Addable l at (gets_of version party point rows count) → k < count → SFits w64 (get_or (adds l at (gets_of version party point rows k)) (at + k) (pos 0) +ℤ gets_at version party point rows k)
+  pub gets-fits : (l : List ℤ) (at count k place : ℕ) → place ≡ at + k → Addable l at (gets_of version party point rows count) → k < count → SFits w64 (get_or (adds l at (gets_of version party point rows k)) place (pos 0) +ℤ gets_at version party point rows k)
   unfolding gets_of
-  gets-fits l at count k h q =
+  gets-fits l at count k place e h q =
       let f : ℕ → ℤ = gets_at version party point rows in
       let n : length (gets_of version party point rows k) ≡ k = gets-length k in
       let m : length (gets_of version party point rows count) ≡ count = gets-length count in
-      rw (adds-behind l at (gets_of version party point rows k) (at + k) (omega arith), ← get_d-made f count k (pos 0) q)
+      rw (e, adds-behind l at (gets_of version party point rows k) (at + k) (omega arith), ← get_d-made f count k (pos 0) q)
       (h.fits k (omega arith))

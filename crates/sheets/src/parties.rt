@@ -1,8 +1,8 @@
 // Whether a party stands in the register.
-ghost use Rattle.std.specs.Prelude.{◌≡◌};
+ghost use Rattle.std.specs.Prelude.{◌≡◌, ◌+◌, ◌*◌, ◌≤◌, length};
 ghost use Rattle.volumes.specs.Sheets.{parties_of};
 ghost use Rattle.integers.specs.Counts.{stands};
-ghost use Rattle.sheets.specs.PartiesInner.{parties_in};
+ghost use Rattle.sheets.specs.PartiesInner.{parties_in, in_row};
 
 use book::Point;
 
@@ -10,27 +10,29 @@ use book::Point;
 fn in_columns(version: u16, point: Point, party: u16) -> bool
     ensures { result ≡ stands party (parties_of version point) }
 {
-    if point.sourceparty == party {
-        return true;
-    }
-    if point.fspparty == party {
-        return true;
-    }
-    book::header::splits(version) & (point.injectionparty == party)
+    (point.sourceparty == party)
+        | (point.fspparty == party)
+        | (book::header::splits(version) & (point.injectionparty == party))
+}
+
+// It is one of row i's.
+#[tactic(auto, unfolding(crate::specs::PartiesInner::in_row))]
+fn in_row(version: u16, register: &[u8], party: u16, i: usize) -> bool
+    requires { 64 * i + 64 ≤ length register.now }
+    ensures { result ≡ in_row version register.now party i }
+{
+    in_columns(version, book::register::point_at(register, i), party)
 }
 
 // It is one of some point of the register of a book of this version.
 pub fn is_party(version: u16, register: &[u8], party: u16) -> bool
     ensures { result ≡ stands party (parties_in version register.now) }
 {
-    let n = register.len() / 64;
-    let mut i = 0;
-    while i < n {
-        let point = book::register::point_at(register, i);
-        if in_columns(version, point, party) {
+    // `any` of the range was tried: what it answers of this test didn't close.
+    for i in 0..register.len() / 64 {
+        if in_row(version, register, party, i) {
             return true;
         }
-        i += 1;
     }
     false
 }

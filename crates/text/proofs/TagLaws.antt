@@ -1,9 +1,7 @@
 -- A list begins with a tag exactly where it is the tag and something more.
-use Rattle.std.specs.Prelude.{◌≡◌, refl, Bool, true, false, ◌&&◌, List, [], ◌∷◌, ◌++◌, ℕ, ◌+◌, ◌≤◌, ◌<◌, length, drop, get_or, eqb}
-use Rattle.std.proofs.Common.{sym, ap, ◌∙◌, length-append, length-drop, drop_of_length-le, arith, eq-eqb, ne_eqb, eqb-true}
+use Rattle.std.specs.Prelude.{◌≡◌, refl, Bool, true, false, ◌&&◌, List, [], ◌∷◌, ◌++◌, ℕ, ◌+◌, ◌-◌, ◌≤◌, ◌<◌, length, take, drop, get_or, eqb}
+use Rattle.std.proofs.Common.{sym, ap, ◌∙◌, length-append, length-drop, drop_of_length-le, take_all, arith, eq-eqb, ne_eqb, eqb-true, add-one, drop-cons}
 use Rattle.std.proofs.Math.Bool.{and_assoc}
-use Rattle.std.proofs.Math.Seq.{drop-cons}
-use Rattle.std.proofs.Math.Numerals.{add-one}
 use Rattle.text.specs.Tag.{begins}
 
 pub begins-append : (t rest : List ℕ) → begins t (t ++ rest) ≡ true
@@ -33,20 +31,28 @@ begins-both (t ∷ a) b (x ∷ s) = ap (λ (r : Bool). eqb x t && r) (begins-bot
 
 -- ---- what a loop over a tag goes by: no room for it, and one byte on
 
-pub begins-no-room : (s t : List ℕ) (p : ℕ) → length s < p + length t → begins t (drop p s) ≡ eqb (length t) 0
+-- the part of s from a place to its end
+pub to_end : (s : List ℕ) (at : ℕ) → take (length s - at) (drop at s) ≡ drop at s
+to_end s at = take_all (length s - at) (drop at s) (omega (arith, length-drop at s))
+
+-- behind the end only the empty tag begins
+pub begins-outside : (t s : List ℕ) (at : ℕ) → length s < at → begins t (drop at s) ≡ eqb (length t) 0
 unfolding begins
-begins-no-room s [] p h = refl
-begins-no-room s (x ∷ t) p h = go (begins (x ∷ t) (drop p s)) refl ∙ sym (ne_eqb (length (x ∷ t)) 0 (λ e. omega arith))
+begins-outside [] s at h = refl
+begins-outside (t ∷ ts) s at h = rw (drop_of_length-le s {i = at} (omega arith)) (sym (ne_eqb (length (t ∷ ts)) 0 (λ e. omega arith)))
+
+pub begins-short : (t s : List ℕ) → length s < length t → begins t s ≡ false
+begins-short t s h = go (begins t s) refl
   where
-    go : (b : Bool) → begins (x ∷ t) (drop p s) ≡ b → b ≡ false
-    go true e = let l = begins-length (x ∷ t) (drop p s) e in absurd (omega (arith, length-drop p s))
-    go false e = refl
+    go : (b : Bool) → begins t s ≡ b → begins t s ≡ false
+    go true e = absurd (omega (arith, begins-length t s e))
+    go false e = e
 
-module _ (s t : List ℕ) (p i : ℕ) where
-  pub begins-end : length t ≤ i → begins (drop i t) (drop p s) ≡ true
+module _ (s t : List ℕ) (i : ℕ) where
+  pub begins-end : length t ≤ i → begins (drop i t) (drop i s) ≡ true
   unfolding begins
-  begins-end h = rw (drop_of_length-le t h)
+  begins-end h = rw (drop_of_length-le t {i = i} h)
 
-  pub begins-step : i < length t → p < length s → begins (drop i t) (drop p s) ≡ (eqb (get_or s p 0) (get_or t i 0) && begins (drop (i + 1) t) (drop (p + 1) s))
+  pub begins-step : i < length t → i < length s → begins (drop i t) (drop i s) ≡ (eqb (get_or s i 0) (get_or t i 0) && begins (drop (i + 1) t) (drop (i + 1) s))
   unfolding begins
-  begins-step h k = rw (add-one, add-one, drop-cons t i 0, drop-cons s p 0)
+  begins-step h k = rw (add-one, drop-cons t i 0 h, drop-cons s i 0 k)

@@ -1,8 +1,9 @@
--- Writes one behind the other are one write; a write moves by one element; a write in a part of a list is a write in the list.
-use Rattle.std.specs.Prelude.{◌≡◌, List, [], ◌∷◌, ◌++◌, ℕ, suc, ◌+◌, ◌≤◌, ◌<◌, length, take, drop, set, get_or}
-use Rattle.std.proofs.Common.{sym, ap, ◌∙◌, append_assoc, append-nil, arith, add-zero, add_assoc, add-suc, suc-add, length-append, length-drop, take-append-drop, drop_of_length-le, length-take-le, take_at, take-suc, take-add, drop-drop, drop-cons}
+-- Writes one behind the other are one write; a write begins one element before; a part that is replaced is a write.
+use Rattle.std.specs.Prelude.{◌≡◌, List, [], ◌∷◌, ◌++◌, ℕ, suc, ◌+◌, ◌≤◌, length, take, drop, set, get_or}
+use Rattle.std.proofs.Common.{sym, ap, ◌∙◌, append_assoc, append-nil, arith, add-zero, add_assoc, add-suc, suc-add, length-append, length-drop, take-append-drop, drop_of_length-le, length-take-le, take_at, take-suc, drop-drop}
 use Rattle.std.proofs.lemmas.List.{set_at}
 use Rattle.std.proofs.Math.Seq.{drop-append-add}
+use borrow.Rule.Slice.PartMut.{put_mid}
 use Rattle.text.specs.WrittenInner.{written, Wrote}
 
 pub written-nil : (d : List ℕ) (at : ℕ) → written d at [] ≡ d
@@ -13,6 +14,12 @@ written-nil d at = simp (add-zero, append-nil, take-append-drop)
 pub written-whole : (d bs : List ℕ) → length bs ≡ length d → written d 0 bs ≡ bs
 unfolding written
 written-whole d bs e = ap (λ (l : List ℕ). bs ++ l) (drop_of_length-le d {i = 0 + length bs} (omega arith)) ∙ append-nil bs
+
+-- a part of the list, replaced
+pub written-copied : (d bs ys : List ℕ) (at n : ℕ) → n ≡ length bs → ys ≡ bs → put_mid at n d ys ≡ written d at bs
+unfolding written
+written-copied d bs ys at n e f =
+    rw (e, f) (ap (λ (l : List ℕ). take at d ++ (bs ++ l)) (drop-drop (length bs) at d) ∙ sym (append_assoc (take at d) bs (drop (at + length bs) d)))
 
 length-head : (d : List ℕ) (at : ℕ) (bs : List ℕ) → at ≤ length d → length (take at d ++ bs) ≡ at + length bs
 length-head d at bs h = length-append (take at d) bs ∙ ap (λ (k : ℕ). k + length bs) (length-take-le at d h)
@@ -53,29 +60,6 @@ written-cons d at x bs h =
     ∙ sym (append_assoc q (x ∷ bs) r)
     ∙ ap (λ (k : ℕ). q ++ (x ∷ bs) ++ drop k d) (suc-add at (length bs) ∙ sym (add-suc at (length bs)))
 
--- an element behind what is written
-pub written-snoc : (d : List ℕ) (at : ℕ) (bs : List ℕ) (x : ℕ) → at + length bs < length d
-    → set (written d at bs) (at + length bs) x ≡ written d at (bs ++ (x ∷ []))
-unfolding written
-written-snoc d at bs x h =
-    let p = take at d ++ bs in
-    let n = at + length bs in
-    let e : suc n ≡ at + length (bs ++ (x ∷ [])) = simp length-append (omega arith) in
-    ap (λ (l : List ℕ). set (p ++ l) n x) (drop-cons d n 0 h)
-    ∙ set_at p (get_or d n 0) (drop (suc n) d) x n (length-head d at bs (omega arith))
-    ∙ sym (append_assoc p (x ∷ []) (drop (suc n) d))
-    ∙ ap (λ (l : List ℕ). l ++ drop (suc n) d) (append_assoc (take at d) bs (x ∷ []))
-    ∙ ap (λ (k : ℕ). take at d ++ (bs ++ (x ∷ [])) ++ drop k d) e
-
--- a write in the part from k on is a write in the list
-pub written-part : (d : List ℕ) (k at : ℕ) (bs : List ℕ) → take k d ++ written (drop k d) at bs ≡ written d (k + at) bs
-unfolding written
-written-part d k at bs =
-    let e : k + (at + length bs) ≡ k + at + length bs = sym (add_assoc k at (length bs)) in
-    ap (λ (l : List ℕ). take k d ++ (take at (drop k d) ++ bs ++ l)) (drop-drop (at + length bs) k d ∙ ap (λ (n : ℕ). drop n d) e)
-    ∙ sym (append_assoc (take k d) (take at (drop k d) ++ bs) (drop (k + at + length bs) d))
-    ∙ ap (λ (l : List ℕ). l ++ drop (k + at + length bs) d) (sym (append_assoc (take k d) (take at (drop k d)) bs) ∙ ap (λ (l : List ℕ). l ++ bs) (sym (take-add k at d)))
-
 pub wrote-length : {d : List ℕ} {at : ℕ} {bs out : List ℕ} {p : ℕ} → Wrote d at bs out p → length out ≡ length d
 wrote-length {d} {at} {bs} w = ap length w.list ∙ length-written d at bs w.room
 
@@ -94,15 +78,3 @@ and_then {d} {at} {a} {b} {out} {out'} {p} {p'} v w =
 
 pub wrote_none : (d : List ℕ) (at : ℕ) → at ≤ length d → Wrote d at [] d at
 wrote_none d at h = record { room = omega arith; behind = omega arith; list = sym (written-nil d at) }
-
--- a write in the part from k on
-pub wrote-part : {d : List ℕ} (k : ℕ) {at : ℕ} {bs out : List ℕ} {p : ℕ} → k ≤ length d → Wrote (drop k d) at bs out p → Wrote d (k + at) bs (take k d ++ out) (k + p)
-wrote-part {d} k {at} {bs} {out} {p} h w =
-    let l = length-drop k d in
-    let n = w.behind in
-    let r = w.room in
-    record {
-      room = omega arith;
-      behind = omega arith;
-      list = ap (λ (o : List ℕ). take k d ++ o) w.list ∙ written-part d k at bs;
-    }

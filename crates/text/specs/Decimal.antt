@@ -1,7 +1,5 @@
 -- Decimals as bytes.
-use Rattle.std.specs.Prelude.{Bool, true, false, ◌&&◌, List, [], ◌∷◌, ℕ, zero, suc, ◌+◌, ◌-◌, ◌*◌, ◌/◌, ◌%◌, ◌^◌, length, take, drop, leb}
-use Rattle.text.specs.declared.Number.{Number}
-use Rattle.text.specs.declared.Number.TheVariants.{Value, NotDigits}
+use Rattle.std.specs.Prelude.{Bool, true, false, ◌&&◌, List, [], ◌∷◌, ℕ, zero, suc, ◌+◌, ◌-◌, ◌*◌, ◌/◌, ◌%◌, ◌^◌, length, take, drop, leb, Option, Some, None}
 
 -- the bytes '0' to '9'
 abbrev pub digit : ℕ → Bool
@@ -39,11 +37,11 @@ unfoldable pub plain : ℕ → List ℕ
 plain v = fixed (suc (count v (v / 10))) v
 
 -- what stands at a place, read as a number of n digits
-abbrev pub pick_number : Bool → Number → Number
+abbrev pub pick_number : Bool → Option ℕ → Option ℕ
 pick_number true r = r
-pick_number false r = NotDigits
+pick_number false r = None
 
-unfoldable pub fixed_at : List ℕ → ℕ → ℕ → Number
+unfoldable pub fixed_at : List ℕ → ℕ → ℕ → Option ℕ
 fixed_at s at n =
     pick_number (leb (at + n) (length s))
-    (pick_number (digits (take n (drop at s))) (Value (value_of (take n (drop at s)))))
+    (pick_number (digits (take n (drop at s))) (Some (value_of (take n (drop at s)))))

@@ -25,6 +25,7 @@ use Rattle.book.specs.declared.Direction.TheVariants.{Up, Down}
 use Rattle.book.specs.declared.Point.{Point}
 use Rattle.book.specs.declared.Engagement.{Engagement}
 use Rattle.refusals.specs.Refusals.{Refusal}
+use Rattle.refusals.specs.Sent.{says}
 use Rattle.book.specs.Book.{Book, book_of}
 use Rattle.quarters.specs.Quarters.{month_quarters}
 use Rattle.volumes.specs.Baseline.{point_of}
@@ -47,7 +48,7 @@ use Rattle.reports.specs.FileRows.{is_taken, partner_numbers, directions, partne
 use Rattle.reports.proofs.CarryLaws.{row_at, rows-sum}
 use Rattle.reports.proofs.FormLaws.{partners-few, partners-valid, file-valid}
 use Rattle.series.specs.VolumesLaws.{volumes-most}
-use Rattle.reports.specs.Calls.{text_of, file_refusal, file_says, file_answer}
+use Rattle.reports.specs.Calls.{text_of, file_refusal, file_answer}
 use Rattle.reports.proofs.CallsLaws.{kind-is, InForm, file-in-form}
 use Rattle.reports.specs.Demand3.{is_file}
 use Rattle.kinds.specs.Numbers.{kind_numbered, kind_number}
@@ -242,8 +243,8 @@ module _ (book : Book) (kind : Kind) (receiver : ℕ) where
 
 -- ---- and its bytes
 
-file-answered : (x : Option Refusal) (m n : ℕ) → x ≡ none → is_file (file_says x m n) ≡ true
-unfolding is_file file_says
+file-answered : (x : Option Refusal) (m n : ℕ) → x ≡ none → is_file (says x (m, n)) ≡ true
+unfolding is_file
 file-answered x m n e = rw e
 
 module _ (bytes : List ℕ) (kind : Kind) (receiver : ℕ) (id moment : List ℕ) where

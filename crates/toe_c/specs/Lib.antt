@@ -1,7 +1,5 @@
 pub mod Codes
 pub mod SmallInner
-pub mod SmallLaws
-pub mod CodesLaws
+pub mod FactsInner
 pub mod FileSizeInner
 pub mod FileSizeLaws
-pub mod ToldLaws

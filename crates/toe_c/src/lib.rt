@@ -1,60 +1,26 @@
-// The calls as functions that C and Rust can link: each answers one number.
+// The calls as functions that C and Rust can link: each answers one number. Their names and parameters are those of include/toe.h.
 #![tactic(auto)]
 
 ghost use Rattle.std.specs.Prelude.{◌≡◌, ◌≤◌, length};
 ghost use Rattle.refusals.specs.Buffers.{over};
-ghost use Rattle.toe_c.specs.Codes.{settle_reply, sheet_reply, file_reply, read_reply, write_reply, refusal_code, code_of, SettleCoded, SheetCoded, FileCoded, WriteCoded, fact_numbers, with_facts, ReadCoded};
-ghost use Rattle.toe_c.specs.SmallInner.{Small, SmallReply};
+ghost use Rattle.refusals.specs.Sent.{said};
+ghost use Rattle.toe_c.specs.Codes.{code_of, SettleCoded, SheetCoded, FileCoded, WriteCoded, fact_numbers, ReadCoded};
+ghost use Rattle.toe_c.specs.SmallInner.{SmallReply};
+ghost use Rattle.toe_c.specs.FactsInner.{FactsRead};
 
-use message::{FileFacts, ReadAnswer, WriteAnswer};
-use reports::{FileAnswer, SheetAnswer};
-use settlement::settle::Settled;
+use message::FileFacts;
+use refusals::Refused;
 
-// A refusal as one number.
-fn refusal_code(number: u64, item: usize) -> u64
-    requires { Small number item }
-    ensures { result ≡ refusal_code number item }
-{
-    9223372036854775808 + number * 4294967296 + (item as u64)
-}
-
-fn settle_code(answer: Settled) -> u64
-    requires { SmallReply (settle_reply answer) }
-    ensures { result ≡ code_of (settle_reply answer) }
+// An answer as one number: its count, or 2^63, the refusal's number times 2^32, and the item.
+fn code(answer: Result<usize, Refused>) -> u64
+    requires { SmallReply (said answer) }
+    ensures { result ≡ code_of (said answer) }
 {
     match answer {
-        Settled::Rows(count) => count as u64,
-        Settled::Refused(number, item) => refusal_code(number, item),
-    }
-}
-
-fn sheet_code(answer: SheetAnswer) -> u64
-    requires { SmallReply (sheet_reply answer) }
-    ensures { result ≡ code_of (sheet_reply answer) }
-{
-    match answer {
-        SheetAnswer::Sheet(count) => count as u64,
-        SheetAnswer::Refused(number, item) => refusal_code(number, item),
-    }
-}
-
-fn file_code(answer: FileAnswer) -> u64
-    requires { SmallReply (file_reply answer) }
-    ensures { result ≡ code_of (file_reply answer) }
-{
-    match answer {
-        FileAnswer::File(_, count) => count as u64,
-        FileAnswer::Refused(number, item) => refusal_code(number, item),
-    }
-}
-
-fn write_code(answer: WriteAnswer) -> u64
-    requires { SmallReply (write_reply answer) }
-    ensures { result ≡ code_of (write_reply answer) }
-{
-    match answer {
-        WriteAnswer::Bytes(count) => count as u64,
-        WriteAnswer::Refused(number, item) => refusal_code(number, item),
+        Ok(count) => count as u64,
+        Err(refused) => {
+            9223372036854775808 + refused.number() * 4294967296 + (refused.item() as u64)
+        }
     }
 }
 
@@ -63,7 +29,7 @@ fn write_code(answer: WriteAnswer) -> u64
 pub extern "C" fn toe_settle(book: &[u8], rows: &mut [i64]) -> u64
     ensures { SettleCoded book.now rows.old rows.new result }
 {
-    settle_code(settlement::settle::settle(book, rows))
+    code(settlement::settle::settle_rows(book, rows))
 }
 
 // Fills a party's sheet; answers how many sums.
@@ -71,7 +37,7 @@ pub extern "C" fn toe_settle(book: &[u8], rows: &mut [i64]) -> u64
 pub extern "C" fn toe_sheet(book: &[u8], party: u16, sums: &mut [i64]) -> u64
     ensures { SheetCoded book.now party sums.old sums.new result }
 {
-    sheet_code(filing::sheet::sheet(book, party, sums))
+    code(filing::sheet::sheet(book, party, sums))
 }
 
 // A receiver's file of a book, and the book's settlement rows; answers how many bytes.
@@ -87,7 +53,8 @@ pub extern "C" fn toe_file(
 ) -> u64
     ensures { FileCoded book.now kind receiver id.now moment.now rows.old rows.new file.old file.new result }
 {
-    file_code(filing::file::file(book, kind, receiver, id, moment, rows, file))
+    let answer = filing::file::file(book, kind, receiver, id, moment, rows, file);
+    code(answer.map(|(_, count)| count))
 }
 
 // Kind, receiver, year and month of a file, and where its ID and its moment stand.
@@ -95,26 +62,29 @@ fn put_facts(f: FileFacts, facts: &mut [u64])
     requires { 8 ≤ length facts.old }
     ensures { facts.new ≡ over (fact_numbers f) facts.old }
 {
-    let kind = f.kind;
-    facts[0] = kinds::kind_number(kind);
-    facts[1] = f.receiver;
-    facts[2] = f.year;
-    facts[3] = f.month;
-    facts[4] = f.id as u64;
-    facts[5] = f.id_length as u64;
-    facts[6] = f.moment as u64;
-    facts[7] = 29;
+    facts[..8].copy_from_slice(&[
+        u64::from(f.kind),
+        f.receiver,
+        f.year,
+        f.month,
+        f.id as u64,
+        f.id_length as u64,
+        f.moment as u64,
+        29,
+    ]);
 }
 
-// What a reading answers that is lent fewer than eight facts: 13 and 10 with item 0 come first.
-fn short_facts(answer: ReadAnswer) -> u64
-    requires { SmallReply (read_reply answer) }
-    ensures { result ≡ code_of (read_reply (with_facts 0 answer)) }
+// Reads a file into rows of six numbers, and what it says beside them into the first eight of `facts`. Where there are fewer, 13 and 10 with item 0 come first.
+fn read(file: &[u8], rows: &mut [u64], facts: &mut [u64]) -> Result<usize, Refused>
+    ensures { FactsRead file.now rows.old rows.new facts.old facts.new (said result) }
 {
-    match answer {
-        ReadAnswer::File(_) => refusal_code(10, 1),
-        ReadAnswer::Refused(number, item) => refusal_code(number, item),
+    if facts.len() < 8 {
+        reader::judge(file, rows.len())?;
+        return Err(Refused::Short(1));
     }
+    let told = reader::read(file, rows)?;
+    put_facts(told, facts);
+    Ok(told.rows)
 }
 
 // Reads a file into rows of six numbers, and what it says beside them into `facts`; answers how many rows.
@@ -122,18 +92,7 @@ fn short_facts(answer: ReadAnswer) -> u64
 pub extern "C" fn toe_read(file: &[u8], rows: &mut [u64], facts: &mut [u64]) -> u64
     ensures { ReadCoded file.now rows.old rows.new facts.old facts.new result }
 {
-    if facts.len() < 8 {
-        let judged = reader::judge(file, rows.len());
-        return short_facts(judged);
-    }
-    let answer = reader::read(file, rows);
-    match answer {
-        ReadAnswer::File(f) => {
-            put_facts(f, facts);
-            f.rows as u64
-        }
-        ReadAnswer::Refused(number, item) => refusal_code(number, item),
-    }
+    code(read(file, rows, facts))
 }
 
 // Writes a file from rows of six numbers; answers how many bytes.
@@ -150,5 +109,5 @@ pub extern "C" fn toe_write(
 ) -> u64
     ensures { WriteCoded kind receiver year month rows.now id.now moment.now file.old file.new result }
 {
-    write_code(writer::writing::write(kind, receiver, year, month, rows, id, moment, file))
+    code(writer::writing::write(kind, receiver, year, month, rows, id, moment, file))
 }

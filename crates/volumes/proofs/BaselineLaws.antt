@@ -11,7 +11,7 @@ use Rattle.std.proofs.lemmas.Bool.{lt-leb}
 use Rattle.integers.proofs.ZLaws.{up, dn, eq_z, sum, dif, mul}
 use Rattle.integers.specs.Ranges.{range}
 use Rattle.integers.specs.Sums.{integers, sum_by, sum_z}
-use Rattle.wire.specs.declared.Reading.{Reading}
+use Rattle.wire.specs.Readings.{Reading}
 use Rattle.grains.specs.Grains.{per_watt, grains_z, share}
 use Rattle.grains.specs.GrainsLaws.{shares-x, shares-12x}
 use Rattle.book.specs.declared.Engagement.{Engagement}

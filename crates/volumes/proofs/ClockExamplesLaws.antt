@@ -1,6 +1,6 @@
 -- Clock-change days by example (C-12), computed: March 2021 with one lead day, whose day 28 is the 28th and has 92 quarter-hours, October 2021 with five, whose day 35 is the 31st
 -- and has 100, and April 2019 with one, 31 March.
-use Rattle.std.specs.Prelude.{◌≡◌, refl, true, false, cond, ◌&&◌, ℕ, ◌+◌, ◌*◌, eqb, leb, ltb, pos}
+use Rattle.std.specs.Prelude.{◌≡◌, refl, true, false, cond, ◌&&◌, ℕ, ◌+◌, ◌*◌, eqb, leb, ltb, pos, Some, None}
 use mathlib.Core.List.{[], ◌∷◌, map, flat_map}
 use Rattle.std.proofs.Common.{lit≤}
 use Rattle.integers.specs.First.{any_of, any_below}
@@ -8,8 +8,7 @@ use Rattle.integers.specs.Keep.{keep}
 use Rattle.integers.specs.Ranges.{range}
 use Rattle.integers.specs.Running.{up_to}
 use Rattle.integers.specs.Sums.{sum_by}
-use Rattle.wire.specs.declared.Reading.{Reading}
-use Rattle.wire.specs.declared.Reading.TheVariants.{Watts, Missing}
+use Rattle.wire.specs.Readings.{Reading}
 use Rattle.calendar.specs.declared.Clock.TheVariants.{Shorter, Longer}
 use Rattle.calendar.specs.Dates.{leap, month_length, year_length, day_number, weekday, sunday_up_to, last_sunday, march_sunday, october_sunday, calendar_days}
 use Rattle.calendar.specs.Clocks.{clock_of}
@@ -59,18 +58,18 @@ over c method y reading =
 
 -- "Day 33 reads 10 W at 8, day 34 15 W at 9, else 0"
 unfoldable pub twice : Book
-twice = over october HighXOfY 2 (λ q. Watts (pos (cond (eqb q (96 * 33 + 8)) 10 (cond (eqb q (96 * 34 + 9)) 15 0))))
+twice = over october HighXOfY 2 (λ q. Some (pos (cond (eqb q (96 * 33 + 8)) 10 (cond (eqb q (96 * 34 + 9)) 15 0))))
 
 -- day d, which comes before the change, misses its quarter-hours from a up to b, itself left out
 unfoldable pub gap : Calendar → Method → ℕ → ℕ → ℕ → Book
-gap c method d a b = over c method 1 (λ q. cond (leb (96 * d + a) q && ltb q (96 * d + b)) Missing (Watts (pos 0)))
+gap c method d a b = over c method 1 (λ q. cond (leb (96 * d + a) q && ltb q (96 * d + b)) None (Some (pos 0)))
 
 unfoldable pub whole : Calendar → Method → Book
 whole c method = gap c method 0 0 0
 
 -- each quarter-hour of the calendar reads its own number
 unfoldable pub counted : Calendar → Method → Book
-counted c method = over c method 1 (λ q. Watts (pos q))
+counted c method = over c method 1 (λ q. Some (pos q))
 
 pub record ByClock : Type 0 where
   -- "A clock-change day has 92 or 100"; positions count what the month has
@@ -96,12 +95,12 @@ pub record ByClock : Type 0 where
   pub day_zero : (eligible (whole october Adjusted) (from 35 27 1) 0 ≡ false) × (eligible (whole october Adjusted) (from 35 28 1) 0 ≡ true)
   pub day_zero_short : (eligible (whole march Adjusted) (from 28 19 1) 0 ≡ false) × (eligible (whole march Adjusted) (from 28 20 1) 0 ≡ true)
   -- an own window counts the quarter-hours that passed: 29 March's are 68 to 79 of the 28th; those of day 27 are 72 to 83 of the day before
-  pub own_window : own_window (counted march Adjusted) (from 29 0 1) ≡ map (λ i. Watts (pos (day_start march 28 + 68 + i))) (range 0 12)
-  pub other_window : day_window (counted march Adjusted) (from 29 0 1) 27 ≡ map (λ i. Watts (pos (day_start march 26 + 72 + i))) (range 0 12)
+  pub own_window : own_window (counted march Adjusted) (from 29 0 1) ≡ map (λ i. Some (pos (day_start march 28 + 68 + i))) (range 0 12)
+  pub other_window : day_window (counted march Adjusted) (from 29 0 1) 27 ≡ map (λ i. Some (pos (day_start march 26 + 72 + i))) (range 0 12)
   -- "24 before the place so found": on a day of 92 first 20 has place 24, so the window is the first 12 of the same day
-  pub place_window : day_window (counted march Adjusted) (from 28 20 1) 27 ≡ map (λ i. Watts (pos (day_start march 27 + i))) (range 0 12)
+  pub place_window : day_window (counted march Adjusted) (from 28 20 1) 27 ≡ map (λ i. Some (pos (day_start march 27 + i))) (range 0 12)
   -- April 2019: notice 91 looks at the calendar's first reading, 92 before it
-  pub notice : map (λ n. last_reading (counted april LastQuarter) (noticed 1 0 1 n)) (91 ∷ 92 ∷ []) ≡ Watts (pos 0) ∷ Missing ∷ []
+  pub notice : map (λ n. last_reading (counted april LastQuarter) (noticed 1 0 1 n)) (91 ∷ 92 ∷ []) ≡ Some (pos 0) ∷ None ∷ []
 
 -- these clocks are the calendars'
 pub clocks-ranged : Ranged march × Ranged october × Ranged april

@@ -1,7 +1,6 @@
 -- More examples, computed: edges that P1 to P10 leave open.
-use Rattle.std.specs.Prelude.{◌≡◌, cond, ◌&&◌, List, [], ◌∷◌, map, ℕ, ◌%◌, eqb, leb, ℤ, pos, neg_ℤ}
+use Rattle.std.specs.Prelude.{◌≡◌, cond, ◌&&◌, List, [], ◌∷◌, map, ℕ, ◌%◌, eqb, leb, ℤ, pos, neg_ℤ, Some, None}
 use Rattle.std.proofs.Math.Option.{none}
-use Rattle.wire.specs.declared.Reading.TheVariants.{Watts, Missing}
 use Rattle.book.specs.declared.Supply.TheVariants.{OffTake}
 use Rattle.book.specs.declared.Method.{Method}
 use Rattle.book.specs.declared.Method.TheVariants.{LastQuarter, HighXOfY, Adjusted}
@@ -34,7 +33,7 @@ flat method y engagements = plain 1 y (point 1 method 5000 ∷ []) (by_day (5 �
 
 -- quarter-hour 1 of a day is missing
 unfoldable pub gap : ℕ → ℕ → List Engagement → Book
-gap day y engagements = plain 1 y (point 1 HighXOfY 5000 ∷ []) (λ d q. cond (eqb d day && eqb q 1) Missing (Watts (pos d))) engagements
+gap day y engagements = plain 1 y (point 1 HighXOfY 5000 ∷ []) (λ d q. cond (eqb d day && eqb q 1) None (Some (pos d))) engagements
 
 -- two delivery points of one access point, whose watts rise from day to day
 unfoldable pub rising : Method → List Engagement → Book
@@ -51,7 +50,7 @@ one_party = book_f (point_for 10 10 0 1 HighXOfY 5000)
 -- C-14: a book of a version, whose one point, by method 0, reads `base` before the engagement's quarter-hour and `read` in it; its parties, a limit, a direction, 15 W requested
 unfoldable pub crossing : ℕ → (ℕ → Method → ℕ → Point) → ℤ → ℤ → ℕ → Direction → Book
 crossing version parties base read most direction =
-    book version (λ d. 0) 1 1 (parties 1 LastQuarter most ∷ []) (λ d q. Watts (cond (leb 3 d) read base)) (engagement 0 1 direction 15 ∷ [])
+    book version (λ d. 0) 1 1 (parties 1 LastQuarter most ∷ []) (λ d q. Some (cond (leb 3 d) read base)) (engagement 0 1 direction 15 ∷ [])
 
 -- parties 10, 20 and, for injection, 30
 unfoldable pub three_parties : ℕ → Method → ℕ → Point

@@ -1,5 +1,5 @@
 -- A book that passes refusals 1 to 7 is sound: each test that it passed says so of its rows.
-use Rattle.std.specs.Prelude.{◌≡◌, refl, Bool, true, false, cond, not, ◌&&◌, ◌||◌, ℕ, zero, suc, ◌+◌, ◌*◌, ◌^◌, ◌≤◌, ◌<◌, eqb, leb, ltb, ℤ, pos, neg_ℤ, length}
+use Rattle.std.specs.Prelude.{◌≡◌, refl, Bool, true, false, cond, not, ◌&&◌, ◌||◌, ℕ, zero, suc, ◌+◌, ◌*◌, ◌^◌, ◌≤◌, ◌<◌, eqb, leb, ltb, ℤ, pos, neg_ℤ, length, Some, None}
 use Rattle.std.proofs.Common.{sym, ap, ◌∙◌, ⊎_elim, mul_assoc, arith, length-take, drop_of_length-le, eqb-true, leb-true, ltb-true, ltb-false}
 use Rattle.std.proofs.lemmas.Bool.{false≢true, eqb-false, not-true, not-false}
 use mathlib.Core.List.Memᴰ
@@ -13,9 +13,7 @@ use Rattle.integers.specs.First.{first, any_below}
 use Rattle.integers.specs.Ranges.{range}
 use Rattle.integers.proofs.ZLaws.{up, dn, one-0, le_yes}
 use Rattle.wire.specs.Numbers.{number_at}
-use Rattle.wire.specs.Readings.{reading_at, reading_of}
-use Rattle.wire.specs.declared.Reading.{Reading}
-use Rattle.wire.specs.declared.Reading.TheVariants.{Watts, Missing}
+use Rattle.wire.specs.Readings.{Reading, reading_at, reading_of}
 use Rattle.quarters.specs.Quarters.{days_of, quarters, quarters_of}
 use Rattle.book.specs.Header.{version_of, calendar_of, point_count, engagement_count, between, header_good, layout_good, length_of, offset_of, point_width, engagement_width, calendar_section, table_section, register_section, reading_section, engagement_section}
 use Rattle.book.specs.HeaderLaws.{headed, adjoins}
@@ -65,8 +63,8 @@ mem-range a (suc n) i m = ⊎_elim (λ e. (omega arith, omega arith)) (λ k. let
 -- a reading in range, and one beyond the section, which is 0
 good-bounded : (r : Reading) → reading_good r ≡ true → Bounded (10 ^ 9) (watts r)
 unfolding reading_good watts
-good-bounded Missing e = record { above = omega arith; below = omega arith }
-good-bounded (Watts z) e =
+good-bounded None e = record { above = omega arith; below = omega arith }
+good-bounded (Some z) e =
     let h = both (le_z (neg_ℤ (pos (10 ^ 9))) z) (le_z z (pos (10 ^ 9))) e in
     within z (le_yes (neg_ℤ (pos (10 ^ 9))) z h.0) (le_yes z (pos (10 ^ 9)) h.1)
   where

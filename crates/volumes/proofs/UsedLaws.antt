@@ -8,7 +8,7 @@ use mathlib.Core.List.{List, [], ◌∷◌, map, flat_map, Memᴰ}
 use Rattle.std.proofs.lemmas.Bool.{not-true}
 use Rattle.integers.specs.Ranges.{range}
 use Rattle.integers.proofs.KeepLaws.{mem-keep}
-use Rattle.wire.specs.declared.Reading.{Reading}
+use Rattle.wire.specs.Readings.{Reading}
 use Rattle.book.specs.declared.Method.TheVariants.{LastQuarter, Adjusted}
 use Rattle.book.specs.declared.Engagement.{Engagement}
 use Rattle.book.specs.Book.{Book}

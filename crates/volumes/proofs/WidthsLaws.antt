@@ -1,6 +1,6 @@
 -- Every number of a sound book fits its width: readings, limits and requests are at most 10^9 watts, and at most three of them add up to a number
 -- of a row, and three corrections for each engagement to one of a sheet.
-use Rattle.std.specs.Prelude.{◌≡◌, refl, Bool, cond, eqb, leb, ℤ, negsuc, neg_ℤ, ◌+ℤ◌, ◌-ℤ◌, ◌*ℤ◌, length, get_or}
+use Rattle.std.specs.Prelude.{◌≡◌, refl, Bool, cond, eqb, leb, ℤ, negsuc, neg_ℤ, ◌+ℤ◌, ◌-ℤ◌, ◌*ℤ◌, length, get_or, None}
 use Rattle.std.proofs.Math.Logic.{⊎_elim}
 use Rattle.std.proofs.Math.Bool.{true, false}
 use mathlib.Core.List.Memᴰ
@@ -14,8 +14,7 @@ use Rattle.std.specs.Int.{w64}
 use Rattle.integers.proofs.ZLaws.{one-0, sum, dif, neg, mul, sfits}
 use Rattle.integers.specs.Ranges.{range}
 use Rattle.integers.specs.Sums.{sum_by, sum_z}
-use Rattle.wire.specs.declared.Reading.{Reading}
-use Rattle.wire.specs.declared.Reading.TheVariants.{Missing}
+use Rattle.wire.specs.Readings.{Reading}
 use Rattle.grains.specs.Grains.{per_watt, grains, grains_z, share}
 use Rattle.book.specs.declared.Method.{Method}
 use Rattle.book.specs.declared.Method.TheVariants.{LastQuarter, HighXOfY, Adjusted}
@@ -75,7 +74,7 @@ module _ (book : Book) (s : Sound book) (e : Engagement) where
   unfolding reading_before watts
   before-bounded p q n = go (leb n q)
     where
-      go : (t : Bool) → Bounded (10 ^ 9) (watts (cond t (book.reading p (q - n)) Missing))
+      go : (t : Bool) → Bounded (10 ^ 9) (watts (cond t (book.reading p (q - n)) None))
       go true = s.readings p (q - n)
       go false = bounded-zero
 

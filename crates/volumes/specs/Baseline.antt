@@ -1,12 +1,11 @@
 -- Document 01, "Baseline": "Let A be the engagement's day, s its first quarter-hour." k is one of its quarter-hours, counted from 0.
-use Rattle.std.specs.Prelude.{Bool, true, false, cond, not, ◌&&◌, ℕ, zero, suc, ◌+◌, ◌-◌, eqb, leb, ℤ, pos, ◌+ℤ◌, ◌-ℤ◌, ◌*ℤ◌, length, take, get_or}
+use Rattle.std.specs.Prelude.{Bool, true, false, cond, not, ◌&&◌, ℕ, zero, suc, ◌+◌, ◌-◌, eqb, leb, ℤ, pos, ◌+ℤ◌, ◌-ℤ◌, ◌*ℤ◌, length, take, get_or, Some, None}
 use mathlib.Core.List.{List, [], ◌∷◌, map, flat_map}
 use Rattle.integers.specs.Ranges.{range}
 use Rattle.integers.specs.Sums.{sum_z}
 use Rattle.integers.specs.Keep.{keep}
 use Rattle.integers.specs.First.{any_of}
-use Rattle.wire.specs.declared.Reading.{Reading}
-use Rattle.wire.specs.declared.Reading.TheVariants.{Watts, Missing}
+use Rattle.wire.specs.Readings.{Reading}
 use Rattle.grains.specs.Grains.{grains_z, share}
 use Rattle.book.specs.declared.Situation.TheVariants.{OptOut}
 use Rattle.book.specs.declared.Takers.TheVariants.{Neither}
@@ -47,13 +46,13 @@ point_of book e = get_or book.points e.point no_point
 
 -- a reading's watts; in an accepted book no reading that is used is missing
 unfoldable pub watts : Reading → ℤ
-watts (Watts w) = w
-watts Missing = pos 0
+watts (Some w) = w
+watts None = pos 0
 
 -- a reading that isn't missing, and readings of which none is
 unfoldable pub known : Reading → Bool
-known (Watts w) = true
-known Missing = false
+known (Some w) = true
+known None = false
 
 unfoldable pub complete : List Reading → Bool
 complete [] = true
@@ -65,7 +64,7 @@ mean l = sum_z watts l *ℤ pos (share (length l))
 
 -- of point p, the reading n quarter-hours before quarter-hour q of the calendar; before the calendar there is none
 unfoldable pub reading_before : Book → ℕ → ℕ → ℕ → Reading
-reading_before book p q n = cond (leb n q) (book.reading p (q - n)) Missing
+reading_before book p q n = cond (leb n q) (book.reading p (q - n)) None
 
 -- "the 12 readings from 96 A + s - 24", q being 96 A + s or what stands for it on another day: "24 before the place so found for the first quarter-hour"
 unfoldable pub window : Book → ℕ → ℕ → List Reading

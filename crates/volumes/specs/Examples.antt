@@ -1,9 +1,8 @@
 -- P1 to P10 of document 01, "Checked examples", on books that have what each names; and further examples.
-use Rattle.std.specs.Prelude.{◌≡◌, cond, ◌&&◌, ℕ, ◌+◌, ◌*◌, ◌/◌, ◌%◌, eqb, leb, ℤ, pos, neg_ℤ, get_or}
+use Rattle.std.specs.Prelude.{◌≡◌, cond, ◌&&◌, ℕ, ◌+◌, ◌*◌, ◌/◌, ◌%◌, eqb, leb, ℤ, pos, neg_ℤ, get_or, Some}
 use mathlib.Core.List.{List, [], ◌∷◌, map, flat_map}
 use Rattle.std.proofs.Math.Option.{none}
-use Rattle.wire.specs.declared.Reading.{Reading}
-use Rattle.wire.specs.declared.Reading.TheVariants.{Watts}
+use Rattle.wire.specs.Readings.{Reading}
 use Rattle.grains.specs.Grains.{grains}
 use Rattle.book.specs.declared.Situation.TheVariants.{Transfer}
 use Rattle.book.specs.declared.Takers.TheVariants.{Aggregated}
@@ -75,11 +74,11 @@ plain = book 1 (λ d. 0)
 
 -- the same watts the whole day, from day 0 on
 unfoldable pub by_day : List ℕ → ℕ → ℕ → Reading
-by_day l d q = Watts (pos (get_or l d 0))
+by_day l d q = Some (pos (get_or l d 0))
 
 -- the first watts of each day, from day 0 on
 unfoldable pub by_quarter : List (List ℕ) → ℕ → ℕ → Reading
-by_quarter l d q = Watts (pos (get_or (get_or l d []) q 0))
+by_quarter l d q = Some (pos (get_or (get_or l d []) q 0))
 
 -- "day 3 from quarter-hour 0, count 2, up, 3,000 W"
 unfoldable pub engagement_f : Engagement
@@ -122,7 +121,7 @@ equal_sums =
 -- "window mean 6,100 against 6,000": the windows are quarter-hours 72 to 83 of the day before
 unfoldable pub shifted : ℕ → ℕ → Reading
 shifted d q =
-    Watts (pos (cond (leb 84 q) 9000 (cond (leb 72 q && eqb d 2) (6000 + 200 * (q % 2)) (cond (leb 72 q) 6000 3000))))
+    Some (pos (cond (leb 84 q) 9000 (cond (leb 72 q && eqb d 2) (6000 + 200 * (q % 2)) (cond (leb 72 q) 6000 3000))))
 
 unfoldable pub windows : Book
 windows = plain 2 2 (point 1 Adjusted 5000 ∷ []) shifted (engagement 0 1 Up 100 ∷ [])

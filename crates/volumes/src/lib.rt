@@ -6,7 +6,7 @@ ghost use Rattle.volumes.specs.Examples.{Checked};
 use book::{Direction, Supply};
 
 // "A series is one partner, supply and delivery direction"
-#[derive(Clone, Copy)]
+#[derive(Clone, Copy, Debug, PartialEq, Eq)]
 pub struct Series {
     pub partner: u64,
     pub supply: Supply,

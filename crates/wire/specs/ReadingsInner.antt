@@ -1,9 +1,7 @@
 -- A reading raised by 2^31 watts, which has no sign; a missing one is 0.
-use Rattle.std.specs.Prelude.{◌≡◌, ℕ, List, pos, ◌+ℤ◌}
+use Rattle.std.specs.Prelude.{◌≡◌, ℕ, List, pos, ◌+ℤ◌, Some, None}
 use Rattle.integers.proofs.ZLaws.{up, Within}
-use Rattle.wire.specs.declared.Reading.{Reading}
-use Rattle.wire.specs.declared.Reading.TheVariants.{Watts, Missing}
-use Rattle.wire.specs.Readings.{watts_at, reading_at}
+use Rattle.wire.specs.Readings.{Reading, watts_at, reading_at}
 
 -- what a raised reading has more than the reading, in watts: the least reading that isn't missing is then 1
 abbrev pub raise : ℕ
@@ -11,8 +9,8 @@ raise = 2147483648
 
 -- a reading without a sign: its watts and the raise, and 0 where it is missing
 unfoldable pub raised : Reading → ℕ
-raised (Watts z) = up (z +ℤ pos raise)
-raised Missing = 0
+raised (Some z) = up (z +ℤ pos raise)
+raised None = 0
 
 -- r is reading i, raised; and what stands there is a number of 32 bits
 pub record Raised (xs : List ℕ) (i r : ℕ) : Type 0 where

@@ -1,11 +1,10 @@
 -- What 4 bytes say as a reading, and what the raised reading tells of it: its watts plus 2^31, and 0 only where it is missing.
-use Rattle.std.specs.Prelude.{◌≡◌, ℕ, suc, ◌+◌, ◌%◌, ◌^◌, ◌<◌, Bool, true, false, ℤ, pos, negsuc, ◌==◌, nat_lt, refl}
+use Rattle.std.specs.Prelude.{◌≡◌, ℕ, suc, ◌+◌, ◌%◌, ◌^◌, ◌<◌, Bool, true, false, ℤ, pos, negsuc, ◌==◌, nat_lt, refl, Some, None}
 use Rattle.std.proofs.Common.{arith, to_z, eqb-true, ltb-true, ltb-false}
 use Rattle.std.specs.Int.{w32}
 use Rattle.std.proofs.lemmas.Bool.{eqb-false}
 use Rattle.integers.proofs.ZLaws.{sum, Over, Within, low, high}
 use Rattle.wire.specs.Readings.{reading_of, missing_if}
-use Rattle.wire.specs.declared.Reading.TheVariants.{Watts, Missing}
 use Rattle.wire.specs.ReadingsInner.{raised, raise}
 
 -- the raised reading of z is z + 2^31
@@ -14,7 +13,7 @@ unfolding reading_of raised
 raised-over (pos w) h = record { law = omega (arith, sum (pos w) (pos raise)) }
 raised-over (negsuc w) h = go (suc w == 2147483648) refl
   where
-    go : (b : Bool) → (suc w == 2147483648) ≡ b → Over raise (negsuc w) (raised (missing_if b (Watts (negsuc w))))
+    go : (b : Bool) → (suc w == 2147483648) ≡ b → Over raise (negsuc w) (raised (missing_if b (Some (negsuc w))))
     go true e = record { law = omega (arith, eqb-true (suc w) 2147483648 e) }
     go false e = record { law = omega (arith, h.below, sum (negsuc w) (pos raise)) }
 
@@ -35,11 +34,11 @@ raised-bits n h = go (nat_lt n 2147483648) refl
     go false e = let l = ltb-false n 2147483648 e in omega (arith, raised-over (to_z w32 n) (in-range n h), high w32 n l h)
 
 -- a reading that is raised to 0 is missing, and no other is
-pub missing-raised : (z : ℤ) → Within z raise → raised (reading_of z) ≡ 0 → reading_of z ≡ Missing
+pub missing-raised : (z : ℤ) → Within z raise → raised (reading_of z) ≡ 0 → reading_of z ≡ None
 unfolding reading_of raised
 missing-raised (pos w) h e = absurd (omega (arith, sum (pos w) (pos raise)))
 missing-raised (negsuc w) h e = go (suc w == 2147483648) refl e
   where
-    go : (b : Bool) → (suc w == 2147483648) ≡ b → raised (missing_if b (Watts (negsuc w))) ≡ 0 → missing_if b (Watts (negsuc w)) ≡ Missing
+    go : (b : Bool) → (suc w == 2147483648) ≡ b → raised (missing_if b (Some (negsuc w))) ≡ 0 → missing_if b (Some (negsuc w)) ≡ None
     go true q e = refl
     go false q e = absurd (eqb-false (suc w) 2147483648 q (omega (arith, h.below, sum (negsuc w) (pos raise))))

@@ -1,149 +1,171 @@
--- What rows hold, row by row and run by run: the bytes of the first, and those of the rest.
-use Rattle.std.specs.Prelude.{◌≡◌, refl, true, ◌&&◌, ltb, length, get_or}
-use Rattle.std.proofs.Math.Path.{ap, subst}
-use Rattle.std.proofs.Common.{◌∙◌}
-use mathlib.Core.List.{List, [], ◌++◌, map, flat_map}
-use Prim.Native.Nat.{ℕ, zero, suc, ◌+◌, ◌-◌, ◌*◌, ◌/◌, ◌^◌, ◌≤◌, ◌<◌}
-use Rattle.std.proofs.Math.ListN.{length-map}
-use native.Mathlib.Omega.{arith}
-use borrow.Author.Tests.{ltb-true}
+-- What rows hold, run by run: the bytes of the first, and those of the rest.
+use Rattle.std.specs.Prelude.{◌≡◌, refl, true, ◌&&◌, List, [], ◌∷◌, ◌++◌, map, ℕ, zero, suc, ◌+◌, ◌/◌, ◌^◌, ◌≤◌, ◌<◌, ltb, length, get_or, take, drop}
+use Rattle.std.proofs.Common.{sym, ap, ap₂, ◌∙◌, arith, drop-cons, drop_of_length-le}
+use Rattle.std.proofs.lemmas.List.{get_or-take, length-map}
+use Rattle.std.specs.Simd.{first_chunks}
+use mathlib.Core.List.{flat_map, map-map}
 use Rattle.integers.proofs.TestsLaws.{and_left, and_right}
 use Rattle.kinds.specs.declared.Kind.{Kind}
-use Rattle.message.specs.Contents.{Observation}
-use Rattle.message.specs.Valid.{last_position}
+use Rattle.message.specs.Contents.{Observation, TimeSeries}
+use Rattle.message.specs.Valid.{IsPeriod, last_position}
 use Rattle.message.specs.Bytes.{observation_bytes, series_bytes, supply_of, partner_bytes}
 use Rattle.message.specs.Reading.{observed, is_period}
 use Rattle.message.proofs.ObservationForm.{to-period}
 use Rattle.message.specs.Keys.{number_keys, directions_keys}
 use Rattle.message.specs.Group.{group}
-use Rattle.message.specs.Rows.{rows_from, rows_in, in_sixes, series_of, partner_of, partners_of, contents}
+use Rattle.message.specs.Rows.{Row, rows_in, in_sixes, series_of, partner_of, partners_of, contents}
 use Rattle.message.specs.Messages.{message_bytes}
-use Rattle.writer.specs.Order.{every, ordered}
-use Rattle.writer.specs.Rows.{is_observation, is_directions, is_number, is_row, row_before, of_month, is_rows, rows_message}
-use Rattle.writer.specs.RunsInner.{PartnerRun, DirectionsRun}
-use Rattle.emitter.specs.PartsInner.{file_head, file_end}
-use Rattle.emitter.specs.PartsLaws.{file-parts}
-use Rattle.writer.specs.ContentsInner.{observations_in, series_at, series_in, partner_at, partners_in, Writable}
 use Rattle.message.proofs.GroupLaws.{first_group}
-use Rattle.writer.specs.RowsInner.{row_at, Directed}
+use Rattle.emitter.specs.declared.Title.{Title}
+use Rattle.emitter.specs.PartsInner.{file_head, file_end}
+use Rattle.emitter.proofs.PartsLaws.{file-parts}
+use Rattle.writer.specs.Order.{every, ordered}
+use Rattle.writer.specs.Rows.{is_row, row_before, of_month, is_rows, rows_message}
+use Rattle.writer.specs.RowsInner.{row_in}
+use Rattle.writer.specs.RunsInner.{partner_run, directions_run}
+use Rattle.writer.specs.ContentsInner.{observations_in, series_at, series_in, partner_at, partners_in, message_by}
+use Rattle.writer.proofs.RunsLaws.{FirstRun, directed_in, partner-first, directions-first}
+use Rattle.writer.proofs.SixesLaws.{rows-chunks}
 
 -- ---- observations
 
-pub rows-length : (l : List ℕ) (at n : ℕ) → length (rows_from l at n) ≡ n
-unfolding rows_from
-rows-length l at zero = refl
-rows-length l at (suc n) = ap suc (rows-length l (at + 6) n)
+pub observations-length : (rows : List (List ℕ)) → length (observations_in rows) ≡ length rows
+observations-length rows = length-map (map row_in rows) (λ r. r.1.1) ∙ length-map rows row_in
 
-pub observations-length : (l : List ℕ) (at n : ℕ) → length (observations_in l at n) ≡ n
-unfolding observations_in
-observations-length l at n = length-map (rows_from l at n) (λ r. r.1.1) ∙ rows-length l at n
+pub observations-step : (rows : List (List ℕ)) (i : ℕ) → i < length rows
+    → flat_map observation_bytes (observations_in (drop i rows))
+    ≡ observation_bytes (observed (get_or (get_or rows i []) 3 0, get_or (get_or rows i []) 4 0)) ++ flat_map observation_bytes (observations_in (drop (i + 1) rows))
+unfolding flat_map
+observations-step rows i h =
+    let next : suc i ≡ i + 1 = omega arith in
+    ap (λ (l : List (List ℕ)). flat_map observation_bytes (observations_in l)) (drop-cons rows i [] h)
+    ∙ ap (λ (k : ℕ). observation_bytes (observed (get_or (get_or rows i []) 3 0, get_or (get_or rows i []) 4 0)) ++ flat_map observation_bytes (observations_in (drop k rows))) next
 
-pub observations-none : (l : List ℕ) (at n : ℕ) → n ≡ 0 → flat_map observation_bytes (observations_in l at n) ≡ []
-unfolding observations_in rows_from flat_map
-observations-none l at n e = rw e
+pub observations-none : (rows : List (List ℕ)) (i : ℕ) → length rows ≤ i → flat_map observation_bytes (observations_in (drop i rows)) ≡ []
+unfolding flat_map
+observations-none rows i h = ap (λ (l : List (List ℕ)). flat_map observation_bytes (observations_in l)) (drop_of_length-le rows {i = i} h)
 
-pub observations-step : (l : List ℕ) (at n : ℕ) → 1 ≤ n
-    → flat_map observation_bytes (observations_in l at n) ≡ observation_bytes (observed (get_or l (at + 3) 0, get_or l (at + 4) 0)) ++ flat_map observation_bytes (observations_in l (at + 6) (n - 1))
-unfolding observations_in rows_from flat_map
-observations-step l at n h =
-    let e : n ≡ suc (n - 1) = omega arith in
-    ap (λ (m : ℕ). flat_map observation_bytes (map (λ r. r.1.1) (rows_from l at m))) e
+-- ---- series and partners
 
--- ---- series
+pub series-none : (k : Kind) (q : ℕ × ℕ) (rows : List (List ℕ)) → length rows ≡ 0 → flat_map (series_bytes k) (series_in q rows) ≡ []
+unfolding flat_map group
+series-none k q [] e = refl
+series-none k q (x ∷ rows) e = absurd (omega (arith, e))
 
-module _ (k : Kind) (q : ℕ × ℕ) (l : List ℕ) (at n : ℕ) where
-  pub series-none : n ≡ 0 → flat_map (series_bytes k) (series_in q l at n) ≡ []
-  unfolding series_in rows_from group flat_map
-  series-none e = rw e
+pub partners-none : (k : Kind) (q : ℕ × ℕ) (rows : List (List ℕ)) → length rows ≡ 0 → flat_map (partner_bytes k) (partners_in q rows) ≡ []
+unfolding flat_map group partners_of
+partners-none k q [] e = refl
+partners-none k q (x ∷ rows) e = absurd (omega (arith, e))
 
-  pub series-step : (r : ℕ) → DirectionsRun l at n r
-      → flat_map (series_bytes k) (series_in q l at n) ≡ series_bytes k (series_at q l at r) ++ flat_map (series_bytes k) (series_in q l (at + 6 * r) (n - r))
-  unfolding series_in observations_in flat_map
-  series-step r p = ap (λ (g : List ((ℕ × ℕ) × List Observation)). flat_map (series_bytes k) (map (series_of q) g)) p.first
+directed-is : (rows : List (List ℕ)) → map (λ r. r.1) (map row_in rows) ≡ map directed_in rows
+directed-is rows = map-map (λ r. r.1) row_in rows
 
-  pub partners-none : n ≡ 0 → flat_map (partner_bytes k) (partners_in q l at n) ≡ []
-  unfolding partners_of rows_from group flat_map
-  partners-none e = rw e
+first-series : (q : ℕ × ℕ) (rows : List (List ℕ)) (n : ℕ) → 0 < n
+    → series_of q ((directed_in (get_or rows 0 [])).0, map (λ x. x.1) (map directed_in (take n rows))) ≡ series_at q (take n rows)
+first-series q rows n h =
+    let t = take n rows in
+    let held : map (λ x. x.1) (map directed_in t) ≡ observations_in t = map-map (λ x. x.1) directed_in t ∙ sym (map-map (λ r. r.1.1) row_in t) in
+    ap₂ (λ (x : List ℕ) (o : List Observation). record { supply = get_or x 1 0; delivery = get_or x 2 0; year = q.0; month = q.1; observations = o }) (sym (get_or-take n rows 0 [] h)) held
 
-  pub partners-step : (r : ℕ) → PartnerRun l at n r
-      → flat_map (partner_bytes k) (partners_in q l at n) ≡ partner_bytes k (partner_at q l at r) ++ flat_map (partner_bytes k) (partners_in q l (at + 6 * r) (n - r))
-  unfolding partners_of series_in flat_map
-  partners-step r p = ap (λ (g : List (ℕ × List ((ℕ × ℕ) × Observation))). flat_map (partner_bytes k) (map (partner_of q) g)) p.first
+module _ (k : Kind) (q : ℕ × ℕ) (rows : List (List ℕ)) where
+  series-step : 1 ≤ length rows
+      → flat_map (series_bytes k) (series_in q rows) ≡ series_bytes k (series_at q (take (directions_run rows) rows)) ++ flat_map (series_bytes k) (series_in q (drop (directions_run rows) rows))
+  unfolding flat_map
+  series-step h =
+      let r = directions-first rows h in
+      let n = directions_run rows in
+      let bytes = flat_map (series_bytes k) in
+      ap (λ (g : List ((ℕ × ℕ) × Observation)). bytes (map (series_of q) (group directions_keys g))) (directed-is rows)
+      ∙ ap (λ (gs : List ((ℕ × ℕ) × List Observation)). bytes (map (series_of q) gs)) r.first
+      ∙ ap₂ (λ (s : TimeSeries) (g : List ((ℕ × ℕ) × Observation)). series_bytes k s ++ bytes (map (series_of q) (group directions_keys g)))
+      (first-series q rows n r.some) (sym (directed-is (drop n rows)))
 
-module _ (q : ℕ × ℕ) (l : List ℕ) (at n : ℕ) where
-  pub series-count : length (series_in q l at n) ≡ length (group directions_keys (map (λ r. r.1) (rows_from l at n)))
-  unfolding series_in
-  series-count = length-map (group directions_keys (map (λ r. r.1) (rows_from l at n))) (series_of q)
+  partners-step : 1 ≤ length rows
+      → flat_map (partner_bytes k) (partners_in q rows) ≡ partner_bytes k (partner_at q (take (partner_run rows) rows)) ++ flat_map (partner_bytes k) (partners_in q (drop (partner_run rows) rows))
+  unfolding partners_of flat_map
+  partners-step h =
+      let r = partner-first rows h in
+      let n = partner_run rows in
+      let bytes = flat_map (partner_bytes k) in
+      ap (λ (gs : List (ℕ × List ((ℕ × ℕ) × Observation))). bytes (map (partner_of q) gs)) r.first
+      ∙ ap (λ (x : List ℕ). partner_bytes k (record { number = get_or x 0 0; series = series_in q (take n rows) }) ++ bytes (partners_in q (drop n rows))) (sym (get_or-take n rows 0 [] r.some))
 
-  pub partners-count : length (partners_in q l at n) ≡ length (group number_keys (rows_from l at n))
+  -- the same of the two parts that rows were cut into
+  pub series-cut : {n : ℕ} {a b : List (List ℕ)} → 1 ≤ length rows → n ≡ directions_run rows → a ≡ take n rows → b ≡ drop n rows
+      → flat_map (series_bytes k) (series_in q rows) ≡ series_bytes k (series_at q a) ++ flat_map (series_bytes k) (series_in q b)
+  series-cut h e f g = rw (f, g, e) (series-step h)
+
+  pub partners-cut : {n : ℕ} {a b : List (List ℕ)} → 1 ≤ length rows → n ≡ partner_run rows → a ≡ take n rows → b ≡ drop n rows
+      → flat_map (partner_bytes k) (partners_in q rows) ≡ partner_bytes k (partner_at q a) ++ flat_map (partner_bytes k) (partners_in q b)
+  partners-cut h e f g = rw (f, g, e) (partners-step h)
+
+module _ (q : ℕ × ℕ) (rows : List (List ℕ)) where
+  pub series-count : length (series_in q rows) ≡ length (group directions_keys (map (λ r. r.1) (map row_in rows)))
+  series-count = length-map (group directions_keys (map (λ r. r.1) (map row_in rows))) (series_of q)
+
+  pub partners-count : length (partners_in q rows) ≡ length (group number_keys (map row_in rows))
   unfolding partners_of
-  partners-count = length-map (group number_keys (rows_from l at n)) (partner_of q)
+  partners-count = length-map (group number_keys (map row_in rows)) (partner_of q)
 
-  -- the first row's supply direction is the first series'
-  pub series-supply : 1 ≤ n → supply_of (series_in q l at n) ≡ get_or l (at + 1) 0
-  unfolding series_in rows_from supply_of
-  series-supply h =
-      let e : n ≡ suc (n - 1) = omega arith in
-      let f = first_group directions_keys (row_at l at).1 (map (λ r. r.1) (rows_from l (at + 6) (n - 1))) in
-      ap (λ (m : ℕ). supply_of (map (series_of q) (group directions_keys (map (λ r. r.1) (rows_from l at m))))) e
-      ∙ ap (λ (g : List ((ℕ × ℕ) × List Observation)). supply_of (map (series_of q) g)) f.is
+-- ---- how many
+
+pub partners-left : {n : ℕ} {b : List (List ℕ)} (rows : List (List ℕ)) → 1 ≤ length rows → n ≡ partner_run rows → b ≡ drop n rows
+    → length (group number_keys (map row_in rows)) ≡ suc (length (group number_keys (map row_in b)))
+partners-left rows h e f = rw (f, e) (ap length (partner-first rows h).first)
+
+pub series-left : {n : ℕ} {b : List (List ℕ)} (rows : List (List ℕ)) → 1 ≤ length rows → n ≡ directions_run rows → b ≡ drop n rows
+    → length (group directions_keys (map (λ r. r.1) (map row_in rows))) ≡ suc (length (group directions_keys (map (λ r. r.1) (map row_in b))))
+series-left rows h e f =
+    let r = directions-first rows h in
+    rw (f, e)
+    (ap (λ (g : List ((ℕ × ℕ) × Observation)). length (group directions_keys g)) (directed-is rows) ∙ ap length r.first
+    ∙ ap (λ (g : List ((ℕ × ℕ) × Observation)). suc (length (group directions_keys g))) (sym (directed-is (drop (directions_run rows) rows))))
+
+pub no-partners : (rows : List (List ℕ)) → length rows ≡ 0 → length (group number_keys (map row_in rows)) ≡ 0
+unfolding group
+no-partners [] e = refl
+no-partners (x ∷ rows) e = absurd (omega (arith, e))
+
+pub no-series : (rows : List (List ℕ)) → length rows ≡ 0 → length (group directions_keys (map (λ r. r.1) (map row_in rows))) ≡ 0
+unfolding group
+no-series [] e = refl
+no-series (x ∷ rows) e = absurd (omega (arith, e))
+
+-- the first row's supply direction is the first series'
+pub series-supply : (q : ℕ × ℕ) (rows : List (List ℕ)) → 1 ≤ length rows → supply_of (series_in q rows) ≡ get_or (get_or rows 0 []) 1 0
+unfolding supply_of
+series-supply q [] h = absurd (omega arith)
+series-supply q (x ∷ rows) h =
+    let f = first_group directions_keys (row_in x).1 (map (λ r. r.1) (map row_in rows)) in
+    ap (λ (g : List ((ℕ × ℕ) × List Observation)). supply_of (map (series_of q) g)) f.is
 
 -- ---- a file by its rows
 
-pub message-parts : (k : Kind) (receiver year month : ℕ) (l id moment : List ℕ)
-    → file_head k id moment receiver (length (partners_in (year, month) l 0 (length l / 6))) ++ flat_map (partner_bytes k) (partners_in (year, month) l 0 (length l / 6)) ++ file_end k
-    ≡ message_bytes (rows_message k receiver year month l id moment)
-unfolding contents rows_in
-message-parts k receiver year month l id moment = file-parts (contents (rows_message k receiver year month l id moment))
+pub message-parts : (t : Title) (id moment : List ℕ) (rows : List (List ℕ))
+    → file_head t.kind id moment t.receiver (length (partners_in (t.year, t.month) rows)) ++ (flat_map (partner_bytes t.kind) (partners_in (t.year, t.month) rows) ++ file_end t.kind)
+    ≡ message_bytes (message_by t id moment rows)
+unfolding contents
+message-parts t id moment rows = file-parts (contents (message_by t id moment rows))
 
--- ---- rows that can be written
+-- the file of rows that stand as numbers
+pub message-is : (t : Title) (id moment l : List ℕ) {rows : List (List ℕ)} → rows ≡ first_chunks 6 (length l / 6) l
+    → message_bytes (message_by t id moment rows) ≡ message_bytes (rows_message t.kind t.receiver t.year t.month l id moment)
+unfolding rows_in
+message-is t id moment l e =
+    ap (λ (rows : List Row). message_bytes (record { kind = t.kind; receiver = t.receiver; id = id; moment = moment; year = t.year; month = t.month; rows = rows }))
+    (ap (map row_in) e ∙ sym (rows-chunks l 0 (length l / 6)))
 
-pub writable-part : {l : List ℕ} {at n year month : ℕ} → Writable l at n year month → (to r m : ℕ) → to ≡ at + 6 * r → r + m ≤ n → Writable l to m year month
-writable-part {l} {at} {n} {year} {month} w to r m e h =
-    record {
-      within = omega (arith, w.within);
-      directed = λ j g. subst (λ (p : ℕ). Directed l p) (omega (arith, e)) (w.directed (r + j) (omega (arith, h, g)));
-      period = λ s. w.period (omega (arith, h, s));
-    }
+month-period : (k : Kind) (year month : ℕ) (rows : List Row) → 1 ≤ length rows → of_month k year month rows ≡ true → IsPeriod year month
+unfolding of_month
+month-period k year month [] h e = absurd (omega arith)
+month-period k year month (r ∷ rows) h e =
+    to-period (year, month) (and_left (is_period (year, month)) (every (is_row k (last_position year month)) (r ∷ rows) && ordered (row_before k) (r ∷ rows)) e)
 
--- the first row's directions
-pub writable-first : {l : List ℕ} {at n year month : ℕ} → Writable l at n year month → 1 ≤ n → Directed l at
-writable-first {l} {at} w h = subst (λ (p : ℕ). Directed l p) (omega arith) (w.directed 0 h)
-
-module _ (k : Kind) (last : ℕ) (l : List ℕ) where
-  row-directed : (at : ℕ) → is_row k last (row_at l at) ≡ true → Directed l at
-  unfolding is_directions
-  row-directed at e =
-      let r = row_at l at in
-      let b = and_right (is_number k r.0) (is_directions r.1.0 && is_observation last r.1.1) e in
-      let p = and_left (is_directions r.1.0) (is_observation last r.1.1) b in
-      record {
-        supply = ltb-true r.1.0.0 2 (and_left (ltb r.1.0.0 2) (ltb r.1.0.1 2) p);
-        delivery = ltb-true r.1.0.1 2 (and_right (ltb r.1.0.0 2) (ltb r.1.0.1 2) p);
-      }
-
-  rows-directed : (at n : ℕ) → every (is_row k last) (rows_from l at n) ≡ true → (j : ℕ) → j < n → Directed l (at + 6 * j)
-  unfolding every rows_from
-  rows-directed at zero e j h = absurd (omega (arith, h))
-  rows-directed at (suc n) e zero h = subst (λ (p : ℕ). Directed l p) (omega arith) (row-directed at (and_left (is_row k last (row_at l at)) (every (is_row k last) (rows_from l (at + 6) n)) e))
-  rows-directed at (suc n) e (suc j) h =
-      subst (λ (p : ℕ). Directed l p) (omega arith) (rows-directed (at + 6) n (and_right (is_row k last (row_at l at)) (every (is_row k last) (rows_from l (at + 6) n)) e) j (omega (arith, h)))
-
-month-writable : (k : Kind) (year month : ℕ) (l : List ℕ) (at n : ℕ) → at + 6 * n ≤ length l → of_month k year month (rows_from l at n) ≡ true → Writable l at n year month
-unfolding of_month rows_from
-month-writable k year month l at zero w e = record { within = w; directed = λ j h. absurd (omega (arith, h)); period = λ s. absurd (omega (arith, s)) }
-month-writable k year month l at (suc n) w e =
-    let last = last_position year month in
-    let rest = and_right (is_period (year, month)) (every (is_row k last) (rows_from l at (suc n)) && ordered (row_before k) (rows_from l at (suc n))) e in
-    record {
-      within = w;
-      directed = rows-directed k last l at (suc n) (and_left (every (is_row k last) (rows_from l at (suc n))) (ordered (row_before k) (rows_from l at (suc n))) rest);
-      period = λ s. to-period (year, month) (and_left (is_period (year, month)) (every (is_row k last) (rows_from l at (suc n)) && ordered (row_before k) (rows_from l at (suc n))) e);
-    }
-
--- rows that a file has can be written
-pub rows-writable : (k : Kind) (receiver year month : ℕ) (l : List ℕ) → is_rows k receiver year month l ≡ true → Writable l 0 (length l / 6) year month
+-- rows that a file has, if there are any, are of a month
+pub rows-period : (k : Kind) (receiver year month : ℕ) (l : List ℕ) {rows : List (List ℕ)} → rows ≡ first_chunks 6 (length l / 6) l → is_rows k receiver year month l ≡ true → 1 ≤ length rows
+    → IsPeriod year month
 unfolding is_rows rows_in
-rows-writable k receiver year month l e =
-    let b = and_right (ltb receiver (10 ^ 10)) (in_sixes l && of_month k year month (rows_in l)) e in
-    month-writable k year month l 0 (length l / 6) (omega arith) (and_right (in_sixes l) (of_month k year month (rows_in l)) b)
+rows-period k receiver year month l {rows} e f h =
+    let is : map row_in rows ≡ rows_in l = ap (map row_in) e ∙ sym (rows-chunks l 0 (length l / 6)) in
+    let m = and_right (in_sixes l) (of_month k year month (rows_in l)) (and_right (ltb receiver (10 ^ 10)) (in_sixes l && of_month k year month (rows_in l)) f) in
+    month-period k year month (map row_in rows) (omega (arith, length-map rows row_in)) (ap (of_month k year month) is ∙ m)

@@ -6,5 +6,5 @@ pub mod OrderLaws
 pub mod RoundTripLaws
 pub mod RowsLaws
 pub mod RunsLaws
-pub mod StepsLaws
+pub mod SixesLaws
 pub mod WriteCallsLaws

@@ -1,8 +1,9 @@
 -- Rows in order are those of groups in order, and within each group of its rows.
-use Rattle.std.specs.Prelude.{◌≡◌, Bool, cond, ◌&&◌, ℕ, suc, ◌≤◌, leb, ltb, length}
+use Rattle.std.specs.Prelude.{◌≡◌, Bool, cond, ◌&&◌, ℕ, zero, suc, ◌+◌, ◌≤◌, ◌<◌, leb, ltb, length, get_or}
+use Rattle.std.specs.List.{IsAllAdjacentAnswer}
 use Rattle.std.proofs.Math.Path.{refl, ap}
-use Rattle.std.proofs.Common.{◌∙◌, sym, arith}
-use Rattle.std.proofs.Math.Bool.{true, false, and_assoc, and-true}
+use Rattle.std.proofs.Common.{◌∙◌, sym, ap₂, arith}
+use Rattle.std.proofs.Math.Bool.{true, false, and_assoc, and-true, and-false}
 use mathlib.Core.List.{List, [], ◌∷◌, map}
 use Rattle.integers.proofs.TestsLaws.{and_left, and_right, and_both}
 use Rattle.integers.specs.Rises.{rises}
@@ -135,3 +136,34 @@ pub rises-follow : (low a : ℕ) (l : List ℕ) → rises low (a ∷ l) ≡ (leb
 unfolding rises follow
 rises-follow low a [] = refl
 rises-follow low a (b ∷ l) = ap (λ (t : Bool). leb low a && t) (rises-follow (suc a) b l)
+
+-- ---- neighbours, as std's `is_sorted_by` judges them
+
+module _ {A : Type 0} (e : A → A → Bool) where
+  next : (a b : A) (l : List A) (k : ℕ) (d : A) → e (get_or (b ∷ l) k d) (get_or (a ∷ b ∷ l) (suc k + 1) d) ≡ e (get_or (b ∷ l) k d) (get_or (b ∷ l) (k + 1) d)
+  next a b l k d = let f : suc k + 1 ≡ suc (k + 1) = omega arith in ap (λ (i : ℕ). e (get_or (b ∷ l) k d) (get_or (a ∷ b ∷ l) i d)) f
+
+  follow-all : (a : A) (l : List A) → ((k : ℕ) (d : A) → k + 1 < length (a ∷ l) → true ≡ e (get_or (a ∷ l) k d) (get_or (a ∷ l) (k + 1) d)) → true ≡ follow e a l
+  unfolding follow
+  follow-all a [] h = refl
+  follow-all a (b ∷ l) h =
+      let first : true ≡ e a b = h 0 a (omega arith) in
+      let rest : true ≡ follow e b l =
+      follow-all b l (λ k d g. h (suc k) d (omega (arith, g)) ∙ next a b l k d) in
+      ap₂ (λ (x y : Bool). x && y) first rest
+
+  follow-fails : (a : A) (l : List A) (k : ℕ) → k + 1 < length (a ∷ l) → ((d : A) → false ≡ e (get_or (a ∷ l) k d) (get_or (a ∷ l) (k + 1) d)) → false ≡ follow e a l
+  unfolding follow
+  follow-fails a [] k h f = absurd (omega (arith, h))
+  follow-fails a (b ∷ l) zero h f = ap (λ (x : Bool). x && follow e b l) (f a)
+  follow-fails a (b ∷ l) (suc k) h f =
+      let rest : false ≡ follow e b l =
+      follow-fails b l k (omega (arith, h)) (λ d. f d ∙ next a b l k d) in
+      sym (and-false (e a b)) ∙ ap (λ (y : Bool). e a b && y) rest
+
+  pub adjacent-ordered : (l : List A) (r : Bool) → IsAllAdjacentAnswer (λ x y b. b ≡ e x y) l r → r ≡ ordered e l
+  unfolding ordered
+  adjacent-ordered [] true h = refl
+  adjacent-ordered [] false h = absurd (omega (arith, h.1))
+  adjacent-ordered (a ∷ l) true h = follow-all a l h
+  adjacent-ordered (a ∷ l) false h = follow-fails a l h.0 h.1 h.2

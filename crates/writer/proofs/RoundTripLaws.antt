@@ -1,5 +1,5 @@
 -- The round trip of the calls: that of the file's form, at the numbers of its rows and the places of ID and moment.
-use Rattle.std.specs.Prelude.{◌≡◌, refl, true, ◌&&◌, ℕ, ◌*◌, ◌^◌, ◌≤◌, ltb, drop}
+use Rattle.std.specs.Prelude.{◌≡◌, refl, true, ◌&&◌, ℕ, ◌*◌, ◌^◌, ◌≤◌, ltb, drop, Result, Ok}
 use Rattle.std.proofs.Math.Path.{sym, ap, subst}
 use Rattle.std.proofs.Common.{◌∙◌, arith}
 use mathlib.Core.List.{List, []}
@@ -11,9 +11,7 @@ use Rattle.formats.specs.FormatLaws.{got-bad}
 use Rattle.text.proofs.DecimalLaws.{true-false}
 use Rattle.kinds.specs.declared.Kind.{Kind}
 use Rattle.message.specs.declared.FileFacts.{FileFacts}
-use Rattle.message.specs.declared.ReadAnswer.{ReadAnswer}
-use Rattle.message.specs.declared.WriteAnswer.{WriteAnswer}
-use Rattle.message.specs.declared.WriteAnswer.TheVariants.{Bytes}
+use Rattle.refusals.specs.declared.Refused.{Refused}
 use Rattle.message.proofs.FileForm.{moment-length}
 use Rattle.message.specs.Rows.{numbers, rows_in, in_sixes, Message, contents, IsMessage}
 use Rattle.message.proofs.SixesLaws.{numbers-rows, length-numbers, rows-numbers, numbers-sixes}
@@ -58,7 +56,7 @@ module _ (number receiver year month : ℕ) (rows id moment before after : List 
   made-count : 6 * length (rows_in rows) ≡ length rows
   made-count = sym (length-numbers (rows_in rows)) ∙ ap length made-rows
 
-  gives_back : (lent filled : List ℕ) (r : ReadAnswer) → ReadCalled (take n after) lent filled r → length rows ≤ length lent
+  gives_back : (lent filled : List ℕ) (r : Result FileFacts Refused) → ReadCalled (take n after) lent filled r → length rows ≤ length lent
       → GivesBack number receiver year month rows id moment (take n after) filled r
   unfolding facts_of
   gives_back lent filled r c h =
@@ -93,18 +91,18 @@ module _ (m : Message) (ok : IsMessage m) where
       message-rows m.kind m.receiver m.year m.month (numbers m.rows) m.id m.moment (numbers-sixes m.rows) (subst IsMessage (sym again-is) ok)
 
   pub message-written : (before : List ℕ) → length (message_bytes m) ≤ length before
-      → WriteCalled (kind_number m.kind) m.receiver m.year m.month (numbers m.rows) m.id m.moment before (over (message_bytes m) before) (Bytes (length (message_bytes m)))
+      → WriteCalled (kind_number m.kind) m.receiver m.year m.month (numbers m.rows) m.id m.moment before (over (message_bytes m) before) (Ok (length (message_bytes m)))
   unfolding contents
   message-written before h =
       let e : message_bytes again ≡ message_bytes m = ap message_bytes again-is in
       let w = wrote-file (kind_number m.kind) m.receiver m.year m.month (numbers m.rows) m.id m.moment before m.kind (kind-numbered m.kind) again-judged
       (and_both ok.file.id ok.file.moment) (omega (arith, ap length e)) in
       subst
-      (λ (l : List ℕ). WriteCalled (kind_number m.kind) m.receiver m.year m.month (numbers m.rows) m.id m.moment before (over l before) (Bytes (length l)))
+      (λ (l : List ℕ). WriteCalled (kind_number m.kind) m.receiver m.year m.month (numbers m.rows) m.id m.moment before (over l before) (Ok (length l)))
       e w
 
-  again-written : (before after : List ℕ) (r : WriteAnswer) → WriteCalled (kind_number m.kind) m.receiver m.year m.month (numbers m.rows) m.id m.moment before after r
-      → length (message_bytes m) ≤ length before → (r ≡ Bytes (length (message_bytes m))) × (take (length (message_bytes m)) after ≡ message_bytes m)
+  again-written : (before after : List ℕ) (r : Result ℕ Refused) → WriteCalled (kind_number m.kind) m.receiver m.year m.month (numbers m.rows) m.id m.moment before after r
+      → length (message_bytes m) ≤ length before → (r ≡ Ok (length (message_bytes m))) × (take (length (message_bytes m)) after ≡ message_bytes m)
   again-written before after r c h =
       let d = one-write c (message-written before h) in
       (d.0, ap (take (length (message_bytes m))) d.1 ∙ over_first (message_bytes m) before (length (message_bytes m)) refl)
@@ -134,15 +132,15 @@ module _ (file lent filled : List ℕ) (facts : FileFacts) (a : ReadAccepted fil
       ∙ ap (λ (j : ℕ). take j (drop (moment_place found.kind found.id) file)) (sym (moment-length found.moment found_is.1.file.moment))
       ∙ ap (λ (s : List ℕ). take (length found.moment) (drop (moment_place found.kind found.id) s)) found_is.0 ∙ moment-stands found
 
-  found-written : (before after : List ℕ) (r : WriteAnswer)
+  found-written : (before after : List ℕ) (r : Result ℕ Refused)
       → WriteCalled (kind_number facts.kind) facts.receiver facts.year facts.month (take (6 * facts.rows) filled) (id_in facts file) (moment_in facts file) before after r
-      → length file ≤ length before → (r ≡ Bytes (length file)) × (take (length file) after ≡ file)
+      → length file ≤ length before → (r ≡ Ok (length file)) × (take (length file) after ≡ file)
   unfolding facts_of
   found-written before after r c h =
       let d : WriteCalled (kind_number facts.kind) facts.receiver facts.year facts.month (numbers found.rows) found.id found.moment before after r
       = rw (found_rows, found-id, found-moment) at c in
       let e = subst (λ (f : FileFacts). WriteCalled (kind_number f.kind) f.receiver f.year f.month (numbers found.rows) found.id found.moment before after r) a.says d in
-      subst (λ (s : List ℕ). (r ≡ Bytes (length s)) × (take (length s) after ≡ s)) (sym found_is.0)
+      subst (λ (s : List ℕ). (r ≡ Ok (length s)) × (take (length s) after ≡ s)) (sym found_is.0)
       (again-written found found_is.1 before after r e (omega (arith, ap length found_is.0)))
 
   -- such rows are never refused

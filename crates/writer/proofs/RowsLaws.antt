@@ -29,7 +29,6 @@ use Rattle.writer.specs.Rows.{is_observation, is_directions, is_number, one_supp
 use Rattle.integers.proofs.AllLaws.{all_map, all_of, all_append, all_both, all_of_map, map-all}
 use Rattle.message.proofs.GroupLaws.{first_group}
 use Rattle.writer.proofs.OrderLaws.{every-group, full-groups, every-all, all-every, ordered-map, ordered-both, rises-follow, keys_of, in_order, order-groups}
-use Rattle.writer.specs.RowsInner.{row_at, six_at, behind}
 use Rattle.integers.proofs.RisesLaws.{rises-few}
 
 -- ---- observations
@@ -379,36 +378,3 @@ pub message-rows : (k : Kind) (receiver year month : ℕ) (l id moment : List �
 unfolding is_rows contents
 message-rows k receiver year month l id moment six m =
     and_both (lt-ltb receiver (10 ^ 10) m.file.receiver) (and_both six (of-message k receiver year month id moment (rows_in l) m))
-
--- ---- the same by the numbers' places
-
-turn : (z r Z E b F : Bool) → ((z && Z) && ((r && E) && (b && F))) ≡ ((r && z) && (b && (Z && (E && F))))
-turn true true Z E true F = refl
-turn true true true true false F = refl
-turn true true true false false F = refl
-turn true true false E false F = refl
-turn true false true E b F = refl
-turn true false false E b F = refl
-turn false true Z E b F = refl
-turn false false Z E b F = refl
-
-last_one : (z r : Bool) → ((z && true) && ((r && true) && true)) ≡ ((r && z) && true)
-last_one true true = refl
-last_one true false = refl
-last_one false true = refl
-last_one false false = refl
-
-inside : (b r n : Bool) → (b && (r && n)) ≡ ((r && b) && n)
-inside true r n = rw (and-true r)
-inside false true n = refl
-inside false false n = refl
-
-pub rows_behind : (k : Kind) (last : ℕ) (l : List ℕ) (at n : ℕ)
-    → (zeros l at (suc n) && (every (is_row k last) (rows_from l at (suc n)) && follow (row_before k) (row_at l at) (rows_from l (at + 6) n))) ≡ (six_at k last l at && behind k last l at n)
-unfolding zeros every rows_from follow six_at behind
-rows_behind k last l at zero = last_one (eqb (get_or l (at + 5) 0) 0) (is_row k last (row_at l at))
-rows_behind k last l at (suc n) =
-    turn (eqb (get_or l (at + 5) 0) 0) (is_row k last (row_at l at)) (zeros l (at + 6) (suc n)) (every (is_row k last) (rows_from l (at + 6) (suc n))) (row_before k (row_at l at) (row_at l (at + 6)))
-    (follow (row_before k) (row_at l (at + 6)) (rows_from l (at + 6 + 6) n))
-    ∙ ap (λ (t : Bool). six_at k last l at && (row_before k (row_at l at) (row_at l (at + 6)) && t)) (rows_behind k last l (at + 6) n)
-    ∙ ap (λ (t : Bool). six_at k last l at && t) (inside (row_before k (row_at l at) (row_at l (at + 6))) (six_at k last l (at + 6)) (behind k last l (at + 6) n))

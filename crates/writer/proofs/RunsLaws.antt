@@ -1,97 +1,86 @@
--- A run that ends at another key or with the rows is the first group of the rows.
-use Rattle.std.specs.Prelude.{◌≡◌, refl, Bool, true, false, ◌&&◌, eqb, ltb, length, get_or}
-use Rattle.std.proofs.Common.{sym, ap₂, ◌∙◌, arith, ltb-true, ltb-false}
-use Rattle.std.proofs.Math.Path.{ap}
-use mathlib.Core.List.{List, ◌∷◌, ◌++◌, map, map-map, map-id, map-append}
-use Prim.Native.Nat.{ℕ, zero, suc, ◌+◌, ◌-◌, ◌*◌, ◌≤◌, ◌<◌}
-use Rattle.integers.specs.All.{All}
+-- A run from the first row on is the first group of the rows; the rows behind it are grouped by themselves.
+use Rattle.std.specs.Prelude.{◌≡◌, refl, Bool, true, false, cond, ◌&&◌, List, [], ◌∷◌, map, ℕ, zero, suc, ◌+◌, ◌≤◌, ◌<◌, eqb, length, get_or, take, drop}
+use Rattle.std.proofs.Common.{sym, ap, ap₂, ◌∙◌, subst, arith}
+use Rattle.std.specs.List.{take_while, prefix_len}
+use Rattle.std.proofs.lemmas.List.Folds.{length-prefix_len}
+use Rattle.std.proofs.lemmas.List.Sums.{prefix_len-le-length}
+use Rattle.std.proofs.lemmas.Bool.Decides.{nat_tests}
 use Rattle.message.specs.Contents.{Observation}
 use Rattle.message.specs.Keys.{number_keys, directions_keys}
-use Rattle.message.specs.Group.{Keys, group}
-use Rattle.message.proofs.GroupLaws.{Ends, leading}
-use Rattle.message.specs.Rows.{Row, rows_from}
-use Rattle.writer.specs.RunsInner.{PartnerRun, DirectionsRun}
-use Rattle.writer.specs.RowsInner.{row_at}
+use Rattle.message.specs.Group.{Keys, push, group}
+use Rattle.message.proofs.GroupLaws.{first_group}
+use Rattle.message.specs.Rows.{Row}
+use Rattle.writer.specs.RowsInner.{row_in}
+use Rattle.writer.specs.RunsInner.{partner_run, directions_run}
 
--- rows are the first r of them and those behind
-pub rows_split : (l : List ℕ) (at n r m : ℕ) → n ≡ r + m → rows_from l at n ≡ rows_from l at r ++ rows_from l (at + 6 * r) m
-unfolding rows_from
-rows_split l at n zero m e =
-    let f : n ≡ m = omega arith in
-    let g : at ≡ at + 6 * 0 = omega arith in
-    ap₂ (rows_from l) g f
-rows_split l at n (suc r) m e =
-    let f : n ≡ suc (r + m) = omega arith in
-    let g : at + 6 + 6 * r ≡ at + 6 * suc r = omega arith in
-    ap (rows_from l at) f ∙ ap (λ (t : List Row). row_at l at ∷ t) (rows_split l (at + 6) (r + m) r m refl ∙ ap (λ (k : ℕ). rows_from l (at + 6) r ++ rows_from l k m) g)
+-- the first r of some rows are the first group's, and those behind it the others'
+pub record FirstRun {K A : Type 0} (E : Keys K) (f : List ℕ → K × A) (rows : List (List ℕ)) (r : ℕ) : Type 0 where
+  pub some : 1 ≤ r
+  pub within : r ≤ length rows
+  pub first : group E (map f rows) ≡ ((f (get_or rows 0 [])).0, map (λ x. x.1) (map f (take r rows))) ∷ group E (map f (drop r rows))
 
--- r rows from a place on have one key
-abbrev pub OneKey : {K A : Type 0} → (Row → K × A) → List ℕ → K → ℕ → ℕ → Type 0
-OneKey f l k at r = (j : ℕ) → j < r → (f (row_at l (at + 6 * j))).0 ≡ k
+module _ {K A : Type 0} (E : Keys K) (f : List ℕ → K × A) (k : K) where
+  other : (v : A) (x : List ℕ) (l : List (List ℕ)) → E.same k (f x).0 ≡ false → group E ((k, v) ∷ map f (x ∷ l)) ≡ (k, v ∷ []) ∷ group E (map f (x ∷ l))
+  unfolding group push
+  other v x l h =
+      let g = first_group E (f x) (map f l) in
+      let first : K × List A = ((f x).0, (f x).1 ∷ g.more) in
+      ap (push E k v) g.is
+      ∙ ap (λ (b : Bool). cond b ((k, v ∷ first.1) ∷ g.rest) ((k, v ∷ []) ∷ first ∷ g.rest)) h
+      ∙ ap (λ (gs : List (K × List A)). (k, v ∷ []) ∷ gs) (sym g.is)
 
-module _ {K A : Type 0} (f : Row → K × A) (l : List ℕ) (at : ℕ) where
-  pub one-first : OneKey f l (f (row_at l at)).0 at 1
-  one-first j g = ap (λ (p : ℕ). (f (row_at l p)).0) (omega (arith, g))
+  module _ (p : List ℕ → Bool) (is : (a : List ℕ) → p a ≡ E.same k (f a).0) where
+    -- a row of that key before others
+    runs : (v : A) (l : List (List ℕ)) → group E ((k, v) ∷ map f l) ≡ (k, v ∷ map (λ x. x.1) (map f (take (prefix_len p l) l))) ∷ group E (map f (drop (prefix_len p l) l))
+    unfolding group push
+    runs v [] = refl
+    runs v (x ∷ l) = go (p x) refl (runs (f x).1 l)
+      where
+        n : ℕ
+        n = prefix_len p l
 
-  pub one_more : (k : K) (r : ℕ) → OneKey f l k at r → (f (row_at l (at + 6 * r))).0 ≡ k → OneKey f l k at (r + 1)
-  one_more k r h e j g = go (ltb j r) refl
-    where
-      go : (b : Bool) → ltb j r ≡ b → (f (row_at l (at + 6 * j))).0 ≡ k
-      go true t = h j (ltb-true j r t)
-      go false t = ap (λ (p : ℕ). (f (row_at l (at + 6 * p))).0) (omega (arith, g, ltb-false j r t)) ∙ e
+        left : ℕ → List (K × List A)
+        left m = (k, v ∷ map (λ y. y.1) (map f (take m (x ∷ l)))) ∷ group E (map f (drop m (x ∷ l)))
 
-module _ {K A : Type 0} (E : Keys K) (f : Row → K × A) (l : List ℕ) where
-  each : (k : K) (at r : ℕ) → OneKey f l k at r → All (λ y. y.0 ≡ k) (map f (rows_from l at r))
-  unfolding rows_from All
-  each k at zero h = tt
-  each k at (suc r) h = (
-    ap (λ (p : ℕ). (f (row_at l p)).0) (omega arith) ∙ h 0 (omega arith),
-    each k (at + 6) r (λ j g. ap (λ (p : ℕ). (f (row_at l p)).0) (omega arith) ∙ h (suc j) (omega (arith, g))),
-  )
+        go : (b : Bool) → p x ≡ b
+            → group E ((k, (f x).1) ∷ map f l) ≡ (k, (f x).1 ∷ map (λ y. y.1) (map f (take n l))) ∷ group E (map f (drop n l))
+            → group E ((k, v) ∷ f x ∷ map f l) ≡ left (cond b (1 + n) 0)
+        go true e rec =
+            let key : k ≡ (f x).0 = E.alike k (f x).0 (sym (is x) ∙ e) in
+            let m : suc n ≡ 1 + n = omega arith in
+            let rest = group E (map f (drop n l)) in
+            let more : List A = (f x).1 ∷ map (λ y. y.1) (map f (take n l)) in
+            ap (λ (j : K). push E k v (group E ((j, (f x).1) ∷ map f l))) (sym key)
+            ∙ ap (push E k v) rec
+            ∙ ap (λ (b : Bool). cond b ((k, v ∷ more) ∷ rest) ((k, v ∷ []) ∷ (k, more) ∷ rest)) (E.itself k)
+            ∙ ap left m
+        go false e rec = other v x l (sym (is x) ∙ e)
 
-  ends : (k : K) (at m : ℕ) → (1 ≤ m → E.same k (f (row_at l at)).0 ≡ false) → Ends E k (map f (rows_from l at m))
-  unfolding rows_from Ends
-  ends k at zero h = tt
-  ends k at (suc m) h = h (omega arith)
+    pub first-run : (x : List ℕ) (l : List (List ℕ)) → (f x).0 ≡ k → FirstRun E f (x ∷ l) (length (take_while p (x ∷ l)))
+    first-run x l e =
+        let yes : p x ≡ true = is x ∙ ap (E.same k) e ∙ E.itself k in
+        let n = prefix_len p l in
+        let long : length (take_while p (x ∷ l)) ≡ suc n = length-prefix_len p (x ∷ l) ∙ ap (λ (b : Bool). cond b (1 + n) 0) yes ∙ omega arith in
+        let P : ℕ → Type 0 = FirstRun E f (x ∷ l) in
+        subst P (sym long)
+        (record {
+          some = omega arith;
+          within = omega (arith, prefix_len-le-length p l);
+          first = ap (λ (j : K). group E ((j, (f x).1) ∷ map f l)) e ∙ runs (f x).1 l ∙ ap (λ (j : K). (j, (f x).1 ∷ map (λ y. y.1) (map f (take n l))) ∷ group E (map f (drop n l))) (sym e);
+        })
 
-  run : (k : K) (at n r m : ℕ) → n ≡ r + m → 1 ≤ r → OneKey f l k at r → (1 ≤ m → E.same k (f (row_at l (at + 6 * r))).0 ≡ false)
-      → group E (map f (rows_from l at n)) ≡ (k, map (λ y. y.1) (map f (rows_from l at r))) ∷ group E (map f (rows_from l (at + 6 * r) m))
-  unfolding rows_from
-  run k at n zero m e s h g = absurd (omega arith)
-  run k at n (suc r) m e s h g =
-      ap (λ (t : List Row). group E (map f t)) (rows_split l at n (suc r) m e)
-      ∙ ap (group E) (map-append f (rows_from l at (suc r)) (rows_from l (at + 6 * suc r) m))
-      ∙ leading E k (f (row_at l at)) (map f (rows_from l (at + 6) r)) (map f (rows_from l (at + 6 * suc r) m)) (each k at (suc r) h) (ends k (at + 6 * suc r) m g)
+eqb-swap : (a b : ℕ) → eqb a b ≡ eqb b a
+eqb-swap a b = grind (arith, nat_tests)
 
-module _ (l : List ℕ) (at n r : ℕ) (s : 1 ≤ r) (w : r ≤ n) where
-  pub partner-run : OneKey (λ x. x) l (get_or l at 0) at r → (r < n → eqb (get_or l at 0) (get_or l (at + 6 * r) 0) ≡ false) → PartnerRun l at n r
-  partner-run h g =
-      record {
-        some = s;
-        within = w;
-        first =
-            ap (group number_keys) (sym (map-id (rows_from l at n)))
-            ∙ run number_keys (λ x. x) l (get_or l at 0) at n r (n - r) (omega arith) s h (λ d. g (omega (arith, d)))
-            ∙ ap₂ (λ (a : List Row) (b : List Row). (get_or l at 0, map (λ x. x.1) a) ∷ group number_keys b) (map-id (rows_from l at r)) (map-id (rows_from l (at + 6 * r) (n - r)));
-      }
+pub partner-first : (rows : List (List ℕ)) → 1 ≤ length rows → FirstRun number_keys row_in rows (partner_run rows)
+partner-first [] h = absurd (omega arith)
+partner-first (x ∷ l) h = first-run number_keys row_in (get_or x 0 0) (λ a. eqb (get_or a 0 0) (get_or x 0 0)) (λ a. eqb-swap (get_or a 0 0) (get_or x 0 0)) x l refl
 
-  pub directions-run : OneKey (λ x. x.1) l (get_or l (at + 1) 0, get_or l (at + 2) 0) at r
-      → (r < n → (eqb (get_or l (at + 1) 0) (get_or l (at + 6 * r + 1) 0) && eqb (get_or l (at + 2) 0) (get_or l (at + 6 * r + 2) 0)) ≡ false) → DirectionsRun l at n r
-  directions-run h g =
-      let k : ℕ × ℕ = (get_or l (at + 1) 0, get_or l (at + 2) 0) in
-      record {
-        some = s;
-        within = w;
-        first =
-            run directions_keys (λ x. x.1) l k at n r (n - r) (omega arith) s h (λ d. g (omega (arith, d)))
-            ∙ ap (λ (a : List Observation). (k, a) ∷ group directions_keys (map (λ x. x.1) (rows_from l (at + 6 * r) (n - r)))) (map-map (λ y. y.1) (λ x. x.1) (rows_from l at r));
-      }
+abbrev pub directed_in : List ℕ → (ℕ × ℕ) × Observation
+directed_in a = (row_in a).1
 
--- no rows, no groups
-pub no-partners : (l : List ℕ) (at n : ℕ) → n ≡ 0 → length (group number_keys (rows_from l at n)) ≡ 0
-unfolding rows_from group
-no-partners l at n e = rw e
-
-pub no-series : (l : List ℕ) (at n : ℕ) → n ≡ 0 → length (group directions_keys (map (λ x. x.1) (rows_from l at n))) ≡ 0
-unfolding rows_from group
-no-series l at n e = rw e
+pub directions-first : (rows : List (List ℕ)) → 1 ≤ length rows → FirstRun directions_keys directed_in rows (directions_run rows)
+directions-first [] h = absurd (omega arith)
+directions-first (x ∷ l) h =
+    first-run directions_keys directed_in (get_or x 1 0, get_or x 2 0) (λ a. eqb (get_or a 1 0) (get_or x 1 0) && eqb (get_or a 2 0) (get_or x 2 0))
+    (λ a. ap₂ (λ (b c : Bool). b && c) (eqb-swap (get_or a 1 0) (get_or x 1 0)) (eqb-swap (get_or a 2 0) (get_or x 2 0))) x l refl

@@ -1,29 +1,26 @@
--- A row at its place among numbers, six by six.
-use Rattle.std.specs.Prelude.{◌≡◌, Bool, true, ◌&&◌, List, ℕ, zero, suc, ◌+◌, ◌%◌, ◌≤◌, ◌<◌, eqb, length, get_or}
+-- A row as six numbers, and the order of rows as it is judged.
+use Rattle.std.specs.Prelude.{Bool, cond, ◌&&◌, ◌||◌, List, ℕ, eqb, ltb, get_or}
 use Rattle.kinds.specs.declared.Kind.{Kind}
+use Rattle.message.specs.Contents.{Observation}
 use Rattle.message.specs.Rows.{Row}
-use Rattle.writer.specs.Rows.{is_row, row_before}
+use Rattle.message.specs.Keys.{number_keys, directions_keys}
+use Rattle.writer.specs.Order.{by}
+use Rattle.writer.specs.Rows.{is_row, one_supply, later}
 
--- ---- the same by the numbers' places
+abbrev pub row_in : List ℕ → Row
+row_in a = (get_or a 0 0, ((get_or a 1 0, get_or a 2 0), record { position = get_or a 3 0; watts = get_or a 4 0 }))
 
-abbrev pub row_at : List ℕ → ℕ → Row
-row_at l at = (get_or l at 0, ((get_or l (at + 1) 0, get_or l (at + 2) 0), record { position = get_or l (at + 3) 0; watts = get_or l (at + 4) 0 }))
+-- six numbers that are a row, the sixth 0
+abbrev pub is_six : Kind → ℕ → List ℕ → Bool
+is_six k last a = is_row k last (row_in a) && eqb (get_or a 5 0) 0
 
--- six numbers that are a row
-unfoldable pub six_at : Kind → ℕ → List ℕ → ℕ → Bool
-six_at k last l at = is_row k last (row_at l at) && eqb (get_or l (at + 5) 0) 0
+-- directions that come before others: by supply, then by delivery
+abbrev pub pair_before : ℕ × ℕ → ℕ × ℕ → Bool
+pair_before p q = ltb p.0 q.0 || (eqb p.0 q.0 && ltb p.1 q.1)
 
--- n rows that may stand behind the row at a place
-unfoldable pub behind : Kind → ℕ → List ℕ → ℕ → ℕ → Bool
-behind k last l at zero = true
-behind k last l at (suc n) = (six_at k last l (at + 6) && row_before k (row_at l at) (row_at l (at + 6))) && behind k last l (at + 6) n
+abbrev pub directions_earlier : Kind → (ℕ × ℕ) × Observation → (ℕ × ℕ) × Observation → Bool
+directions_earlier k = by directions_keys (λ p q. pair_before p q && one_supply k p.0 q.0) later
 
--- both directions at a place are 0 or 1
-pub record Directed (l : List ℕ) (at : ℕ) : Type 0 where
-  pub supply : get_or l (at + 1) 0 < 2
-  pub delivery : get_or l (at + 2) 0 < 2
-
--- six numbers a row, and a row
-pub record Sixes (l : List ℕ) : Type 0 where
-  pub whole : length l % 6 ≡ 0
-  pub some : 6 ≤ length l
+-- `row_before`, of directions that are 0 or 1
+abbrev pub row_earlier : Kind → Row → Row → Bool
+row_earlier k = by number_keys ltb (directions_earlier k)

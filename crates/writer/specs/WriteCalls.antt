@@ -1,13 +1,13 @@
 -- Writing a file from rows: its answer, and the file's buffer afterwards (document 01, "The file", "What is sent back").
-use Rattle.std.specs.Prelude.{◌≡◌, ◌&&◌, List, [], ℕ, length}
+use Rattle.std.specs.Prelude.{◌≡◌, ◌&&◌, List, [], ℕ, length, Result}
 use Rattle.std.proofs.Math.Option.{Option, none, some}
 use Rattle.refusals.specs.Refusals.{Refusal, refused, unless, short}
+use Rattle.refusals.specs.Sent.{says, said}
+use Rattle.refusals.specs.declared.Refused.{Refused}
 use Rattle.refusals.specs.Buffers.{afterwards}
 use Rattle.moments.specs.Ids.{is_transaction_id}
 use Rattle.kinds.specs.declared.Kind.{Kind}
 use Rattle.kinds.specs.Numbers.{kind_numbered}
-use Rattle.message.specs.declared.WriteAnswer.{WriteAnswer}
-use Rattle.message.specs.declared.WriteAnswer.TheVariants.{Bytes, Refused}
 use Rattle.message.specs.Valid.{is_moment}
 use Rattle.message.specs.Messages.{message_bytes}
 use Rattle.writer.specs.Rows.{is_rows, rows_message}
@@ -26,15 +26,11 @@ write_refusal (some kind) receiver year month rows id moment lent =
     (short 1 (length (message_bytes (rows_message kind receiver year month rows id moment))) lent))
 
 -- how many bytes, or the refusal's number and item
-unfoldable pub write_says : Option Refusal → ℕ → WriteAnswer
-write_says none count = Bytes count
-write_says (some r) count = Refused r.number r.item
-
-unfoldable pub write_answer : ℕ → ℕ → ℕ → ℕ → List ℕ → List ℕ → List ℕ → ℕ → WriteAnswer
+unfoldable pub write_answer : ℕ → ℕ → ℕ → ℕ → List ℕ → List ℕ → List ℕ → ℕ → Result ℕ Refusal
 write_answer kind receiver year month rows id moment lent =
-    write_says (write_refusal (kind_numbered kind) receiver year month rows id moment lent) (length (text_from (kind_numbered kind) receiver year month rows id moment))
+    says (write_refusal (kind_numbered kind) receiver year month rows id moment lent) (length (text_from (kind_numbered kind) receiver year month rows id moment))
 
 -- a writing from these rows, with the file's bytes before it and after it
-pub record WriteCalled (kind receiver year month : ℕ) (rows id moment before after : List ℕ) (r : WriteAnswer) : Type 0 where
-  pub answer : r ≡ write_answer kind receiver year month rows id moment (length before)
+pub record WriteCalled (kind receiver year month : ℕ) (rows id moment before after : List ℕ) (r : Result ℕ Refused) : Type 0 where
+  pub answer : said r ≡ write_answer kind receiver year month rows id moment (length before)
   pub file : after ≡ afterwards (write_refusal (kind_numbered kind) receiver year month rows id moment (length before)) (text_from (kind_numbered kind) receiver year month rows id moment) before

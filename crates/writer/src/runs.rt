@@ -1,77 +1,57 @@
 // Neighbouring rows of one partner, and of the same directions.
-ghost use Rattle.std.specs.Prelude.{◌≡◌, map, ◌+◌, ◌*◌, ◌≤◌, length};
+ghost use Rattle.std.specs.Prelude.{◌≡◌, ◌≤◌, map, length};
 ghost use Rattle.message.specs.Keys.{number_keys, directions_keys};
 ghost use Rattle.message.specs.Group.{group};
-ghost use Rattle.message.specs.Rows.{rows_from};
-ghost use Rattle.writer.specs.RunsInner.{Stand, PartnerRun, DirectionsRun};
+ghost use Rattle.writer.specs.RowsInner.{row_in};
+ghost use Rattle.writer.specs.RunsInner.{partner_run, directions_run};
 
-// How many of n rows from `at` on are the first one's partner's.
-pub fn partner_run(rows: &[u64], at: usize, n: usize) -> usize
-    requires { Stand rows.now at n }
-    ensures { PartnerRun rows.now at n result }
+use crate::FileRow;
+
+// How many rows are the first one's partner's.
+pub fn partner_run(rows: &[FileRow]) -> usize
+    requires { 1 ≤ length rows.now }
+    ensures { result ≡ partner_run rows.now }
 {
-    let first = rows[at];
-    let mut run = 1;
-    while run < n {
-        if rows[at + 6 * run] != first {
-            return run;
-        }
-        run += 1;
-    }
-    run
+    let number = rows[0][0];
+    rows.iter().take_while(|row| row[0] == number).count()
 }
 
-// How many of n rows from `at` on have the first one's directions.
-pub fn directions_run(rows: &[u64], at: usize, n: usize) -> usize
-    requires { Stand rows.now at n }
-    ensures { DirectionsRun rows.now at n result }
+// How many have the first one's directions.
+pub fn directions_run(rows: &[FileRow]) -> usize
+    requires { 1 ≤ length rows.now }
+    ensures { result ≡ directions_run rows.now }
 {
-    let supply = rows[at + 1];
-    let delivery = rows[at + 2];
-    let mut run = 1;
-    while run < n {
-        let next = at + 6 * run;
-        if rows[next + 1] != supply {
-            return run;
-        }
-        if rows[next + 2] != delivery {
-            return run;
-        }
-        run += 1;
-    }
-    run
+    let supply = rows[0][1];
+    let delivery = rows[0][2];
+    rows.iter()
+        .take_while(|row| (row[1] == supply) & (row[2] == delivery))
+        .count()
 }
 
-// How many partners n rows have.
-pub fn count_partners(rows: &[u64], n: usize) -> usize
-    requires { 6 * n ≤ length rows.now }
-    ensures { result ≡ length (group number_keys (rows_from rows.now 0 n)) }
+// How many partners rows have. By the runs that the writing cuts rows by: `chunk_by(..).count()` would tell partners apart a second time, and the runs stay.
+pub fn count_partners(rows: &[FileRow]) -> usize
+    ensures { result ≡ length (group number_keys (map row_in rows.now)) }
 {
     let mut count = 0;
-    let mut at = 0;
-    let mut left = n;
-    while 0 < left {
-        let run = partner_run(rows, at, left);
+    let mut rest = rows;
+    while !rest.is_empty() {
+        let (_, behind) = rest.split_at(partner_run(rest));
+        rest = behind;
         count += 1;
-        at += 6 * run;
-        left -= run;
     }
     count
 }
 
-// How many series n rows of one partner have.
-pub fn count_series(rows: &[u64], at: usize, n: usize) -> usize
-    requires { at + 6 * n ≤ length rows.now }
-    ensures { result ≡ length (group directions_keys (map (λ x. x.1) (rows_from rows.now at n))) }
+// How many series rows of one partner have; by those runs too.
+pub fn count_series(rows: &[FileRow]) -> usize
+    ensures { result ≡ length (group directions_keys (map (λ x. x.1) (map row_in rows.now))) }
 {
     let mut count = 0;
-    let mut next = at;
-    let mut left = n;
-    while 0 < left {
-        let run = directions_run(rows, next, left);
+    let mut rest = rows;
+    while !rest.is_empty() {
+        let (_, behind) = rest.split_at(directions_run(rest));
+        rest = behind;
         count += 1;
-        next += 6 * run;
-        left -= run;
     }
     count
 }

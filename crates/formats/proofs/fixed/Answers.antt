@@ -2,12 +2,8 @@
 use Rattle.formats.proofs.PlaceLaws.{fixed-there, fixed-none}
 use Rattle.formats.proofs.fixed.Goals as goal
 
-pub returns-in_default-fixed_at : goal.returns-in_default-fixed_at
-returns-in_default-fixed_at c =
-    let a = c.args in
-    rw c.in-At.is (fixed-none a.s.now c.in-At.p a.n (rw c.in-At.is at c.requires.0) c.in_default-fixed_at.ensures)
+pub returns-in_err-value : goal.returns-in_err-value
+returns-in_err-value c = rw c.from_residual.ensures (fixed-none c.args.s.now c.args.at c.args.n c.requires.0 c.in_err-value.ensures)
 
 pub returns : goal.returns
-returns c =
-    let a = c.args in
-    rw c.in-At.is (fixed-there a.s.now c.in-At.p a.n (rw c.in-At.is at c.requires.0) c.in-Value.v c.in-Value.ensures)
+returns c = fixed-there c.args.s.now c.args.at c.args.n c.requires.0 c.in_ok-value.value c.in_ok-value.ensures

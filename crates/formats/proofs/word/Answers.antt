@@ -1,14 +1,12 @@
 -- The second word is looked for where the first is not.
-use Rattle.formats.proofs.PlaceLaws.{word_first, word-second}
+use Rattle.formats.proofs.PlaceLaws.{word_first, word-second, word-none}
 use Rattle.formats.proofs.word.Goals as goal
 
-pub returns-in-At : goal.returns-in-At
-returns-in-At c =
-    let a = c.args in
-    let t = c.in-At in
-    rw t.is (word_first a.v.now a.w.now a.s.now a.m t.field-0 (rw t.is at c.tag-a.ensures))
+pub returns-in-Some : goal.returns-in-Some
+returns-in-Some c = (word_first _ _ _ c.in-Some.ensures.0, c.in-Some.ensures.1)
+
+pub returns-in_err-next : goal.returns-in_err-next
+returns-in_err-next c = rw c.from_residual.ensures (word-none _ _ _ c.in_default.ensures c.in_err-next.ensures)
 
 pub returns : goal.returns
-returns c =
-    let a = c.args in
-    word-second a.v.now a.w.now a.s.now a.m c.tag-b.result (rw c.in_default.is at c.tag-a.ensures) c.tag-b.ensures
+returns c = (word-second _ _ _ c.in_default.ensures c.in_ok-next.ensures.0, c.in_ok-next.ensures.1)

@@ -1,29 +1,19 @@
--- What the reading said judges the file.
-use borrow.Author.Tests.{not-true, not-false}
-use Rattle.reader.specs.FactsLaws.{read-lost, read_left, read_short, read-file}
-use borrow.Author.Rules.{rules}
+-- By what the file says, and how many numbers its rows take.
+use Rattle.std.specs.Prelude.{Ok}
+use Rattle.std.proofs.Common.{ap, ◌∙◌, arith}
+use Rattle.message.proofs.CallsLaws.{says-no-file, says-short, says-file}
+use Rattle.reader.proofs.FactsLaws.{told-none, told-some}
 use Rattle.reader.proofs.judge.Goals as goal
 
-pub returns-then-not-to : goal.returns-then-not-to
-returns-then-not-to c =
-    let a = c.args in
-    let r = c.file_read-j in
-    read-lost a.file.now a.lent r.result r.ensures.0 (not-true _ c.if-not-to.true)
+pub returns-in_default : goal.returns-in_default
+returns-in_default c = says-no-file c.args.file.now c.args.lent (told-none _ c.in_default.ensures.facts)
 
-pub returns-then-to-file : goal.returns-then-to-file
-returns-then-to-file c =
-    let a = c.args in
-    let r = c.file_read-j in
-    read_left a.file.now a.lent r.result r.ensures.0 (search rules)
-
-pub returns-then-lent-count : goal.returns-then-lent-count
-returns-then-lent-count c =
-    let a = c.args in
-    let r = c.file_read-j in
-    read_short a.file.now a.lent r.result r.ensures.0 (not-false _ c.if-not-to.false) (search rules) (search rules)
+pub returns-then-lent-said : goal.returns-then-lent-said
+returns-then-lent-said c =
+    let g = told-some c.args.file.now c.in-Some.said c.in-Some.ensures.facts in
+    says-short c.args.file.now c.args.lent g.message g.rest g.read (omega (arith, g.many))
 
 pub returns : goal.returns
 returns c =
-    let a = c.args in
-    let r = c.file_read-j in
-    rw c.facts-said.ensures (read-file a.file.now a.lent r.result r.ensures.0 (not-false _ c.if-not-to.false) (search rules) (search rules))
+    let g = told-some c.args.file.now c.in-Some.said c.in-Some.ensures.facts in
+    ap Ok g.facts ∙ says-file c.args.file.now c.args.lent g.message g.rest g.read (omega (arith, g.many))

@@ -1,30 +1,96 @@
--- Where the line ends says where its words stand.
-use Rattle.requests.proofs.LineLaws.{line-ended, line-there, no_line}
-use native.Mathlib.Omega.{arith}
+-- The parts one after the other: one that isn't there ends the line, and the places behind them are those of the words.
+use Rattle.std.specs.Prelude.{◌≡◌, List, [], ◌∷◌, ℕ, ◌+◌, ◌≤◌, length, drop}
+use Rattle.std.proofs.Common.{refl, ◌∙◌, arith, length-append}
+use Rattle.text.specs.Ascii.{bytes}
+use Rattle.text.proofs.DecimalLaws.{length-fixed}
+use Rattle.formats.specs.Exactly.{exactly, fixed_digits}
+use Rattle.formats.specs.Format.{got}
+use Rattle.formats.specs.FormatLaws.{sound-of}
+use Rattle.formats.specs.Name.{name_byte, name_parse, name}
+use Rattle.formats.proofs.PlaceLaws.{moved, tag-moved}
+use Rattle.message.specs.Valid.{is_moment}
+use Rattle.requests.proofs.LineLaws.{no-kind, other-kind, no-space, no-receiver, no-second-space, no-id, no-moment, no-end, line-is, request-none, request-some, kind-off, kind-on}
 use Rattle.requests.proofs.read_request.Goals as goal
 
-pub returns-in_default : goal.returns-in_default
-returns-in_default c =
-    let a = c.args in
-    let l = c.line-l in
-    no_line a.input.now l.result.kind l.result.receiver (rw c.in_default.is at l.ensures)
+pub returns-in_err-kind : goal.returns-in_err-kind
+returns-in_err-kind c =
+    let s = c.args.input.now in
+    c.from_residual.ensures ∙ request-none s (no-kind s c.in_err-kind.ensures)
 
-pub overflow_cast-result : goal.overflow_cast-result
-overflow_cast-result c =
-    let found = rw c.in-At.is at c.line-l.ensures in
-    record { fits = omega (arith, (line-ended c.args.input.now c.in-At.book c.line-l.result.kind c.line-l.result.receiver found).kind) }
+pub returns-in_err-ok : goal.returns-in_err-ok
+returns-in_err-ok c =
+    let s = c.args.input.now in
+    c.from_residual-in_err-ok.ensures ∙ request-none s (other-kind s c.in_ok-kind.ensures.0 (kind-off _ _ c.try_from.ensures c.in_err-ok.ensures.value))
+
+pub returns-in_err-at : goal.returns-in_err-at
+unfolding bytes
+returns-in_err-at c =
+    let s = c.args.input.now in
+    c.from_residual-in_err-at.ensures ∙ request-none s (no-space s c.in_ok-kind.ensures.0 (kind-on _ _ _ c.try_from.ensures c.in_ok-ok.ensures.value) c.in_err-at.ensures)
+
+pub returns-in_err-receiver : goal.returns-in_err-receiver
+unfolding bytes
+returns-in_err-receiver c =
+    let s = c.args.input.now in
+    c.from_residual-in_err-receiver.ensures ∙ request-none s (no-receiver s c.in_ok-kind.ensures.0 (kind-on _ _ _ c.try_from.ensures c.in_ok-ok.ensures.value) c.in_ok-at.ensures.0 c.in_err-receiver.ensures)
+
+pub returns-in_err-id : goal.returns-in_err-id
+unfolding bytes
+returns-in_err-id c =
+    let s = c.args.input.now in
+    c.from_residual-in_err-id.ensures ∙ request-none s (no-second-space s c.in_ok-kind.ensures.0 (kind-on _ _ _ c.try_from.ensures c.in_ok-ok.ensures.value) c.in_ok-at.ensures.0 c.in_ok-receiver.ensures.0 c.in_err-id.ensures)
+
+pub returns-in_err-moment : goal.returns-in_err-moment
+unfolding bytes
+returns-in_err-moment c =
+    let s = c.args.input.now in
+    c.from_residual-in_err-moment.ensures ∙ request-none s (no-id s c.in_ok-kind.ensures.0 (kind-on _ _ _ c.try_from.ensures c.in_ok-ok.ensures.value) c.in_ok-at.ensures.0 c.in_ok-receiver.ensures.0 c.in_ok-id.ensures.0 c.in_err-moment.ensures)
+
+pub returns-in_err-end : goal.returns-in_err-end
+unfolding bytes
+returns-in_err-end c =
+    let s = c.args.input.now in
+    c.from_residual-in_err-end.ensures ∙ request-none s (no-moment s c.in_ok-kind.ensures.0 (kind-on _ _ _ c.try_from.ensures c.in_ok-ok.ensures.value) c.in_ok-at.ensures.0 c.in_ok-receiver.ensures.0 c.in_ok-id.ensures.0 c.in_ok-moment.ensures.0 c.in_err-end.ensures)
+
+pub returns-in_err-book : goal.returns-in_err-book
+unfolding bytes
+returns-in_err-book c =
+    let s = c.args.input.now in
+    c.from_residual-in_err-book.ensures ∙ request-none s (no-end s c.in_ok-kind.ensures.0 (kind-on _ _ _ c.try_from.ensures c.in_ok-ok.ensures.value) c.in_ok-at.ensures.0 c.in_ok-receiver.ensures.0 c.in_ok-id.ensures.0 c.in_ok-moment.ensures.0 c.in_ok-end.ensures.0 c.in_err-book.ensures)
+
+-- the name is followed by a byte
+behind-name : (s : List ℕ) {p q : ℕ} {l : List ℕ} → p ≤ length s → q ≤ length s → name_parse name_byte 1 36 32 (drop p s) ≡ got l (drop q s) → q ≡ p + length l + 1
+behind-name s {p} {q} {l} h k e = omega (arith, moved (name name_byte 1 36 32 refl) s h k e, length-append l (32 ∷ []))
 
 pub overflow_sub-result : goal.overflow_sub-result
-overflow_sub-result c =
-    let found = rw c.in-At.is at c.line-l.ensures in
-    omega (arith, (line-ended c.args.input.now c.in-At.book c.line-l.result.kind c.line-l.result.receiver found).behind)
+overflow_sub-result c = omega (arith, behind-name c.args.input.now c.in_ok-id.ensures.1 c.in_ok-moment.ensures.1 c.in_ok-moment.ensures.0)
 
 pub overflow_sub-result-2 : goal.overflow_sub-result-2
-overflow_sub-result-2 c =
-    let found = rw c.in-At.is at c.line-l.ensures in
-    omega (arith, (line-ended c.args.input.now c.in-At.book c.line-l.result.kind c.line-l.result.receiver found).behind)
+overflow_sub-result-2 c = omega (arith, behind-name c.args.input.now c.in_ok-id.ensures.1 c.in_ok-moment.ensures.1 c.in_ok-moment.ensures.0)
 
 pub returns : goal.returns
+unfolding bytes
 returns c =
-    let l = c.line-l in
-    line-there c.args.input.now c.in-At.book l.result.kind l.result.receiver (rw c.in-At.is at l.ensures)
+    let s = c.args.input.now in
+    let k = c.in_ok-kind.ensures in
+    let a = c.in_ok-at.ensures in
+    let r = c.in_ok-receiver.ensures in
+    let i = c.in_ok-id.ensures in
+    let m = c.in_ok-moment.ensures in
+    let e = c.in_ok-end.ensures in
+    let b = c.in_ok-book.ensures in
+    let id : c.in_ok-id.id ≡ 14 =
+    omega (
+      arith,
+      moved (fixed_digits 2) s {p = 0} (omega arith) k.1 k.0,
+      length-fixed 2 c.in_ok-kind.kind.value,
+      tag-moved (32 ∷ []) s k.1 a.1 a.0,
+      moved (fixed_digits 10) s a.1 r.1 r.0,
+      length-fixed 10 c.in_ok-receiver.receiver.value,
+      tag-moved (32 ∷ []) s r.1 i.1 i.0,
+    ) in
+    let moment = behind-name s i.1 m.1 m.0 in
+    let long = (sound-of (exactly 29 is_moment) (drop c.in_ok-moment.moment s) _ _ e.0).1.0 in
+    let end = moved (exactly 29 is_moment) s m.1 e.1 e.0 in
+    let book = tag-moved (10 ∷ []) s e.1 b.1 b.0 in
+    request-some s _ _ _ _ _ (line-is s k.0 (kind-on _ _ _ c.try_from.ensures c.in_ok-ok.ensures.value) a.0 r.0 i.0 m.0 e.0 b.0) id (omega (arith, id, moment)) (omega (arith, id, moment, long, end, book))

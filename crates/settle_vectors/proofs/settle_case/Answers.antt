@@ -1,12 +1,12 @@
 -- The rows that are answered stand in the part that was lent, and so in the whole.
 use Rattle.std.proofs.Common.{take, drop, length-append, arith}
-use Rattle.settle_vectors.specs.FitsLaws.{fits}
+use Rattle.settle_vectors.proofs.FitsLaws.{fits}
 use Rattle.settle_vectors.proofs.settle_case.Goals as goal
 
 pub answer-requires : goal.answer-requires
 answer-requires g c =
     let a = c.args in
     let call = c.settle-settled in
-    let prepared = c.prepare.new.rows in
+    let prepared = c.prepare.new.buffer in
     fits a.book.now (take a.n prepared) call.new.rows call.result _ call.ensures
     (omega (arith, call.auto.rows, length-append call.new.rows (drop a.n prepared)))

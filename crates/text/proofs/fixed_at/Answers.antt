@@ -1,88 +1,81 @@
--- The loop stands behind i digits that say acc: what is read at `at` is what the other n - i bytes say behind acc.
-use mathlib.Core.Path.{◌≡◌, sym, ap, ◌∙◌}
-use mathlib.Core.Bool.{true, false}
-use mathlib.Core.List.{List, ◌∷◌}
-use Prim.Native.Nat.{ℕ, suc, ◌+◌, ◌-◌, ◌*◌, ◌≤◌, ◌<◌}
-use lib.ListN.{length, drop, get_or, length-drop, drop_of_length-le}
-use lib.Seq.{length-take-le, drop-cons, get_or-take, get_or-drop}
-use native.Mathlib.Omega.{arith}
-use native.Mathlib.Numerals.{add-one}
-use borrow.Author.Rules.{rules}
-use borrow.Author.Tests.{le-leb, lt-leb, not-true, not-false}
-use Rattle.text.specs.declared.Number.TheVariants.{Value, NotDigits}
+-- The loop stands behind i digits that say a value: what all n bytes say is what the others say behind it.
+use Rattle.std.specs.Prelude.{◌≡◌, true, false, List, ℕ, ◌+◌, ◌-◌, ◌*◌, ◌≤◌, ◌<◌, length, take, drop, get_or, Some, None}
+use Rattle.std.proofs.Common.{refl, sym, ap, ◌∙◌, arith, rules, le-leb, drop_of_length-le, drop-cons, add-one}
+use Rattle.std.proofs.lemmas.Bool.{lt-leb}
 use Rattle.text.specs.Decimal.{digit, digits, value_from, fixed_at}
 use Rattle.text.proofs.DecimalLaws.{digit-is, above_zero, above-push, below-within}
-use Rattle.text.proofs.fixed_at.Invariants.{number_from, part}
+use Rattle.text.proofs.TagLaws.{to_end}
+use Rattle.text.proofs.fixed_at.Invariants.{number_from}
 use Rattle.text.proofs.fixed_at.Goals as goal
 
 module _ (s : List ℕ) (at n : ℕ) where
-  short : length s < at + n → fixed_at s at n ≡ NotDigits
+  short : length s < at + n → None ≡ fixed_at s at n
   unfolding fixed_at
   short h = rw (lt-leb (at + n) (length s) h)
 
-  begin : at + n ≤ length s → fixed_at s at n ≡ number_from 0 (part s at n)
+  begin : at + n ≤ length s → fixed_at s at n ≡ number_from 0 (take n (drop at s))
   unfolding fixed_at
   begin h = rw (le-leb (at + n) (length s) h)
 
-  cut : (i : ℕ) → i < n → at + n ≤ length s → drop i (part s at n) ≡ get_or s (at + i) 0 ∷ drop (i + 1) (part s at n)
-  cut i h k =
-      let l : length (part s at n) ≡ n = length-take-le n (drop at s) (omega (arith, length-drop at s)) in
-      drop-cons (part s at n) i 0 (omega arith)
-      ∙ ap (λ (x : ℕ). x ∷ drop (suc i) (part s at n)) (get_or-take n (drop at s) i 0 h ∙ get_or-drop at s i 0)
-      ∙ ap (λ (j : ℕ). get_or s (at + i) 0 ∷ drop j (part s at n)) (sym (add-one i))
+  -- the part of n bytes from the place on, cut twice
+  of_digits : {rest ds : List ℕ} → rest ≡ take (length s - at) (drop at s) → ds ≡ take (n - 0) (drop 0 rest) → at + n ≤ length s → fixed_at s at n ≡ number_from 0 ds
+  of_digits {rest} e f h = begin h ∙ ap (number_from 0) (sym (f ∙ ap (λ (k : ℕ). take k rest) (omega arith) ∙ ap (take n) (e ∙ to_end s at)))
 
+module _ (l : List ℕ) (i acc : ℕ) where
   -- a digit is passed, another byte ends it
-  step : (i acc : ℕ) → i < n → at + n ≤ length s → digit (get_or s (at + i) 0) ≡ true
-      → number_from acc (drop i (part s at n)) ≡ number_from (acc * 10 + (get_or s (at + i) 0 - 48)) (drop (i + 1) (part s at n))
+  step : i < length l → digit (get_or l i 0) ≡ true → number_from acc (drop i l) ≡ number_from (acc * 10 + (get_or l i 0 - 48)) (drop (i + 1) l)
   unfolding digits value_from
-  step i acc h k e = ap (number_from acc) (cut i h k) ∙ rw e
+  step h e = rw (add-one, drop-cons l i 0 h, e)
 
-  stop : (i acc : ℕ) → i < n → at + n ≤ length s → digit (get_or s (at + i) 0) ≡ false → number_from acc (drop i (part s at n)) ≡ NotDigits
+  stop : i < length l → digit (get_or l i 0) ≡ false → number_from acc (drop i l) ≡ None
   unfolding digits value_from
-  stop i acc h k e = ap (number_from acc) (cut i h k) ∙ rw e
+  stop h e = rw (drop-cons l i 0 h, e)
 
-  end : (i acc : ℕ) → n ≤ i → at + n ≤ length s → number_from acc (drop i (part s at n)) ≡ Value acc
+  end : length l ≤ i → number_from acc (drop i l) ≡ Some acc
   unfolding digits value_from
-  end i acc h k =
-      let l : length (part s at n) ≡ n = length-take-le n (drop at s) (omega (arith, length-drop at s)) in
-      ap (number_from acc) (drop_of_length-le (part s at n) {i = i} (omega arith))
+  end h = rw (drop_of_length-le l {i = i} h)
 
-pub returns-then-s-n : goal.returns-then-s-n
-returns-then-s-n c = sym (short c.args.s.now c.args.at c.args.n (omega arith))
+pub returns-in_err-get : goal.returns-in_err-get
+returns-in_err-get c = c.from_residual.ensures ∙ short c.args.s.now c.args.at c.args.n (omega (arith, c.in_err-get.ensures.lookup))
 
-pub returns-then-s-n-2 : goal.returns-then-s-n-2
-returns-then-s-n-2 c = sym (short c.args.s.now c.args.at c.args.n (omega arith))
+pub returns-in_err-digits : goal.returns-in_err-digits
+returns-in_err-digits c =
+    let r = c.in_ok-get.ensures.lookup.0 in
+    c.from_residual-in_err-digits.ensures ∙ short c.args.s.now c.args.at c.args.n (omega (arith, r.3, c.in_err-digits.ensures.lookup))
 
-pub loop-i-init : goal.loop-i-init
-loop-i-init c = (search rules, above_zero 0, begin c.args.s.now c.args.at c.args.n (omega arith))
+pub loop-x-init : goal.loop-x-init
+loop-x-init c = (above_zero 0, refl)
 
-pub returns-then-not-is_digit : goal.returns-then-not-is_digit
-returns-then-not-is_digit c = sym (c.loop-i.invariant.2 ∙ stop c.args.s.now c.args.at c.args.n c.loop-i.i c.loop-i.acc (search rules) (omega arith) (sym c.is_digit.ensures ∙ c.if-not-is_digit.true))
+pub returns-then-not-is_ascii_digit : goal.returns-then-not-is_ascii_digit
+returns-then-not-is_ascii_digit c =
+    let l = c.loop-x in
+    let r = c.in_ok-get.ensures.lookup.0 in
+    let d = c.in_ok-digits.ensures.lookup.0 in
+    sym (of_digits c.args.s.now c.args.at c.args.n r.2 d.2 (omega (arith, r.3, d.1)) ∙ l.invariant.1
+    ∙ stop c.in_ok-digits.digits.now l.x-index l.value (search rules) (sym c.is_ascii_digit.ensures.value ∙ c.if-not-is_ascii_digit.true))
 
-pub overflow_mul-acc : goal.overflow_mul-acc
-overflow_mul-acc c =
-    let l = c.loop-i in
-    omega (arith, below-within 17 l.i l.acc (search rules) l.invariant.1)
+pub overflow_mul-value : goal.overflow_mul-value
+overflow_mul-value c =
+    let l = c.loop-x in
+    omega (arith, below-within 17 l.x-index l.value (omega (arith, c.in_ok-digits.ensures.lookup.0.3)) l.invariant.0)
 
-pub overflow_sub-acc : goal.overflow_sub-acc
-overflow_sub-acc c = (digit-is (get_or c.args.s.now (c.args.at + c.loop-i.i) 0) (sym c.is_digit.ensures ∙ c.if-not-is_digit.false)).lo
+pub overflow_add-value : goal.overflow_add-value
+overflow_add-value c =
+    let l = c.loop-x in
+    omega (arith, c.from.ensures, below-within 17 l.x-index l.value (omega (arith, c.in_ok-digits.ensures.lookup.0.3)) l.invariant.0)
 
-pub overflow_cast-acc : goal.overflow_cast-acc
-overflow_cast-acc c = omega (arith, digit-is (get_or c.args.s.now (c.args.at + c.loop-i.i) 0) (sym c.is_digit.ensures ∙ c.if-not-is_digit.false))
-
-pub overflow_add-acc : goal.overflow_add-acc
-overflow_add-acc c =
-    let l = c.loop-i in
-    let d = digit-is (get_or c.args.s.now (c.args.at + c.loop-i.i) 0) (sym c.is_digit.ensures ∙ c.if-not-is_digit.false) in
-    omega (arith, below-within 17 l.i l.acc (search rules) l.invariant.1)
-
-pub loop-i-preserved : goal.loop-i-preserved
-loop-i-preserved c =
-    let byte = get_or c.args.s.now (c.args.at + c.loop-i.i) 0 in
-    let is : digit byte ≡ true = sym c.is_digit.ensures ∙ c.if-not-is_digit.false in
+pub loop-x-preserved : goal.loop-x-preserved
+loop-x-preserved c =
+    let l = c.loop-x in
+    let ds = c.in_ok-digits.digits.now in
+    let byte = get_or ds l.x-index 0 in
+    let is : digit byte ≡ true = sym c.is_ascii_digit.ensures.value ∙ c.if-not-is_ascii_digit.false in
     let d = digit-is byte is in
-    (search rules, above-push c.loop-i.i c.loop-i.acc (byte - 48) (omega arith) ∙ c.loop-i.invariant.1, c.loop-i.invariant.2 ∙ step c.args.s.now c.args.at c.args.n c.loop-i.i c.loop-i.acc (search rules) (omega arith) is)
+    rw c.from.ensures (above-push l.x-index l.value (byte - 48) (omega arith) ∙ l.invariant.0, l.invariant.1 ∙ step ds l.x-index l.value (search rules) is)
 
 pub returns : goal.returns
 returns c =
-    sym (c.loop-i.invariant.2 ∙ end c.args.s.now c.args.at c.args.n c.loop-i.i c.loop-i.acc c.loop-i-test.false (omega arith))
+    let l = c.loop-x in
+    let r = c.in_ok-get.ensures.lookup.0 in
+    let d = c.in_ok-digits.ensures.lookup.0 in
+    sym (of_digits c.args.s.now c.args.at c.args.n r.2 d.2 (omega (arith, r.3, d.1)) ∙ l.invariant.1 ∙ end c.in_ok-digits.digits.now l.x-index l.value (search rules))

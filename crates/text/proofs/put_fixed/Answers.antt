@@ -1,10 +1,9 @@
 -- The digits are written from the last: after n - k of them the list is the first with v's last n - k digits written at `at` + k.
-use mathlib.Core.Path.{◌≡◌, refl, sym}
+use mathlib.Core.Path.{◌≡◌, sym}
 use mathlib.Core.List.{List}
 use Prim.Native.Nat.{ℕ, suc, ◌+◌, ◌-◌, ◌/◌, ◌%◌, ◌≤◌, ◌<◌}
-use lib.ListN.{length, set, length-set}
+use lib.ListN.{length, set}
 use native.Mathlib.Omega.{arith}
-use borrow.Author.Rules.{rules}
 use Rattle.text.specs.Decimal.{above, fixed}
 use Rattle.text.proofs.DecimalLaws.{above_zero, above-suc, length-fixed}
 use Rattle.text.specs.WrittenInner.{written}
@@ -28,23 +27,20 @@ pub loop-k-init : goal.loop-k-init
 unfolding fixed
 loop-k-init c =
     let e : c.args.n - c.args.n ≡ 0 = omega arith in
-    (search rules, rw (e, above_zero), refl, rw e (sym (written-nil _ _)))
+    (rw (e, above_zero), rw e (sym (written-nil _ _)))
 
 pub loop-k-preserved : goal.loop-k-preserved
 loop-k-preserved c =
-    let l = c.before in
-    let a = l.args in (
-      search rules,
-      rw l.loop-k.invariant.1 (rest a.n l.loop-k.k a.v (search rules) (search rules)),
-      simp length-set (omega arith),
-      rw (l.loop-k.invariant.3, l.loop-k.invariant.1) (turn a.out.now a.at a.n l.loop-k.k a.v (search rules) (search rules) (search rules)),
+    let a = c.args in
+    let l = c.loop-k in (
+      rw l.invariant.0 (rest a.n l.k a.v c.loop-k-test.true l.auto.k),
+      rw (l.invariant.1, l.invariant.0) (turn a.out.now a.at a.n l.k a.v c.loop-k-test.true l.auto.k c.requires),
     )
 
 pub returns : goal.returns
 returns c =
-    let l = c.before in
-    let a = l.args in
-    let e : a.at + l.loop-k.k ≡ a.at = omega arith in
-    let f : a.n - l.loop-k.k ≡ a.n = omega arith in
+    let a = c.args in
+    let e : a.at + c.loop-k.k ≡ a.at = omega arith in
+    let f : a.n - c.loop-k.k ≡ a.n = omega arith in
     let g = length-fixed a.n a.v in
-    record { room = omega arith; behind = omega arith; list = rw (← f, ← e) l.loop-k.invariant.3 }
+    record { room = omega arith; behind = omega arith; list = rw (← f, ← e) c.loop-k.invariant.1 }

@@ -1,10 +1,7 @@
--- One pass: each place keeps the larger of what stands there and what is carried.
-use Prim.Native.Nat.{◌-◌, ◌≤◌}
-use Rattle.baseline.specs.RankingLaws.{Inserting}
+-- One pass: the keys passed are in their places, and what is carried is still to be put among those behind.
+use Rattle.std.proofs.Common.{◌≡◌, ◌++◌, take, drop}
+use Rattle.baseline.specs.RankingInner.{inserted}
 use Rattle.baseline.proofs.ranking.insert.Given as goal
 
-abbrev pub invariant-loop-i : goal.invariant-loop-i
-invariant-loop-i l = (l.i ≤ l.n) × Inserting l.initial.keys l.keys l.n l.key l.i l.carried
-
-abbrev pub decreases-loop-i : goal.decreases-loop-i
-decreases-loop-i l = l.n - l.i
+abbrev pub invariant-loop-k : goal.invariant-loop-k
+invariant-loop-k l = take l.k-index l.k-items ++ inserted l.carried (drop l.k-index l.k-items) ≡ inserted l.key l.initial.k-items

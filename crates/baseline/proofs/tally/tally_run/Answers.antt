@@ -1,19 +1,12 @@
--- The tally of the readings passed grows by one reading a turn.
-use Rattle.integers.specs.Ranges.{range}
-use Rattle.baseline.specs.TallyInner.{in_run}
-use Rattle.baseline.specs.TallyLaws.{run_more, there, tally-none, tally-more}
-use borrow.Author.Rules.{rules}
-use native.Mathlib.Omega.{arith}
+-- Of the readings passed it is known whether one is missing, and their sum.
+use Rattle.std.proofs.Common.{arith, ap, sym, ◌∙◌, Bool, not, ◌&&◌, nat_eq}
+use Rattle.baseline.proofs.CaseLaws.{sum-next, whole-next}
 use Rattle.baseline.proofs.tally.tally_run.Goals as goal
 
-pub loop-i-init : goal.loop-i-init
-unfolding range
-loop-i-init c = (search rules, tally-none)
-
 pub loop-i-preserved : goal.loop-i-preserved
-loop-i-preserved c = let s = c.args in
+loop-i-preserved c =
+    let readings = c.args.readings.now in
     let r = c.raised_at-raised in (
-      search rules,
-      rw (run_more s.readings.now s.at c.loop-i.i)
-          (tally-more (in_run s.readings.now s.at c.loop-i.i) c.loop-i.i (record { whole = c.loop-i.whole; sum = c.loop-i.sum }) _ r.result c.loop-i.invariant.1 (there _ r.result r.ensures.range r.ensures.is) (omega arith)),
+      ap (λ (whole : Bool). whole && not (nat_eq r.result 0)) c.loop-i.invariant.0 ∙ sym (whole-next readings c.args.at c.loop-i.i r.result r.ensures),
+      sum-next readings c.args.at c.loop-i.i c.loop-i.sum r.result c.loop-i.invariant.1 r.ensures (omega arith),
     )

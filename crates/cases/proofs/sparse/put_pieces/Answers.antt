@@ -1,13 +1,11 @@
--- The pieces up to `at` have been put; a piece ends behind its start.
-use Rattle.std.proofs.Common.{rules, refl, ◌∙◌}
-use Rattle.cases.specs.SparseLaws.{piece-within}
+-- What the words that are left put in behind what is put, all words put in.
+use Rattle.std.proofs.Common.{rules, refl}
+use Rattle.std.proofs.lemmas.List.{nil_from_length}
 use Rattle.cases.specs.SparseInner.{none, more}
 use Rattle.cases.proofs.sparse.put_pieces.Goals as goal
 
-pub loop-at-init : goal.loop-at-init
-loop-at-init c = (search rules, refl, none)
+pub loop-words-preserved : goal.loop-words-preserved
+loop-words-preserved c = λ after rest. c.loop-words.invariant after (more c.in_ok-put_piece.ensures.piece (rw (← c.in_ok-put_piece.ensures.behind refl) rest))
 
-pub loop-at-preserved : goal.loop-at-preserved
-loop-at-preserved c =
-    let l = c.loop-at in
-    (piece-within c.in-Next.ensures, c.put_piece-step.auto.out ∙ l.invariant.1, more l.invariant.2 c.in-Next.ensures)
+pub returns : goal.returns
+returns c = c.loop-words.invariant c.loop-words.out (rw (nil_from_length c.loop-words.words.rest.now (search rules)) none)

@@ -1,12 +1,10 @@
--- The pieces up to `at` have been put; a piece ends behind its start.
-use mathlib.Core.Path.{◌≡◌}
-use Prim.Native.Nat.{◌-◌, ◌≤◌}
-use lib.ListN.{length}
+-- What the words that are left put in behind what is put, all words put in.
+use Rattle.std.proofs.Common.{List, ℕ, length}
 use Rattle.cases.specs.SparseInner.{Pieces}
 use Rattle.cases.proofs.sparse.put_pieces.Given as goal
 
-abbrev pub invariant-loop-at : goal.invariant-loop-at
-invariant-loop-at l = (l.at ≤ length l.line) × (length l.out ≡ length l.initial.out) × Pieces l.line l.from l.initial.out l.at l.out
+abbrev pub invariant-loop-words : goal.invariant-loop-words
+invariant-loop-words l = (after : List ℕ) → Pieces l.words.rest.now l.out after → Pieces l.initial.words.rest.now l.initial.out after
 
-abbrev pub decreases-loop-at : goal.decreases-loop-at
-decreases-loop-at l = length l.line - l.at
+abbrev pub decreases-loop-words : goal.decreases-loop-words
+decreases-loop-words l = length l.words.rest.now

@@ -1,17 +1,10 @@
--- Each kind has its own tags.
-use Rattle.text.specs.Ascii.{bytes}
-use Rattle.message.specs.Bytes.{ending, closing, group}
+-- The tag that ends it.
+use Rattle.message.specs.Bytes.{group}
 use Rattle.emitter.specs.PartsInner.{partner_end}
+use Rattle.emitter.proofs.Laying.{laid_as}
+use Rattle.emitter.proofs.PartsLaws.{closed}
 use Rattle.emitter.proofs.parts.emit_partner_end.Goals as goal
 
-pub returns-in-Toe01 : goal.returns-in-Toe01
-unfolding partner_end closing ending group bytes
-returns-in-Toe01 c = rw c.in-Toe01.is c.lay.ensures
-
-pub returns-in-Toe02 : goal.returns-in-Toe02
-unfolding partner_end closing ending group bytes
-returns-in-Toe02 c = rw c.in-Toe02.is c.lay-in-Toe02.ensures
-
-pub returns-in-Toe03 : goal.returns-in-Toe03
-unfolding partner_end closing ending group bytes
-returns-in-Toe03 c = rw c.in-Toe03.is c.lay-in-Toe03.ensures
+pub returns : goal.returns
+unfolding partner_end
+returns g c = laid_as g.met.S.Sink.laws (closed (group c.args.kind) c.group.ensures) c.close.ensures

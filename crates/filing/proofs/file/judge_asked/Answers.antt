@@ -1,17 +1,16 @@
 -- The tests in their order, each as the definition has it.
-use mathlib.Core.Path.{◌≡◌, sym, ◌∙◌}
+use Rattle.std.proofs.Common.{◌≡◌, sym, ◌∙◌}
 use Rattle.book.specs.Book.{book_of}
 use Rattle.volumes.proofs.SettlementLaws.{passing}
 use Rattle.reports.specs.Roles.{receivers}
 use Rattle.reports.specs.Calls.{stands}
 use Rattle.partners.specs.PartnersLaws.{role-in}
 use Rattle.filing.specs.FileCallLaws.{asked-other, asked-malformed, asked-short, asked-well}
-use borrow.Author.Rules.{rules}
 use Rattle.filing.proofs.file.judge_asked.Goals.{After-in_role}
 use Rattle.filing.proofs.file.judge_asked.Goals as goal
 
 pub section-requires : goal.section-requires
-section-requires c = ((passing _ c.requires).passed, search rules)
+section-requires c = (passing _ c.requires).passed
 
 -- the receiver's role, by the book
 role : (c : After-in_role) → let a = c.args in c.in_role.result ≡ stands a.role.receiver (receivers (book_of a.book.now) a.role.kind)

@@ -1,73 +1,55 @@
--- What is laid, and the partners from `low` on, make all, and so do their counts; `next` is the first of these.
-use mathlib.Core.Path.{ap, ◌∙◌}
-use Prim.Native.Nat.{◌+◌, ◌≤◌}
-use native.Mathlib.Nat.{zero-add}
-use lib.ListN.{length}
+-- What is laid, and the partners from a number on, make all, and so do their counts; `next` is the first of these.
+use Rattle.std.proofs.Common.{◌≡◌, ◌≤◌, ◌+◌, refl, ap, sym, subst, rules, arith, ℕ, Some, None}
+use Rattle.std.proofs.lemmas.Grind.{common_steps}
+use mathlib.Core.List.{flat_map}
 use Rattle.book.specs.Book.{book_of}
-use Rattle.volumes.proofs.SettlementLaws.{passing}
-use Rattle.emitter.specs.LaidLaws.{laid-stands, laying-none, laying-then, laying-all}
-use Rattle.reports.proofs.RegisteredLaws.{registered}
-use Rattle.partners.specs.PartnersInner.{partner_column, Next}
-use Rattle.partners.specs.PartnersLaws.{partners-all, partners-end}
+use Rattle.message.specs.Bytes.{partner_bytes}
+use Rattle.reports.specs.FileRows.{partners_of}
 use Rattle.reports.proofs.FormLaws.{partners-few}
-use Rattle.filing.specs.LayingLaws.{next-in, partners-bytes, partners-end-bytes, partners-count}
 use Rattle.partners.specs.PartnerRowsLaws.{next_known}
-use borrow.Author.Rules.{rules}
-use native.Mathlib.Omega.{arith}
-use Rattle.filing.proofs.laying.emit_partners.Goals.{After-next_partner-next-in-loop-next}
+use Rattle.filing.specs.LayingInner.{given}
+use Rattle.filing.proofs.PartnersLaws.{own, next-of, reached-none, reached-then, reached-stops, reached-all}
 use Rattle.filing.proofs.laying.emit_partners.Goals as goal
 
-pub section-register-requires : goal.section-register-requires
-section-register-requires c = ((passing _ c.requires.0.accepted).passed, search rules)
-
 pub loop-next-init : goal.loop-next-init
-loop-next-init c =
+loop-next-init g c =
     let a = c.args in
-    let cut = c.section-register in (
-      next-in a.book.now cut.result.now a.role.kind a.role.receiver 0 _ (passing _ c.requires.0.accepted).passed cut.ensures c.next_partner-next.ensures,
-      rw (partners-all (book_of a.book.now) a.role.kind a.role.receiver) (laying-none a.live a.out.now a.start _ c.requires.2),
-      zero-add _ ∙ ap length (partners-all (book_of a.book.now) a.role.kind a.role.receiver),
-      search rules,
-    )
+    record { reached = reached-none g.met.S.Sink.laws (book_of a.delivered.now.book.now) a.role.kind a.role.receiver a.sink.now _ (next-of a.delivered.now a.role.kind a.role.receiver 0 _ c.next_partner-next.ensures); rows = refl }
 
-pub emit_partner-t-requires : goal.emit_partner-t-requires
-emit_partner-t-requires c =
+pub emit_partner-requires : goal.emit_partner-requires
+emit_partner-requires g c =
     let a = c.args in
-    (c.requires.0, omega (arith, c.requires.1, c.loop-next.invariant.3), next_known (book_of a.book.now) a.role.kind a.role.receiver _ _ c.loop-next.invariant.0 c.loop-next-test.true, laid-stands c.loop-next.invariant.1.laid)
+    let v = c.loop-next.invariant.reached in
+    (omega (arith, c.loop-next.invariant.rows, c.requires), next_known (book_of a.delivered.now.book.now) a.role.kind a.role.receiver v.low c.loop-next.next v.following c.loop-next-test.true)
+
+pub returns-in_err-count-clause-laid : goal.returns-in_err-count-clause-laid
+returns-in_err-count-clause-laid g c =
+    let a = c.args in
+    reached-stops g.met.S.Sink.laws (book_of a.delivered.now.book.now) a.role.kind a.role.receiver c.loop-next.invariant.reached c.loop-next-test.true c.in_err-count.ensures.laid (ap given c.from_residual.ensures)
 
 pub overflow_add-count : goal.overflow_add-count
-overflow_add-count c =
+overflow_add-count g c =
     let a = c.args in
-    let most = partners-few (book_of a.book.now) a.role.kind a.role.receiver (registered a.book.now (passing _ c.requires.0.accepted).passed) in
-    let few = c.emit_partner-t.ensures.2 in
-    let all = c.loop-next.invariant.2 in
-    let fits : c.loop-next.count ≤ 256 = omega (arith, most, all) in
+    let few = partners-few (book_of a.delivered.now.book.now) a.role.kind a.role.receiver (own a.delivered.now) in
+    let fits : c.loop-next.count + c.in_ok-count.field-0 ≤ 257 = omega (arith, few, c.loop-next.invariant.reached.counted, c.in_ok-count.ensures.count.1) in
     search rules
 
--- the partner that follows
-later : (c : After-next_partner-next-in-loop-next) → let a = c.args in Next (c.loop-next.next + 1) (partner_column (book_of a.book.now).points a.role.kind a.role.receiver) c.next_partner-next-in-loop-next.result
-later c =
-    let a = c.args in
-    let cut = c.section-register in
-    next-in a.book.now cut.result.now a.role.kind a.role.receiver _ _ (passing _ c.requires.0.accepted).passed cut.ensures c.next_partner-next-in-loop-next.ensures
-
 pub loop-next-preserved : goal.loop-next-preserved
-loop-next-preserved c =
+loop-next-preserved g c =
     let a = c.args in
-    let book = book_of a.book.now in
-    let taken = c.loop-next-test.true in
-    let laid = c.emit_partner-t.ensures in (
-      later (goal.at.loop-next-preserved c).After-next_partner-next-in-loop-next,
-      laying-then _ c.loop-next.invariant.1 laid.0 (partners-bytes book a.role.kind a.role.receiver _ _ c.loop-next.invariant.0 taken),
-      omega (arith, c.loop-next.invariant.2, laid.1, partners-count book a.role.kind a.role.receiver _ _ c.loop-next.invariant.0 taken),
-      search rules,
-    )
+    record {
+      reached =
+          reached-then g.met.S.Sink.laws (book_of a.delivered.now.book.now) a.role.kind a.role.receiver c.in_ok-count.field-0 _ c.loop-next.invariant.reached c.loop-next-test.true c.in_ok-count.ensures.laid c.in_ok-count.ensures.count.0
+          (next-of a.delivered.now a.role.kind a.role.receiver (c.loop-next.next + 1) _ c.next_partner-next-in-loop-next.ensures);
+      rows = search rules;
+    }
 
-pub returns : goal.returns
-returns c =
+pub returns-clause-laid : goal.returns-clause-laid
+returns-clause-laid g c =
     let a = c.args in
-    let book = book_of a.book.now in
-    let own = registered a.book.now (passing _ c.requires.0.accepted).passed in (
-      laying-all c.loop-next.invariant.1 (partners-end-bytes book a.role.kind a.role.receiver own _ _ c.loop-next.invariant.0 c.loop-next-test.false),
-      omega (arith, c.loop-next.invariant.2, ap length (partners-end book a.role.kind a.role.receiver own _ _ c.loop-next.invariant.0 c.loop-next-test.false)),
-    )
+    (reached-all g.met.S.Sink.laws (book_of a.delivered.now.book.now) a.role.kind a.role.receiver (own a.delivered.now) c.loop-next.invariant.reached c.loop-next-test.false).0
+
+pub returns-clause-count : goal.returns-clause-count
+returns-clause-count g c =
+    let a = c.args in
+    (reached-all g.met.S.Sink.laws (book_of a.delivered.now.book.now) a.role.kind a.role.receiver (own a.delivered.now) c.loop-next.invariant.reached c.loop-next-test.false).1

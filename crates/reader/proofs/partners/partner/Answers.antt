@@ -1,12 +1,17 @@
--- A partner is its head, its series and its end.
-use Rattle.std.proofs.Common.{rules}
-use Rattle.reader.specs.PartnerTurnsLaws.{partner-done}
+-- By the kind.
+use Rattle.text.specs.Ascii.{bytes}
+use Rattle.message.specs.Bytes.{group, partner, digits, opening, ending, closing}
+use Rattle.message.specs.Reading.{partner_parse, own_partner_parse}
+use Rattle.reader.specs.PartnersInner.{company_parse}
 use Rattle.reader.proofs.partners.partner.Goals as goal
 
-pub returns : goal.returns
-returns c =
-    let a = c.args in
-    let h = c.past_head-todo in
-    let l = c.series_list-series in
-    let e = c.past_end in
-    partner-done a.s.now a.t a.c.now a.out.now h.new.c h.result h.ensures l.new.c l.result l.new.out l.ensures e.new.c e.result e.ensures (search rules)
+pub returns-in-Toe01 : goal.returns-in-Toe01
+unfolding partner_parse own_partner_parse company_parse group partner digits opening ending closing bytes
+returns-in-Toe01 c = rw c.in-Toe01.is c.company.ensures
+
+pub returns-in-Toe02 : goal.returns-in-Toe02
+unfolding partner_parse own_partner_parse company_parse group partner digits opening ending closing bytes
+returns-in-Toe02 c = rw c.in-Toe02.is c.company-in-Toe02.ensures
+
+pub returns-in-Toe03 : goal.returns-in-Toe03
+returns-in-Toe03 c = rw c.in-Toe03.is c.access.ensures

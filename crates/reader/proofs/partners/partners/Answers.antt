@@ -1,18 +1,23 @@
--- At first all is left; a partner's turn keeps what leads to the whole, and where none is left it is the whole.
-use Rattle.std.proofs.Common.{arith}
-use Rattle.reader.specs.PartnerTurnsLaws.{leads-last, leads-on}
+-- The loop's invariant, turn by turn.
+use Rattle.std.specs.Prelude.{ℕ, suc}
+use Rattle.std.proofs.Common.{ap, arith}
+use Rattle.formats.specs.Rising.{rising_parse}
+use Rattle.message.specs.Reading.{partners_parse}
+use Rattle.reader.specs.PartnersInner.{rows_of_partners}
+use Rattle.reader.proofs.PartnersLaws.{month-last}
+use Rattle.series_reader.proofs.TurnsLaws.{turned-first, turned-more, turned-none, turned-all}
 use Rattle.reader.proofs.partners.partners.Goals as goal
 
-pub loop-t-preserved : goal.loop-t-preserved
-loop-t-preserved c i =
-    let a = c.args in
-    let l = c.loop-t in
-    let x = c.partner-rest in
-    let z = l.invariant i in
-    leads-on a.s.now a.todo a.c.now a.out.now l.c l.t l.out z c.loop-t-test.true x.new.out x.auto.out x.new.c x.result (x.ensures.1 z.room)
+pub loop-i-init : goal.loop-i-init
+loop-i-init c = turned-first _ _ _ _
+
+pub returns-in_err-p : goal.returns-in_err-p
+unfolding partners_parse rising_parse rows_of_partners
+returns-in_err-p c = rw c.from_residual.ensures (turned-none c.loop-i.invariant (omega arith) c.in_err-p.ensures)
+
+pub loop-i-preserved : goal.loop-i-preserved
+loop-i-preserved c = turned-more c.loop-i.invariant _ (omega arith) (λ p e. ap (λ (k : ℕ × (ℕ × ℕ)). (suc k.0, k.1)) e) c.in_ok-p.ensures
 
 pub returns : goal.returns
-returns c =
-    let a = c.args in
-    let l = c.loop-t in
-    leads-last a.s.now a.todo a.c.now a.out.now l.c l.t l.out l.invariant (omega (arith, c.loop-t-test.false))
+unfolding partners_parse rising_parse rows_of_partners
+returns c = turned-all c.loop-i.invariant (omega arith) (λ l e. month-last _ l e)

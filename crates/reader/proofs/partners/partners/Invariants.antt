@@ -1,9 +1,11 @@
--- What is left, read from where the cursor stands, leads to the whole; fewer are left after each turn.
-use Rattle.reader.specs.PartnerTurnsLaws.{Starts, PartnersLead}
+-- What was read so far, and what is left.
+use Rattle.series_reader.specs.RowsInner.{rows_of_partner}
+use Rattle.series_reader.specs.ViewsInner.{low_of, month_seen}
+use Rattle.series_reader.specs.TurnsInner.{Turned}
+use Rattle.reader.specs.PartnersInner.{next_partner}
+use Rattle.reader.proofs.PartnersLaws.{on}
 use Rattle.reader.proofs.partners.partners.Given as goal
 
-abbrev pub invariant-loop-t : goal.invariant-loop-t
-invariant-loop-t l = Starts l.s l.fn.todo l.fn.c l.fn.out → PartnersLead l.s l.fn.todo l.fn.c l.fn.out l.c l.t l.out
-
-abbrev pub decreases-loop-t : goal.decreases-loop-t
-decreases-loop-t l = l.t.left
+abbrev pub invariant-loop-i : goal.invariant-loop-i
+invariant-loop-i l =
+    Turned (next_partner l.kind) on rows_of_partner l.count l._i (0, (0, 0)) (low_of l.behind, month_seen l.seen.month) l.initial.c l.c l.initial.rows l.rows

@@ -20,28 +20,28 @@ use Rattle.series.proofs.delivered.fill_engagement.Goals as goal
 
 pub settle_engagement_at-requires : goal.settle_engagement_at-requires
 settle_engagement_at-requires c =
-    (c.requires.0, c.requires.1, c.requires.2, c.requires.3, omega (arith, (engagement-placed c.requires.0 c.args.i c.requires.2).few), c.requires.5)
+    (c.requires.0, c.requires.1, omega (arith, (engagement-placed c.args.opened.now.opened c.args.i c.requires.0).few))
 
 pub store_volumes-requires : goal.store_volumes-requires
 store_volumes-requires c =
-    let count = ap (λ (e : Engagement). e.count) c.engagement_at-e.ensures in
+    let count = ap (λ (e : Engagement). e.count) c.engagement-n.ensures in
     let a = c.args in
-    let e = engagement_at a.engagements.now a.i in
-    let book = book_with a.book.now a.engagements.now in
+    let e = engagement_at a.opened.now.engagements.now a.i in
+    let book = book_with a.opened.now.book.now a.opened.now.engagements.now in
     let none = replicate (row_width * longest_day) (pos 0) in
     let long = length-replicate (row_width * longest_day) (pos 0) in
-    let room : row_width * e.count ≤ length none = omega (arith, (engagement-placed c.requires.0 a.i c.requires.2).few, long) in
-    (omega (arith, count, c.requires.4), omega (arith, count, room, c.settle_engagement_at.auto.out, long), λ k h. ap dn (volume-is book e none c.settle_engagement_at.new.out c.settle_engagement_at.ensures.1 room k (omega (arith, h, count))))
+    let room : row_width * e.count ≤ length none = omega (arith, (engagement-placed a.opened.now.opened a.i c.requires.0).few, long) in
+    (omega (arith, count, c.requires.2), omega (arith, count, room, c.settle_engagement_at.auto.out, long), λ k h. ap dn (volume-is book e none c.settle_engagement_at.new.out c.settle_engagement_at.ensures.1 room k (omega (arith, h, count))))
 
 pub returns : goal.returns
 returns c =
-    let count = ap (λ (e : Engagement). e.count) c.engagement_at-e.ensures in
+    let count = ap (λ (e : Engagement). e.count) c.engagement-n.ensures in
     let a = c.args in
-    let e = engagement_at a.engagements.now a.i in
-    let book = book_with a.book.now a.engagements.now in
+    let e = engagement_at a.opened.now.engagements.now a.i in
+    let book = book_with a.opened.now.book.now a.opened.now.engagements.now in
     let none = replicate (row_width * longest_day) (pos 0) in
     let long = length-replicate (row_width * longest_day) (pos 0) in
-    let room : row_width * e.count ≤ length none = omega (arith, (engagement-placed c.requires.0 a.i c.requires.2).few, long) in
+    let room : row_width * e.count ≤ length none = omega (arith, (engagement-placed a.opened.now.opened a.i c.requires.0).few, long) in
     let rows = c.settle_engagement_at.new.out in (
       ap (λ (n : ℕ). a.at + n) count,
       c.store_volumes.ensures

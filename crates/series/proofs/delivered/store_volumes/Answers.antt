@@ -12,9 +12,9 @@ use Rattle.series.proofs.delivered.store_volumes.Goals as goal
 
 pub loop-k-init : goal.loop-k-init
 unfolding range
-loop-k-init c = (search rules, refl)
+loop-k-init c = refl
 
 pub loop-k-preserved : goal.loop-k-preserved
 loop-k-preserved c =
     let a = c.args in
-    (search rules, ap (λ (m : List ℕ). set m (a.at + c.loop-k.k) c.volume_at.result) c.loop-k.invariant.1 ∙ set_next (λ j. up (volume_in a.rows.now j)) a.volumes.now a.at c.loop-k.k c.volume_at.result c.volume_at.ensures)
+    ap (λ (m : List ℕ). set m (a.at + c.loop-k.k) c.volume_at.result) c.loop-k.invariant ∙ set_next (λ j. up (volume_in a.rows.now j)) a.volumes.now a.at c.loop-k.k c.volume_at.result c.volume_at.ensures

@@ -1,7 +1,6 @@
 -- A turn stores the volume of row k behind those of the rows before it.
 use mathlib.Core.Path.{◌≡◌}
 use mathlib.Core.List.{map}
-use Prim.Native.Nat.{◌-◌, ◌≤◌}
 use lib.Seq.{sets}
 use Rattle.integers.specs.Ranges.{range}
 use Rattle.integers.proofs.ZLaws.{up}
@@ -9,7 +8,4 @@ use Rattle.series.specs.VolumesInner.{volume_in}
 use Rattle.series.proofs.delivered.store_volumes.Given as goal
 
 abbrev pub invariant-loop-k : goal.invariant-loop-k
-invariant-loop-k l = (l.k ≤ l.n) × (l.volumes ≡ sets l.initial.volumes l.at (map (λ j. up (volume_in l.rows j)) (range 0 l.k)))
-
-abbrev pub decreases-loop-k : goal.decreases-loop-k
-decreases-loop-k l = l.n - l.k
+invariant-loop-k l = (l.volumes ≡ sets l.initial.volumes l.at (map (λ j. up (volume_in l.rows j)) (range 0 l.k)))

@@ -1,9 +1,10 @@
--- What is left, read from where the cursor stands, leads to the whole; fewer are left after each turn.
-use Rattle.series_reader.specs.TurnsLaws.{ObservationsLead}
+-- What was read so far, and what is left.
+use Rattle.std.specs.Prelude.{suc, ℕ}
+use Rattle.message.specs.Contents.{Observation, position}
+use Rattle.series_reader.specs.RowsInner.{directions, rows_of_observation}
+use Rattle.series_reader.specs.ViewsInner.{next_observation}
+use Rattle.series_reader.specs.TurnsInner.{Turned}
 use Rattle.series_reader.proofs.elements.observations.Given as goal
 
-abbrev pub invariant-loop-t : goal.invariant-loop-t
-invariant-loop-t l = ObservationsLead l.s l.fn.w l.fn.c l.fn.out l.c l.t l.out
-
-abbrev pub decreases-loop-t : goal.decreases-loop-t
-decreases-loop-t l = l.t.left
+abbrev pub invariant-loop-i : goal.invariant-loop-i
+invariant-loop-i l = Turned {A = Observation} {S = ℕ × Unit {0}} (λ t. next_observation l.last t.0) (λ t a. (suc (position a), tt)) (rows_of_observation l.key.partner (directions l.key)) l.count l._i (1, tt) (suc l.behind, tt) l.initial.c l.c l.initial.rows l.rows

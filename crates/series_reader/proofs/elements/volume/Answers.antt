@@ -1,15 +1,18 @@
--- A time series, part by part: each call's reading starts where the one before it ended.
-use Rattle.std.proofs.Common.{rules}
+-- The parts of a series from its delivery direction on, one behind the other.
+use Rattle.std.proofs.Common.{refl, subst}
+use Rattle.std.specs.Prelude.{ℕ, Some}
+use Rattle.cursor.specs.ReadsInner.{Reads}
 use Rattle.text.specs.Ascii.{bytes}
-use Rattle.series_reader.specs.VolumesLaws.{volume-done}
+use Rattle.cursor.proofs.ReadsLaws.{reads-pre, reads-seq, reads-post}
+use Rattle.message.specs.Bytes.{opening, ending, closing}
+use Rattle.message.specs.Reading.{observations_parse, volume_parse, counted_parse, plain_parse, of_volume}
+use Rattle.series_reader.proofs.FillingLaws.{filled-got, got-filled}
 use Rattle.series_reader.proofs.elements.volume.Goals as goal
 
 pub returns : goal.returns
-unfolding bytes
+unfolding volume_parse counted_parse plain_parse of_volume opening ending closing bytes
 returns c =
-    let a = c.args in
-    let v = c.volume-v in
-    let p = c.month-p in
-    let m = c.past_month in
-    let o = c.observations in
-    rw c.past_tag.ensures (volume-done a.s.now a.x a.c.now a.out.now v.new.c v.result v.ensures p.new.c p.result p.ensures m.new.c m.ensures o.new.c o.new.out o.ensures (search rules))
+    let g = filled-got c.in_ok-observations.ensures in
+    let l = subst (λ (last : ℕ). Reads (observations_parse last c.in_ok-count.count) c.period.new.c c.observations.new.c (Some g.value)) c.last_position-last.ensures g.read in
+    got-filled (reads-pre _ c.in_ok-tag.ensures (reads-seq _ (reads-post _ c.in_ok-down.ensures c.in_ok-tag-2.ensures)
+    (reads-seq _ (reads-post _ c.in_ok-count.ensures c.in_ok-tag-3.ensures) (reads-seq _ c.in_ok-month.ensures (reads-post _ l c.in_ok-tag-4.ensures))))) refl g.rows g.lent

@@ -1,16 +1,12 @@
--- The tests one after the other.
-use borrow.Author.Tests.{eq-eqb, ne_eqb}
+-- A month that was seen is of a year from 1 on.
+use Rattle.std.proofs.Common.{rules, sym, ◌∙◌}
 use Rattle.message.specs.Months.{follows}
+use Rattle.series_reader.proofs.SeriesLaws.{follows-seen}
 use Rattle.series_reader.proofs.series.follows.Goals as goal
 
-pub returns-then-seen_year-eq0 : goal.returns-then-seen_year-eq0
-unfolding follows
-returns-then-seen_year-eq0 c = rw (eq-eqb c.args.seen_year 0 c.if-seen_year-eq0.true)
+pub returns-in-Some : goal.returns-in-Some
+returns-in-Some c = rw c.in-Some.is (c.eq.ensures ∙ sym (follows-seen c.in-Some.m c.args.month))
 
-pub returns-then-year-seen_year : goal.returns-then-year-seen_year
+pub returns-in-None : goal.returns-in-None
 unfolding follows
-returns-then-year-seen_year c = rw (ne_eqb c.args.seen_year 0 c.if-seen_year-eq0.false, ne_eqb c.args.year c.args.seen_year c.if-year-seen_year.true)
-
-pub returns : goal.returns
-unfolding follows
-returns c = rw (ne_eqb c.args.seen_year 0 c.if-seen_year-eq0.false, eq-eqb c.args.year c.args.seen_year c.if-year-seen_year.false)
+returns-in-None c = search rules

@@ -1,18 +1,27 @@
--- At first all is left; a series' turn keeps what leads to the whole, and where none is left it is the whole.
-use Rattle.std.proofs.Common.{ℕ, ◌≤◌, sym, subst, arith}
-use Rattle.series_reader.specs.SeriesTurnsLaws.{leads-last, leads-on}
+-- The loop's invariant, turn by turn.
+use Rattle.std.specs.Prelude.{ℕ, suc, ◌+◌, ◌*◌}
+use Rattle.std.proofs.Common.{sym, ap, ◌∙◌, arith}
+use Rattle.formats.specs.Rising.{rising_parse}
+use Rattle.message.specs.Reading.{series_list_parse}
+use Rattle.passages.specs.ViewsInner.{year_and_month}
+use Rattle.series_reader.specs.RowsInner.{rows_of_all}
+use Rattle.series_reader.proofs.SeriesLaws.{month-last}
+use Rattle.series_reader.proofs.FillingLaws.{filled-same, as-it-is}
+use Rattle.series_reader.proofs.TurnsLaws.{turned-first, turned-more, turned-none, turned-all}
 use Rattle.series_reader.proofs.series.series_list.Goals as goal
 
-pub loop-t-preserved : goal.loop-t-preserved
-loop-t-preserved c i =
-    let a = c.args in
-    let l = c.loop-t in
-    let x = c.series-rest in
-    let z = l.invariant i in
-    leads-on a.s.now a.todo a.c.now a.out.now l.c l.t l.out z c.loop-t-test.true x.new.out x.auto.out x.new.c x.result i.0 (x.ensures.1 (subst (λ (n : ℕ). n ≤ 1) (sym z.supply) i.0, z.room))
+pub loop-i-init : goal.loop-i-init
+loop-i-init c = turned-first _ _ _ _
+
+pub returns-in_err-s : goal.returns-in_err-s
+unfolding series_list_parse rising_parse rows_of_all
+returns-in_err-s c = rw c.from_residual.ensures (filled-same (as-it-is _) (turned-none c.loop-i.invariant (omega arith) c.in_err-s.ensures))
+
+pub loop-i-preserved : goal.loop-i-preserved
+loop-i-preserved c =
+    turned-more c.loop-i.invariant _ (omega arith)
+    (λ s e. ap (λ (o : (ℕ × ℕ) × (ℕ × ℕ)). (suc (o.0.0 * 2 + o.0.1), o.1)) e ∙ ap (λ (k : ℕ). (suc k, year_and_month c.in_ok-s.s.month)) (sym c.place.ensures)) c.in_ok-s.ensures
 
 pub returns : goal.returns
-returns c =
-    let a = c.args in
-    let l = c.loop-t in
-    leads-last a.s.now a.todo a.c.now a.out.now l.c l.t l.out l.invariant (omega (arith, c.loop-t-test.false))
+unfolding series_list_parse rising_parse rows_of_all
+returns c = filled-same (as-it-is _) (turned-all c.loop-i.invariant (omega arith) (λ l e. month-last _ _ l e))

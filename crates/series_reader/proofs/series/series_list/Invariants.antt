@@ -1,9 +1,12 @@
--- What is left, read from where the cursor stands, leads to the whole; fewer are left after each turn.
-use Rattle.series_reader.specs.SeriesTurnsLaws.{Starts, SeriesLead}
+-- What was read so far, and what is left.
+use Rattle.std.specs.Prelude.{option_map}
+use Rattle.passages.specs.ViewsInner.{bit}
+use Rattle.series_reader.specs.RowsInner.{rows_of_series}
+use Rattle.series_reader.specs.ViewsInner.{next_series, low_of, month_seen}
+use Rattle.series_reader.specs.TurnsInner.{Turned}
+use Rattle.series_reader.proofs.SeriesLaws.{on}
 use Rattle.series_reader.proofs.series.series_list.Given as goal
 
-abbrev pub invariant-loop-t : goal.invariant-loop-t
-invariant-loop-t l = Starts l.s l.fn.todo l.fn.c l.fn.out → SeriesLead l.s l.fn.todo l.fn.c l.fn.out l.c l.t l.out
-
-abbrev pub decreases-loop-t : goal.decreases-loop-t
-decreases-loop-t l = l.t.left
+abbrev pub invariant-loop-i : goal.invariant-loop-i
+invariant-loop-i l =
+    Turned (next_series (option_map bit l.shared)) on (rows_of_series l.partner) l.count l._i (0, month_seen l.fn.before.month) (low_of l.behind, month_seen l.seen.month) l.initial.c l.c l.initial.rows l.rows

@@ -1,47 +1,33 @@
--- With its own engagements the book is the one that the bytes say, so their sheet is its sheet.
-use mathlib.Core.Path.{ap, ◌∙◌}
+-- Opened, the book is the one that the bytes say, so its sheet is that of the bytes.
+use mathlib.Core.Path.{◌≡◌, sym, ap, ap₂, ◌∙◌}
 use mathlib.Core.List.{◌++◌}
 use lib.ListN.{drop}
-use Rattle.book.specs.Header.{calendar_of}
+use native.Mathlib.Omega.{arith}
 use Rattle.book.specs.Book.{Book, book_of}
+use Rattle.quarters.specs.declared.Calendar.{Calendar}
 use Rattle.quarters.specs.Quarters.{month_quarters}
+use Rattle.volumes.specs.Settlement.{settlement_refusal}
 use Rattle.volumes.specs.Sheets.{sheet}
 use Rattle.volumes.proofs.SettlementLaws.{passing}
-use Rattle.settlement.specs.SectionsInner.{book_with, Opened}
-use Rattle.settlement.specs.SectionsLaws.{bytes-headed, same-book, opened, own-settled}
-use Rattle.settlement.specs.DaysLaws.{gatherable, gathered}
-use borrow.Author.Rules.{rules}
+use Rattle.settlement.specs.SectionsInner.{book_with}
+use Rattle.settlement.specs.OpenedInner.{book_in}
 use Rattle.sheets.proofs.fill.fill_sheet.Goals as goal
 
-pub section-engagements-requires : goal.section-engagements-requires
-section-engagements-requires c = ((passing c.args.book.now c.requires.0).passed, search rules)
-
--- the book can be settled with its own engagements
-pub gather_days-requires : goal.gather_days-requires
-gather_days-requires c =
-    let bytes = c.args.book.now in
-    let own : Opened bytes c.section-engagements.result.now = rw c.section-engagements.ensures (opened bytes (passing bytes c.requires.0).passed) in
-    gatherable own
-
-pub calendar_of-requires : goal.calendar_of-requires
-calendar_of-requires c = bytes-headed c.args.book.now (passing c.args.book.now c.requires.0).passed
+pub of-requires : goal.of-requires
+of-requires c = (passing c.args.book.now c.requires.0).passed
 
 pub fill_cells-requires : goal.fill_cells-requires
-unfolding book_of
+unfolding book_with
 fill_cells-requires c =
-    let bytes = c.args.book.now in
-    let e = c.section-engagements.ensures in
-    let k = c.calendar_of.ensures in
-    let g = c.gather_days in
-    (rw e (opened bytes (passing bytes c.requires.0).passed), k, rw e (own-settled bytes c.requires.0), rw k c.requires.1, gathered _ _ g.auto.engaged g.ensures)
+    let o = c.of.result in
+    let whole = c.of.ensures.whole in
+    let when : o.c.calendar ≡ (book_of c.args.book.now).calendar = o.spread.when ∙ ap (λ (b : Book). b.calendar) whole in
+    (ap settlement_refusal whole ∙ (passing c.args.book.now c.requires.0).settled, omega (arith, ap month_quarters when, c.requires.1))
 
 pub returns : goal.returns
-unfolding book_of
+unfolding book_with
 returns c =
-    let a = c.args in
-    let bytes = a.book.now in
-    let e = c.section-engagements.ensures in
-    let k = c.calendar_of.ensures in
-    c.fill_cells.ensures
-    ∙ (λ i. sheet (book_with bytes (e i)) a.party ++ drop (month_quarters (k i)) a.sums.now)
-    ∙ ap (λ (b : Book). sheet b a.party ++ drop (month_quarters (calendar_of bytes)) a.sums.now) (same-book bytes (passing bytes c.requires.0).passed)
+    let o = c.of.result in
+    let whole = c.of.ensures.whole in
+    let when : o.c.calendar ≡ (book_of c.args.book.now).calendar = o.spread.when ∙ ap (λ (b : Book). b.calendar) whole in
+    c.fill_cells.ensures ∙ ap₂ (λ (b : Book) (k : Calendar). sheet b c.args.party ++ drop (month_quarters k) c.args.sums.now) whole when

@@ -1,19 +1,12 @@
 -- The header's calendar is the book's.
 use mathlib.Core.Path.{ap, ◌∙◌}
-use Rattle.book.specs.HeaderLaws.{headed}
 use Rattle.book.specs.Book.{book_of}
 use Rattle.quarters.specs.Quarters.{month_quarters}
-use Rattle.volumes.proofs.SoundLaws.{passes}
 use Rattle.settlement.specs.SectionsLaws.{bytes-headed}
 use Rattle.sheets.proofs.fill.sheet_length.Goals as goal
 
 pub calendar_of-requires : goal.calendar_of-requires
 calendar_of-requires c = bytes-headed c.args.book.now c.requires
-
-pub month_quarters-requires : goal.month_quarters-requires
-month_quarters-requires c =
-    let bytes = c.args.book.now in
-    rw c.calendar_of.ensures (headed bytes (passes bytes c.requires).header).ranged
 
 pub returns : goal.returns
 unfolding book_of

@@ -1,24 +1,34 @@
--- The party stands in none of the rows passed.
-use borrow.Author.Rules.{rules}
-use mathlib.Core.Path.{sym, ap, ◌∙◌}
+-- The party stands in the register where it stands in a column of one of its rows.
+use mathlib.Core.Path.{◌≡◌, refl, sym, ap, ◌∙◌}
+use mathlib.Core.Bool.{false, ◌||◌}
+use Prim.Native.Nat.{◌+◌}
+use Rattle.std.proofs.Common.{add-one}
 use native.Mathlib.Omega.{arith}
-use Rattle.book.specs.declared.Point.{Point}
-use Rattle.volumes.specs.Sheets.{parties_of}
-use Rattle.integers.specs.Counts.{stands}
-use Rattle.sheets.specs.PartiesLaws.{no-party, party-next, party-here}
+use Rattle.integers.specs.First.{any_below}
+use Rattle.integers.proofs.FirstLaws.{any-of}
+use Rattle.settlement.specs.SectionsInner.{point_count_in}
+use Rattle.sheets.specs.PartiesInner.{in_row}
+use Rattle.sheets.specs.PartiesLaws.{party-below}
 use Rattle.sheets.proofs.parties.is_party.Goals as goal
 
 pub loop-i-init : goal.loop-i-init
-loop-i-init c = (search rules, no-party c.args.version c.args.register.now c.args.party)
+unfolding any_below
+loop-i-init c = refl
 
-pub returns-then-in_columns : goal.returns-then-in_columns
-returns-then-in_columns c =
+pub returns-then-in_row : goal.returns-then-in_row
+returns-then-in_row c =
     let a = c.args in
-    let row = c.in_columns.ensures ∙ ap (λ (p : Point). stands a.party (parties_of a.version p)) c.point_at-point.ensures in
-    sym (party-here a.version a.register.now a.party c.loop-i.i (omega arith) (sym row ∙ c.if-in_columns.true))
+    sym (any-of (in_row a.version a.register.now a.party) c.loop-i.i (point_count_in a.register.now) (omega arith) (sym c.in_row.ensures ∙ c.if-in_row.true))
+    ∙ party-below a.version a.register.now a.party (point_count_in a.register.now)
 
 pub loop-i-preserved : goal.loop-i-preserved
+unfolding any_below
 loop-i-preserved c =
+    let here = sym c.in_row.ensures ∙ c.if-in_row.false in
+    rw (add-one, c.loop-i.invariant, here)
+
+pub returns : goal.returns
+returns c =
     let a = c.args in
-    let row = c.in_columns.ensures ∙ ap (λ (p : Point). stands a.party (parties_of a.version p)) c.point_at-point.ensures in
-    (search rules, party-next a.version a.register.now a.party c.loop-i.i c.loop-i.invariant.1 (sym row ∙ c.if-in_columns.false))
+    let all : c.loop-i.i ≡ point_count_in a.register.now = omega arith in
+    sym c.loop-i.invariant ∙ ap (any_below (in_row a.version a.register.now a.party)) all ∙ party-below a.version a.register.now a.party (point_count_in a.register.now)

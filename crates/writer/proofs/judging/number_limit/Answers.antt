@@ -1,14 +1,11 @@
--- The number of digits, kind by kind.
+-- A power of ten with as many zeros as the number has digits.
+use Rattle.std.proofs.Common.{inl, inr}
 use Rattle.message.specs.Bytes.{digits}
 use Rattle.writer.proofs.judging.number_limit.Goals as goal
 
 pub returns-in-Toe01 : goal.returns-in-Toe01
 unfolding digits
-returns-in-Toe01 c = rw c.in-Toe01.is
-
-pub returns-in-Toe02 : goal.returns-in-Toe02
-unfolding digits
-returns-in-Toe02 c = rw c.in-Toe02.is
+returns-in-Toe01 c = elim c.in-Toe01.is [ inl e ↦ rw e | inr e ↦ rw e ]
 
 pub returns-in-Toe03 : goal.returns-in-Toe03
 unfolding digits

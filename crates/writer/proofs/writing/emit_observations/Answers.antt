@@ -1,23 +1,21 @@
 -- Row by row: what is laid so far and the observations of the rows left are the whole.
-use mathlib.Core.List.{flat_map}
-use Prim.Native.Nat.{◌+◌, ◌-◌}
-use native.Mathlib.Omega.{arith}
-use Rattle.message.specs.Bytes.{observation_bytes}
-use Rattle.writer.specs.ContentsInner.{observations_in}
-use Rattle.writer.proofs.ContentsLaws.{observations-none, observations-step}
-use Rattle.emitter.specs.LaidLaws.{laying-none, laying-then, laying-all}
+use Rattle.std.proofs.Common.{arith}
+use Rattle.emitter.proofs.Laying.{laying-none, laying-then, laying-stops, laying-all}
+use Rattle.writer.proofs.ContentsLaws.{observations-step, observations-none}
 use Rattle.writer.proofs.writing.emit_observations.Goals as goal
 
-pub loop-left-init : goal.loop-left-init
-loop-left-init c = (c.requires.0, laying-none _ _ _ _ c.requires.1)
+pub loop-row-init : goal.loop-row-init
+loop-row-init g c = laying-none g.met.S.Sink.laws _ _
 
-pub loop-left-preserved : goal.loop-left-preserved
-loop-left-preserved c =
-    let l = c.loop-left in
-    let rows = c.args.rows.now in (
-      omega (arith, l.invariant.0),
-      laying-then (flat_map observation_bytes (observations_in rows (l.next + 6) (l.left - 1))) l.invariant.1 c.emit_observation-a.ensures (observations-step rows l.next l.left (omega arith)),
-    )
+pub loop-row-preserved : goal.loop-row-preserved
+loop-row-preserved g c =
+    let l = c.loop-row in
+    laying-then g.met.S.Sink.laws _ l.invariant c.in_ok-emit_observation.ensures (observations-step c.args.rows.now l.row-index (omega arith))
+
+pub returns-in_err-emit_observation : goal.returns-in_err-emit_observation
+returns-in_err-emit_observation g c =
+    let l = c.loop-row in
+    laying-stops g.met.S.Sink.laws _ l.invariant c.in_err-emit_observation.ensures (observations-step c.args.rows.now l.row-index (omega arith)) c.from_residual.ensures
 
 pub returns : goal.returns
-returns c = let l = c.loop-left in laying-all l.invariant.1 (observations-none c.args.rows.now l.next l.left (omega arith))
+returns g c = let l = c.loop-row in laying-all g.met.S.Sink.laws l.invariant (observations-none c.args.rows.now l.row-index (omega arith))

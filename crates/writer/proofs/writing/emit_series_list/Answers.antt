@@ -1,29 +1,46 @@
--- Run by run: what is laid so far and the series of the rows left are the whole.
-use mathlib.Core.List.{flat_map}
-use mathlib.Core.Path.{refl}
-use Prim.Native.Nat.{◌+◌, ◌-◌, ◌*◌}
-use native.Mathlib.Omega.{arith}
-use Rattle.message.specs.Bytes.{series_bytes}
-use Rattle.writer.specs.ContentsInner.{series_in}
-use Rattle.writer.proofs.ContentsLaws.{series-none, series-step, writable-part}
-use Rattle.emitter.specs.LaidLaws.{laying-none, laying-then, laying-all}
+-- Run by run: what is laid so far and the bytes of the rows left are the whole.
+use Rattle.std.proofs.Common.{◌≡◌, ◌≤◌, length, ℕ, arith}
+use Rattle.std.proofs.lemmas.Grind.{common_steps}
+use Rattle.emitter.proofs.Laying.{laying-none, laying-then, laying-stops, laying-all}
+use Rattle.writer.proofs.RunsLaws.{directions-first}
+use Rattle.writer.proofs.ContentsLaws.{series-cut, series-none}
 use Rattle.writer.proofs.writing.emit_series_list.Goals as goal
 
-pub loop-left-init : goal.loop-left-init
-loop-left-init c = (c.requires.0, laying-none _ _ _ _ c.requires.1)
+pub loop-rest-init : goal.loop-rest-init
+loop-rest-init g c = laying-none g.met.S.Sink.laws _ _
 
-pub loop-left-preserved : goal.loop-left-preserved
-loop-left-preserved c =
-    let l = c.loop-left in
-    let r = c.directions_run-run in
-    let a = c.args in (
-      writable-part l.invariant.0 (l.next + 6 * r.result) r.result (l.left - r.result) refl (omega (arith, r.ensures.within)),
-      laying-then (flat_map (series_bytes a.title.kind) (series_in (a.title.year, a.title.month) a.rows.now (l.next + 6 * r.result) (l.left - r.result))) l.invariant.1 c.emit_series-a.ensures
-          (series-step a.title.kind (a.title.year, a.title.month) a.rows.now l.next l.left r.result r.ensures),
-    )
+pub emit_series-requires : goal.emit_series-requires
+emit_series-requires g c =
+    let l = c.loop-rest in
+    let some : 1 ≤ length l.rest.now = grind (arith, common_steps) in
+    let r = directions-first l.rest.now some in
+    (omega (arith, r.some, c.directions_run.ensures, c.split_at.ensures.front_len), c.requires)
+
+pub loop-rest-preserved : goal.loop-rest-preserved
+loop-rest-preserved g c =
+    let l = c.loop-rest in
+    let q : ℕ × ℕ = (c.args.title.year, c.args.title.month) in
+    let some : 1 ≤ length l.rest.now = grind (arith, common_steps) in
+    let cut = series-cut c.args.title.kind q l.rest.now some c.directions_run.ensures c.split_at.ensures.front c.split_at.ensures.back in
+    laying-then g.met.S.Sink.laws _ l.invariant c.in_ok-emit_series.ensures cut
+
+pub loop-rest-smaller : goal.loop-rest-smaller
+loop-rest-smaller g c =
+    let l = c.loop-rest in
+    let some : 1 ≤ length l.rest.now = grind (arith, common_steps) in
+    let r = directions-first l.rest.now some in
+    omega (arith, r.some, r.within, c.directions_run.ensures, c.split_at.ensures.back_len)
+
+pub returns-in_err-emit_series : goal.returns-in_err-emit_series
+returns-in_err-emit_series g c =
+    let l = c.loop-rest in
+    let q : ℕ × ℕ = (c.args.title.year, c.args.title.month) in
+    let some : 1 ≤ length l.rest.now = grind (arith, common_steps) in
+    let cut = series-cut c.args.title.kind q l.rest.now some c.directions_run.ensures c.split_at.ensures.front c.split_at.ensures.back in
+    laying-stops g.met.S.Sink.laws _ l.invariant c.in_err-emit_series.ensures cut c.from_residual.ensures
 
 pub returns : goal.returns
-returns c =
-    let l = c.loop-left in
-    let a = c.args in
-    laying-all l.invariant.1 (series-none a.title.kind (a.title.year, a.title.month) a.rows.now l.next l.left (omega arith))
+returns g c =
+    let l = c.loop-rest in
+    let none : ◌≡◌ (length l.rest.now) 0 = grind (arith, common_steps) in
+    laying-all g.met.S.Sink.laws l.invariant (series-none c.args.title.kind (c.args.title.year, c.args.title.month) l.rest.now none)

@@ -1,12 +1,13 @@
--- Run by run: what is laid so far and the series of the rows left are the whole.
+-- Run by run: what is laid so far and the bytes of the rows left are the whole.
+use Rattle.std.proofs.Common.{length}
 use mathlib.Core.List.{flat_map}
 use Rattle.message.specs.Bytes.{series_bytes}
-use Rattle.writer.specs.ContentsInner.{series_in, Writable}
-use Rattle.emitter.specs.LaidLaws.{Laying}
+use Rattle.emitter.proofs.Laying.{Laying}
+use Rattle.writer.specs.ContentsInner.{series_in}
 use Rattle.writer.proofs.writing.emit_series_list.Given as goal
 
-abbrev pub invariant-loop-left : goal.invariant-loop-left
-invariant-loop-left l = Writable l.rows l.next l.left l.title.year l.title.month × Laying l.live l.initial.out l.initial.a (flat_map (series_bytes l.title.kind) (series_in (l.title.year, l.title.month) l.rows l.at l.n)) (flat_map (series_bytes l.title.kind) (series_in (l.title.year, l.title.month) l.rows l.next l.left)) l.out l.a
+abbrev pub invariant-loop-rest : goal.invariant-loop-rest
+invariant-loop-rest g l = Laying g.S.Sink.lays l.initial.sink (flat_map (series_bytes l.title.kind) (series_in (l.title.year, l.title.month) l.rows)) (flat_map (series_bytes l.title.kind) (series_in (l.title.year, l.title.month) l.rest)) l.sink
 
-abbrev pub decreases-loop-left : goal.decreases-loop-left
-decreases-loop-left l = l.left
+abbrev pub decreases-loop-rest : goal.decreases-loop-rest
+decreases-loop-rest g l = length l.rest

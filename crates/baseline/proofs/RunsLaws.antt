@@ -1,0 +1,29 @@
+-- One day more, and one start more.
+use Rattle.std.specs.Prelude.{◌≡◌, refl, ℕ, suc, ◌+◌, ◌*◌, ◌%◌, ◌≤◌, ◌<◌, length, take, get_or, set}
+use Rattle.std.proofs.Common.{sym, ap, ◌∙◌, mul-le-mul, arith, take-suc, take-suc-set}
+use mathlib.Core.List.{List, [], ◌∷◌, ◌++◌, map, map-append}
+use Rattle.quarters.specs.declared.Calendar.{Calendar}
+use Rattle.quarters.specs.Quarters.{day_start}
+use Rattle.baseline.specs.RunsInner.{days_in}
+
+pub days-one-more : (keys : List ℕ) (j : ℕ) → j < length keys → days_in (take (j + 1) keys) ≡ days_in (take j keys) ++ ((get_or keys j 0 % 64) ∷ [])
+days-one-more keys j h =
+    let s : j + 1 ≡ suc j = omega arith in
+    rw (s, take-suc keys j 0 h) (map-append (λ k. k % 64) (take j keys) (get_or keys j 0 ∷ []))
+
+-- where one day more starts
+pub starts_none : (c : Calendar) (keys starts : List ℕ) → take 0 starts ≡ map (day_start c) (days_in (take 0 keys))
+starts_none c keys starts = refl
+
+pub starts_more : (c : Calendar) (keys starts : List ℕ) (j : ℕ) → j < length keys → j < length starts → take j starts ≡ map (day_start c) (days_in (take j keys))
+    → take (j + 1) (set starts j (day_start c (get_or keys j 0 % 64))) ≡ map (day_start c) (days_in (take (j + 1) keys))
+starts_more c keys starts j h k e =
+    let d = get_or keys j 0 % 64 in
+    let s : j + 1 ≡ suc j = omega arith in
+    ap (λ (n : ℕ). take n (set starts j (day_start c d))) s
+    ∙ take-suc-set starts j (day_start c d) k
+    ∙ ap (λ (l : List ℕ). l ++ (day_start c d ∷ [])) e
+    ∙ sym (ap (map (day_start c)) (days-one-more keys j h) ∙ map-append (day_start c) (days_in (take j keys)) (d ∷ []))
+
+pub product-few : (j n : ℕ) → j ≤ 10 → n ≤ 12 → j * n ≤ 120
+product-few j n h k = mul-le-mul {n₁ = j} {m₁ = n} {n₂ = 10} {m₂ = 12} h k

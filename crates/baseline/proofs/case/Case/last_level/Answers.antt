@@ -1,0 +1,17 @@
+-- The raised reading in grains, and two raises more.
+use Rattle.std.proofs.Common.{◌≡◌, ◌+◌, ◌-◌, ◌*◌, ℕ, ap₂, arith, le-leb}
+use Rattle.grains.specs.Grains.{grains}
+use Rattle.volumes.specs.Quarters.{start}
+use Rattle.wire.specs.ReadingsInner.{raise}
+use Rattle.baseline.specs.TallyLaws.{there}
+use Rattle.baseline.specs.LevelLaws.{lifted}
+use Rattle.baseline.proofs.case.Case.last_level.Goals as goal
+
+pub returns : goal.returns
+returns c =
+    let r = c.raised_at in
+    let here = there _ r.result r.ensures.range r.ensures.is in
+    let case = c.args.self.now in
+    let at : ℕ = start case.shown.c case.shown.e - (case.shown.e.notice + 1) in
+    let sum : c.from_watts.result.count + c.lift.result ≡ grains r.result + grains (2 * raise) = ap₂ ◌+◌ c.from_watts.ensures c.lift.ensures in
+    rw (le-leb (case.shown.e.notice + 1) (start case.shown.c case.shown.e) c.requires, ← c.start.ensures, sum) (record { level = λ h. lifted _ r.result (here.sum h); small = omega arith })

@@ -1,0 +1,26 @@
+-- A mean of X raised readings is raised by one reading.
+use Rattle.std.proofs.Common.{ℕ, ◌*◌, arith, subst, length}
+use native.Mathlib.Nat.{mul-one}
+use Rattle.integers.specs.Sums.{sum_z}
+use Rattle.integers.proofs.ZLaws.{Over}
+use Rattle.grains.specs.GrainsLaws.{shares-x, mean-over, mean-small}
+use Rattle.wire.specs.ReadingsInner.{raise}
+use Rattle.volumes.specs.Baseline.{watts}
+use Rattle.baseline.specs.RunsInner.{start_runs}
+use Rattle.baseline.proofs.taken.Taken.mean.Goals as goal
+
+pub mean-requires : goal.mean-requires
+mean-requires c = let x = length c.args.self.now.starts.now in
+    (shares-x x c.args.self.now.some c.args.self.now.few, omega (arith, c.sum.ensures.small, mul-one x))
+
+pub returns : goal.returns
+returns c =
+    let self = c.args.self.now in
+    let x = length self.starts.now in
+    let sum = c.sum.result in
+    let total = sum_z watts (start_runs self.readings.now c.args.place 0 1 self.starts.now) in
+    let shares = shares-x x self.some self.few in
+    record {
+      level = λ h. rw c.mean.ensures (mean-over x raise total sum shares (subst (λ (n : ℕ). Over (raise * n) total sum) (mul-one x) (c.sum.ensures.over h)));
+      small = rw c.mean.ensures (mean-small x sum 4294967295 shares (omega (arith, c.sum.ensures.small, mul-one x)));
+    }

@@ -1,0 +1,3 @@
+pub mod EngagementsLaws
+pub mod RegisterLaws
+pub mod SectionsLaws

@@ -1,0 +1,4 @@
+pub mod Laying
+pub mod PartsLaws
+pub mod LaidLaws
+pub mod DirectionsLaws

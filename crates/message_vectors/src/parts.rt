@@ -1,0 +1,32 @@
+// Parts of files and of rows.
+ghost use Rattle.std.specs.Prelude.{◌≤◌, length};
+
+// The bytes between two places, as far as there are any.
+pub fn between(bytes: &[u8], from: usize, to: usize) -> &[u8] {
+    let end = to.min(bytes.len());
+    &bytes[from.min(end)..end]
+}
+
+// So many bytes from a place on, as far as there are any.
+pub fn part(bytes: &[u8], at: usize, n: usize) -> &[u8] {
+    between(bytes, at, at.saturating_add(n))
+}
+
+// The numbers of so many rows, as far as there are any, and those behind them.
+pub fn split_rows(numbers: &[u64], rows: usize) -> (&[u64], &[u64]) {
+    let most = numbers.len() / 6;
+    numbers.split_at(6 * rows.min(most))
+}
+
+// Puts bytes at `at`, if there is room; answers the place behind them.
+pub fn append(out: &mut [u8], at: usize, bytes: &[u8]) -> usize
+    requires { at ≤ length out.old }
+    ensures { result ≤ length out.old }
+{
+    if out.len() - at < bytes.len() {
+        return at;
+    }
+    let end = at + bytes.len();
+    out[at..end].copy_from_slice(bytes);
+    end
+}

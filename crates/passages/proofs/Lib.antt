@@ -1,0 +1,2 @@
+pub mod PeriodLaws
+pub mod WordLaws

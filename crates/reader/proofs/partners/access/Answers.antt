@@ -1,0 +1,16 @@
+-- The parts of an access point, one behind the other.
+use Rattle.std.specs.Prelude.{ℕ}
+use Rattle.std.proofs.Common.{ap}
+use Rattle.text.specs.Ascii.{bytes}
+use Rattle.formats.specs.Exactly.{fixed_parse}
+use Rattle.cursor.proofs.ReadsLaws.{reads-map, reads-pre, reads-seq, reads-post}
+use Rattle.message.specs.Bytes.{group, partner, digits, opening, ending, closing}
+use Rattle.message.specs.Reading.{partner_parse, shared_partner_parse, counted_parse, plain_parse}
+use Rattle.series_reader.proofs.FillingLaws.{filled-got, got-filled}
+use Rattle.reader.proofs.partners.access.Goals as goal
+
+pub returns : goal.returns
+unfolding partner_parse shared_partner_parse counted_parse plain_parse fixed_parse group partner digits opening ending closing bytes
+returns c =
+    let g = filled-got c.in_ok-seen.ensures in
+    got-filled (reads-map _ (reads-pre _ c.in_ok-tag.ensures (reads-seq _ (reads-post _ c.in_ok-number.ensures c.in_ok-tag-2.ensures) (reads-seq _ (reads-post _ c.in_ok-injection.ensures c.in_ok-tag-3.ensures) (reads-seq _ (reads-post _ c.in_ok-count.ensures c.in_ok-tag-4.ensures) (reads-post _ g.read c.in_ok-tag-5.ensures)))))) (ap (λ (m : ℕ × ℕ). (c.in_ok-number.number, m)) g.is) g.rows g.lent

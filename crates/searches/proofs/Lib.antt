@@ -1,0 +1,4 @@
+pub mod BlocksLaws
+pub mod MeteringLaws
+pub mod OrderLaws
+pub mod RegisterLaws

@@ -1,0 +1,34 @@
+-- The grains that were filled become watts, over the same positions.
+use mathlib.Core.Path.{sym, ap, ◌∙◌}
+use Prim.Native.Nat.{ℕ}
+use native.Mathlib.Omega.{arith}
+use lib.ListN.{length}
+use Rattle.integers.specs.Running.{floor_at}
+use Rattle.grains.specs.Grains.{per_watt}
+use Rattle.book.specs.Book.{book_of}
+use Rattle.quarters.specs.Quarters.{month_quarters}
+use Rattle.volumes.specs.Series.{grains_at}
+use Rattle.series.specs.SumsInner.{by_position, cell_at}
+use Rattle.series.specs.SumsLaws.{by_length, parts-of, carry-fits, watts-are}
+use Rattle.series.proofs.DeliveredLaws.{parts}
+use Rattle.series.proofs.sums.Delivered.series_watts.Goals as goal
+
+pub fill_watts-requires : goal.fill_watts-requires
+fill_watts-requires c =
+    let d = c.args.self.now in
+    let s = c.args.s in
+    let f = c.fill_grains in
+    let m = month_quarters (book_of d.book.now).calendar in
+    let n = c.month_quarters.ensures ∙ ap month_quarters (sym (parts d.delivered d.parts).when) in
+    (omega (arith, n, c.requires, ap length f.ensures, by_length (grains_at (book_of d.book.now) s.role.kind s.role.receiver s.series) m c.args.watts.now c.requires), λ k h. carry-fits (parts-of d.book.now d.volumes.now d.delivered) s.role.kind s.role.receiver s.series m c.args.watts.now _ f.ensures k (omega (arith, n)))
+
+pub returns : goal.returns
+returns c =
+    let d = c.args.self.now in
+    let s = c.args.s in
+    let f = c.fill_grains in
+    let cells = f.new.grains in
+    let n = c.month_quarters.ensures ∙ ap month_quarters (sym (parts d.delivered d.parts).when) in
+    c.fill_watts.ensures
+    ∙ ap (λ (n : ℕ). by_position (floor_at per_watt (cell_at cells)) n cells) n
+    ∙ watts-are (parts-of d.book.now d.volumes.now d.delivered) s.role.kind s.role.receiver s.series (month_quarters (book_of d.book.now).calendar) c.args.watts.now cells f.ensures

@@ -1,0 +1,12 @@
+pub mod RowsLaws
+pub mod FillingLaws
+pub mod TurnsLaws
+pub mod SeriesLaws
+pub mod MarkedReadingInner
+pub mod MarkedReadingLaws
+pub mod MarkedItemsLaws
+pub mod MarkedSeriesInner
+pub mod MarkedSeriesLaws
+pub mod MarkedFillingInner
+pub mod MarkedFillingLaws
+pub mod MarkedSeriesFillingLaws

@@ -1,0 +1,17 @@
+-- The parts of a series with the supply direction of its access point, one behind the other.
+use Rattle.std.specs.Prelude.{ℕ}
+use Rattle.std.proofs.Common.{ap}
+use Rattle.text.specs.Ascii.{bytes}
+use Rattle.cursor.proofs.ReadsLaws.{reads-map, reads-pre, reads-post}
+use Rattle.message.specs.Bytes.{opening, ending, closing}
+use Rattle.message.specs.Reading.{shared_series_parse, of_volume}
+use Rattle.passages.specs.ViewsInner.{bit}
+use Rattle.series_reader.proofs.FillingLaws.{filled-got, got-filled}
+use Rattle.series_reader.proofs.series.shared_series.Goals as goal
+
+pub returns : goal.returns
+unfolding shared_series_parse of_volume opening ending closing bytes
+returns c =
+    let g = filled-got c.in_ok-v.ensures in
+    let x = bit c.args.injection in
+    got-filled (reads-map _ (reads-pre _ c.in_ok-tag.ensures (reads-post _ g.read c.in_ok-tag-2.ensures))) (ap (λ (k : ℕ × (ℕ × ℕ)). ((x, k.0), (k.1.0, k.1.1))) g.is) g.rows g.lent

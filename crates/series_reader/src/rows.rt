@@ -1,0 +1,41 @@
+// The rows that a reading gives, in the numbers that are lent to it.
+ghost use Rattle.series_reader.specs.RowsInner.{Added};
+
+use passages::Observed;
+
+// What the rows of a series say beside its observations.
+#[derive(Clone, Copy, Debug, PartialEq, Eq)]
+pub struct Key {
+    pub partner: u64,
+    pub injection: bool,
+    pub down: bool,
+}
+
+// The lent numbers, and how many rows were read; those that the numbers have no room for are counted too.
+#[derive(Drop)]
+pub struct Rows<'a> {
+    pub numbers: &'a mut [u64],
+    pub count: usize,
+}
+
+impl<'a> Rows<'a> {
+    // An observation's six numbers behind those of the rows before it, where they have room. (No file has so many rows that the count wraps.)
+    pub fn push(&mut self, key: Key, o: Observed)
+        ensures { Added key o self.old self.new }
+    {
+        if self.count < self.numbers.len() / 6 {
+            let at = self.count * 6;
+            let numbers = &mut *self.numbers;
+            let row = [
+                key.partner,
+                u64::from(key.injection),
+                u64::from(key.down),
+                o.position,
+                o.watts,
+                0,
+            ];
+            numbers[at..at + 6].copy_from_slice(&row);
+        }
+        self.count = self.count.wrapping_add(1);
+    }
+}

@@ -1,2 +1,0 @@
-pub mod FitsInner
-pub mod FitsLaws

@@ -1,0 +1,3 @@
+pub mod CodesLaws
+pub mod SmallLaws
+pub mod ToldLaws
