@@ -55,7 +55,7 @@ uint64_t toe_sheet(const uint8_t *book, size_t book_length, uint16_t party, int6
 
 /* Writes a receiver's file of a book, and fills the book's settlement rows: the number of bytes. Kind 1 to 3; the
  * receiver is an FSP for kind 1, else a supplier. `moment` is as 2021-08-02T09:00:00.000+02:00, `id` 1 to 36 letters, digits and
- * hyphens; neither needs a zero byte behind it. Lengths count numbers and bytes. It needs 1.0 MB of stack, the other calls under 16 KB.
+ * hyphens; neither needs a zero byte behind it. Lengths count numbers and bytes. It needs 1.0 MB of stack, the other calls under 10 KB.
  * Refusals 1, 2, 4 to 9, 12 for the kind, 11, 12 for ID or moment, 10 item 0 for the rows, 10 item 1 for the file. */
 uint64_t toe_file(const uint8_t *book, size_t book_length, uint8_t kind, uint64_t receiver, const uint8_t *id,
                   size_t id_length, const uint8_t *moment, size_t moment_length, int64_t *rows, size_t rows_length,

@@ -2,7 +2,7 @@
 """Lists, old and new side by side, each public function, type, definition and theorem that differs from those of a commit: tools/changed.py COMMIT [NAMES].
 
 Functions by crate, type and name with signature and clauses; types with their fields and ghost fields; what stands in specs/ (definitions whole, theorems by their statement).
-A line of NAMES, `OLD -> NEW` or `OLD -> = WORDS`, says under which name a thing stands now, or in words what states its promise."""
+A line of NAMES, `OLD -> NEW` or `OLD -> = WORDS`, says under which name a thing stands now, or in words what states its promise, or what of it changed."""
 import re
 import subprocess
 import sys
@@ -109,15 +109,18 @@ def said(path, whole, found):
     head = r"^\s*(?:(unfoldable|abbrev|data|record|ruleset) )?(pub )?(data |record )?([^\s:{}(]+)\s*(?:[({:].*)?$"
     i = 0
     while i < len(lines):
-        m = re.match(r"^(  )?(?:(unfoldable|abbrev) )?pub (data |record |instance )?(\S+)(?= [:({])", lines[i])
+        m = re.match(r"^( *)(?:(unfoldable|abbrev) )?pub (data |record |instance )?(\S+)(?= [:({])", lines[i])
         if not m or lines[i].startswith(("use ", "pub use", "pub mod")):
             i += 1
             continue
         name, kind = m[4], (m[2] or (m[3] or "").strip() or "theorem")
-        pad = m[1] or ""
+        pad = m[1]
         block = [lines[i]]
         j = i + 1
-        while j < len(lines) and lines[j].strip() and not lines[j].lstrip().startswith("--") and not re.match(r"^(  )?(?:(?:unfoldable|abbrev) )?pub (?:data |record )?\S+ [:({]", lines[j].replace("  pub ", "    pub ", 1) if kind == "record" else lines[j]):
+        while j < len(lines) and lines[j].strip() and not lines[j].lstrip().startswith("--"):
+            n = re.match(r"^( *)(?:(?:unfoldable|abbrev) )?pub (?:data |record )?\S+ [:({]", lines[j])
+            if n and (kind != "record" or len(n[1]) <= len(m[1])):
+                break
             block.append(lines[j])
             j += 1
         if kind == "theorem":
@@ -207,7 +210,8 @@ for part, label in (("fn", "Functions"), ("struct|enum|trait|const|type", "Types
     print(f"\n### {label}\n")
     for k, v, to, w in changed:
         if re.fullmatch(part, k.split(" ")[1]):
-            print(f"- {k}" + ("" if to == k else f" → {to}"))
+            words = NAMES.get(k, "")
+            print(f"- {k}" + ("" if to == k else f" → {to}") + (f": {words.lstrip('= ')}" if words.startswith("=") else ""))
             same = [x for x in v if x in w]
             for x in v:
                 if x not in same:

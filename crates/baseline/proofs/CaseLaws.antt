@@ -1,10 +1,11 @@
 -- What the check applies by itself: laws in the forms that it finds.
-use Rattle.std.specs.Prelude.{◌≡◌, List, ℕ, ◌+◌, ◌-◌, ◌*◌, ◌≤◌, ◌<◌, eqb, Bool, not, ◌&&◌, length, true, false, get_or}
-use Rattle.std.proofs.Common.{arith, ap, sym, ◌∙◌}
+use Rattle.std.specs.Prelude.{◌≡◌, List, Option, Some, None, is_some, ℕ, ◌+◌, ◌-◌, ◌*◌, ◌≤◌, ◌<◌, eqb, Bool, not, ◌&&◌, length, true, false, get_or}
+use Rattle.std.proofs.Common.{arith, ap, sym, ◌∙◌, ne_eqb}
 use Rattle.wire.specs.Readings.{reading_at}
-use Rattle.wire.specs.ReadingsInner.{Raised}
+use Rattle.wire.specs.ReadingsInner.{Raised, RaisedIf}
 use Rattle.quarters.specs.Quarters.{is_clock_change}
 use Rattle.book.specs.Register.{excludes}
+use Rattle.std.proofs.Math.Bool.{and-true, and-false}
 use Rattle.integers.proofs.TestsLaws.{both}
 use borrow.Author.Tests.{not-true}
 use Rattle.volumes.specs.Quarters.{start, reference_quarter, reference}
@@ -76,7 +77,22 @@ sum-next readings at i sum r h raised small = rw (run_more readings at i) (sum-m
 pub whole-next : (readings : List ℕ) (at i r : ℕ) → Raised readings (at + i) r → complete (in_run readings at (i + 1)) ≡ (complete (in_run readings at i) && not (eqb r 0))
 whole-next readings at i r raised = ap complete (run_more readings at i) ∙ complete-more (in_run readings at i) _ ∙ ap (λ (b : Bool). complete (in_run readings at i) && b) (sym (raised-known readings (at + i) r raised))
 
-pub ruleset raised_readings = (raised-known)
+-- the same of a reading that is there, and of a missing one
+pub whole-there : (readings : List ℕ) (at i r : ℕ) → Raised readings (at + i) r → 1 ≤ r → complete (in_run readings at i) ≡ complete (in_run readings at (i + 1))
+whole-there readings at i r raised some = sym (whole-next readings at i r raised ∙ ap (λ (b : Bool). complete (in_run readings at i) && not b) (ne_eqb r 0 (λ z. omega (arith, some))) ∙ and-true _)
+
+pub whole-none : (readings : List ℕ) (at i : ℕ) → Raised readings (at + i) 0 → false ≡ complete (in_run readings at (i + 1))
+whole-none readings at i raised = sym (whole-next readings at i 0 raised ∙ and-false _)
+
+pub sum-none-next : (readings : List ℕ) (at i sum : ℕ) → Summed (in_run readings at i) i sum → Raised readings (at + i) 0 → Summed (in_run readings at (i + 1)) (i + 1) sum
+sum-none-next readings at i sum h raised = let same : sum + 0 ≡ sum = omega arith in rw (← same) (sum-next readings at i sum 0 h raised (omega arith))
+
+-- one that is there or none
+pub raised-told : (readings : List ℕ) (i : ℕ) (o : Option ℕ) → RaisedIf readings i o → is_some o ≡ known (reading_at readings i)
+raised-told readings i (Some r) h = ap not (sym (ne_eqb r 0 (λ z. omega (arith, h.1)))) ∙ raised-known readings i r h.0
+raised-told readings i None h = raised-known readings i 0 h
+
+pub ruleset raised_readings = (raised-told)
 
 pub ruleset windows = (window-run, window-early)
 

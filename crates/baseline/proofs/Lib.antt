@@ -4,4 +4,4 @@ pub mod FillsLaws
 pub mod RankingLaws
 pub mod RanksLaws
 pub mod RunsLaws
-pub mod TallyLaws
+pub mod JudgedLaws

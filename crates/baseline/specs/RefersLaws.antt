@@ -76,7 +76,7 @@ module _ {shown : Shown} {calendar readings : List ℕ} {book : Book} (s : Shows
   refers-part h k = eligible-by true h ∙ ap (λ (t : Bool). t && (windowed shown.point.method (day_window book shown.e d) && clear shown.point.method shown.c (reference shown.c shown.e d 0))) (ap complete (day-standing s d) ∙ k)
 
   -- none is: then it is the window that tells
-  eligible-window : alike calendar shown d ≡ true → complete (standing readings shown.c shown.e d) ≡ true
+  pub eligible-window : alike calendar shown d ≡ true → complete (standing readings shown.c shown.e d) ≡ true
       → eligible book shown.e d ≡ (windowed shown.point.method (window_in readings (reference shown.c shown.e d 0)) && clear shown.point.method shown.c (reference shown.c shown.e d 0))
   eligible-window h k =
       eligible-by true h

@@ -1,5 +1,5 @@
 -- The readings of a reference day lie in two runs, before the turn of a clock-change day and behind it, and runs of several days grow by one day.
-use Rattle.std.specs.Prelude.{◌≡◌, refl, Bool, true, false, Some, cond, ◌&&◌, ℕ, zero, suc, ◌+◌, ◌-◌, ◌*◌, ◌%◌, ◌≤◌, ◌<◌, eqb, leb, ltb, length, take, get_or}
+use Rattle.std.specs.Prelude.{◌≡◌, refl, Bool, true, false, Option, Some, cond, ◌&&◌, ℕ, zero, suc, ◌+◌, ◌-◌, ◌*◌, ◌%◌, ◌≤◌, ◌<◌, eqb, leb, ltb, length, take, get_or}
 use Rattle.std.proofs.Common.{sym, ap, ap₂, ◌∙◌, le-leb, ltb-true, ltb-false, add-mul, one-mul, zero-add, arith, subst, take-suc}
 use mathlib.Core.List.{List, [], ◌∷◌, ◌++◌, map, flat_map, map-append, append-nil}
 use Rattle.std.proofs.lemmas.Bool.{lt-leb}
@@ -16,7 +16,7 @@ use Rattle.volumes.proofs.QuartersLaws.{reference-most, reference-below, day-bef
 use Rattle.volumes.specs.Baseline.{complete}
 use Rattle.volumes.proofs.BaselineLaws.{complete-append}
 use Rattle.baseline.specs.TallyInner.{in_run, Summed, Tallied}
-use Rattle.baseline.specs.TallyLaws.{sum-both}
+use Rattle.baseline.specs.TallyLaws.{sum-both, joined, tally-append}
 use Rattle.baseline.specs.RunsInner.{standing, turn, together, StandsOn, days_in, starts_in, day_run, day_runs, start_run, start_runs}
 use Rattle.integers.proofs.RangesLaws.{range-shift, range_split, map-range-cong}
 use Rattle.integers.proofs.ListsLaws.{flat_map-append}
@@ -46,16 +46,32 @@ by-starts P readings c e k back n keys {starts} is p =
     subst (λ (m : ℕ). P (day_runs readings c e k back n (days_in keys)) m) count (subst (λ (l : List Reading). P l (length starts)) runs p)
 
 -- one day's run more
-pub runs-more : (readings starts : List ℕ) (place back n j t u : ℕ) → j < length starts → Summed (start_runs readings place back n (take j starts)) (j * n) t
-    → Summed (start_run readings place back n (get_or starts j 0)) n u
-    → Summed (start_runs readings place back n (take (j + 1) starts)) ((j + 1) * n) (t + u)
-runs-more readings starts place back n j t u h f g =
+day-more : (P : List Reading → ℕ → Type 0) (readings starts : List ℕ) (place back n j : ℕ) → j < length starts
+    → P (start_runs readings place back n (take j starts) ++ start_run readings place back n (get_or starts j 0)) (j * n + n)
+    → P (start_runs readings place back n (take (j + 1) starts)) ((j + 1) * n)
+day-more P readings starts place back n j h p =
     let s = get_or starts j 0 in
     let next : j + 1 ≡ suc j = omega arith in
     let run = start_run readings place back n in
     let list : start_runs readings place back n (take (j + 1) starts) ≡ start_runs readings place back n (take j starts) ++ run s = ap (λ (m : ℕ). flat_map run (take m starts)) next ∙ ap (flat_map run) (take-suc starts j 0 h) ∙ flat_map-append run (take j starts) (s ∷ []) ∙ ap (λ (m : List Reading). flat_map run (take j starts) ++ m) (flat_map-one run s) in
     let count : (j + 1) * n ≡ j * n + n = add-mul j 1 n ∙ ap (λ (m : ℕ). j * n + m) (one-mul n) in
-    rw (list, count) (sum-both (start_runs readings place back n (take j starts)) (run s) (j * n) n t u f g)
+    rw (list, count) p
+
+-- its tally: whether all readings are there, and their sum
+pub runs-more : (readings starts : List ℕ) (place back n j : ℕ) (t u : Option ℕ) → j < length starts → Tallied (start_runs readings place back n (take j starts)) (j * n) t
+    → Tallied (start_run readings place back n (get_or starts j 0)) n u
+    → Tallied (start_runs readings place back n (take (j + 1) starts)) ((j + 1) * n) (joined t u)
+runs-more readings starts place back n j t u h f g =
+    day-more (λ l m. Tallied l m (joined t u)) readings starts place back n j h
+    (tally-append (start_runs readings place back n (take j starts)) (start_run readings place back n (get_or starts j 0)) (j * n) n t u f g)
+
+-- and the sum alone
+pub sums-more : (readings starts : List ℕ) (place back n j t u : ℕ) → j < length starts → Summed (start_runs readings place back n (take j starts)) (j * n) t
+    → Summed (start_run readings place back n (get_or starts j 0)) n u
+    → Summed (start_runs readings place back n (take (j + 1) starts)) ((j + 1) * n) (t + u)
+sums-more readings starts place back n j t u h f g =
+    day-more (λ l m. Summed l m (t + u)) readings starts place back n j h
+    (sum-both (start_runs readings place back n (take j starts)) (start_run readings place back n (get_or starts j 0)) (j * n) n t u f g)
 
 -- ---- what stands for the engagement's quarter-hours on a reference day is two runs of readings, the second empty where none of them turns
 

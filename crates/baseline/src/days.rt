@@ -94,7 +94,7 @@ impl Shown {
     }
 }
 
-// A day before the engagement's is a number with that bound: the scan has it from a range, and a type for it would hold the case once more (d).
+// A day before the engagement's is a number with that bound: the scan has it from a range, and a type for it, which would hold the case once more, is no plainer.
 impl<'a> Case<'a> {
     // The quarter-hour of the calendar with which the engagement begins.
     #[tactic(auto, using(crate::proofs::CaseLaws::placed), unfolding(volumes::specs::Quarters::start))]
@@ -105,7 +105,7 @@ impl<'a> Case<'a> {
         self.shown.c.in_calendar(e.day, e.first)
     }
 
-    // Method 2 looks at the window of what stands for the engagement's first quarter-hour on a reference day too.
+    // Method 2 looks at the window of what stands for the engagement's first quarter-hour on a reference day too. A match on a value, as in `method_whole`.
     #[tactic(auto, using(crate::proofs::CaseLaws::placed, crate::proofs::CaseLaws::wholes), unfolding(volumes::specs::Baseline::windowed, volumes::specs::Baseline::clear, volumes::specs::Quarters::reference))]
     fn window_good(&self, day: u64) -> bool
         requires { (is_clock_change self.now.shown.c day ≡ false) × (day < self.now.shown.e.day) }
@@ -122,7 +122,7 @@ impl<'a> Case<'a> {
     }
 
     // The sum of what stands on a reference day for the engagement's quarter-hours: one run of readings, or two.
-    #[tactic(auto, using(crate::proofs::CaseLaws::placed, crate::proofs::CaseLaws::two_rooms))]
+    #[tactic(auto, using(crate::proofs::CaseLaws::placed, crate::proofs::CaseLaws::two_rooms, crate::proofs::JudgedLaws::runs_judged))]
     fn standing_sum(&self, day: u64) -> Option<u64>
         requires { day < self.now.shown.e.day }
         ensures { Tallied (standing self.now.readings.now self.now.shown.c self.now.shown.e day) self.now.shown.e.count result }
@@ -151,7 +151,7 @@ impl<'a> Case<'a> {
     }
 
     // The sum of a day before the engagement's, where it is eligible.
-    #[tactic(auto, using(crate::proofs::CaseLaws::usual_days))]
+    #[tactic(auto, using(crate::proofs::CaseLaws::usual_days, crate::proofs::JudgedLaws::days_judged))]
     pub fn reference_day(&self, day: usize) -> Option<u64>
         requires { day < self.now.shown.e.day }
         ensures small { AtMost (4294967295 * self.now.shown.e.count) result }

@@ -45,6 +45,7 @@ impl<'a> Case<'a> {
     }
 
     // The raised baselines of an engagement that is not refused, in the first places; the others stay.
+    #[tactic(auto, using(crate::proofs::JudgedLaws::levels_judged))]
     pub fn fill_levels(&self, levels: &mut [u64])
         requires { Accepts self.now.shown self.now.calendar.now self.now.readings.now × (self.now.shown.e.count ≤ length levels.old) }
         ensures { LevelsFilled self.now.shown self.now.calendar.now self.now.readings.now levels.old levels.new }

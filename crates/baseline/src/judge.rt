@@ -27,7 +27,7 @@ fn known_before(readings: &[u8], q: usize, n: usize) -> bool
     if q < n {
         return false;
     }
-    wire::raised_at(readings, q - n) != 0
+    wire::raised_at(readings, q - n).is_some()
 }
 
 // Whether the method looks at reference days.
@@ -39,7 +39,8 @@ pub fn looks_back(method: Method) -> bool
 }
 
 impl<'a> Case<'a> {
-    // The readings that the method needs besides those of the engagement's quarter-hours are there.
+    // The readings that the method needs besides those of the engagement's quarter-hours are there. The method stands in the book's row, so it is a value and no
+    // type.
     #[tactic(auto, using(crate::proofs::CaseLaws::placed, crate::proofs::CaseLaws::wholes), unfolding(crate::specs::NeedsInner::needed_in, volumes::specs::Baseline::complete))]
     fn method_whole(&self) -> bool
         ensures { result ≡ complete (needed_in self.now.shown.point.method self.now.readings.now (start self.now.shown.c self.now.shown.e) self.now.shown.e.notice) }
@@ -53,7 +54,7 @@ impl<'a> Case<'a> {
     }
 
     // The readings of A that the engagement needs are there.
-    #[tactic(auto, using(crate::proofs::CaseLaws::placed, crate::proofs::CaseLaws::wholes))]
+    #[tactic(auto, using(crate::proofs::CaseLaws::placed, crate::proofs::CaseLaws::wholes, crate::proofs::JudgedLaws::needs_judged))]
     fn readings_whole(&self) -> bool
         ensures { (b : Book) → CaseOf self.now b → result ≡ complete (needed b self.now.shown.e) }
     {
@@ -63,6 +64,7 @@ impl<'a> Case<'a> {
     }
 
     // Fewer than Y days are eligible, where the method looks at them.
+    #[tactic(auto, using(crate::proofs::JudgedLaws::few_judged))]
     fn too_few(&self) -> bool
         ensures { (b : Book) → CaseOf self.now b → result ≡ too_few self.now.shown.point.method self.now.shown.y (length (eligible_days b self.now.shown.e)) }
     {
@@ -73,6 +75,7 @@ impl<'a> Case<'a> {
     }
 
     // What the engagement lacks: 8 before 9.
+    #[tactic(auto, using(crate::proofs::JudgedLaws::lacks_judged))]
     pub fn judge(&self) -> Result<(), Lack>
         ensures { (b : Book) → CaseOf self.now b → number_of result ≡ refusal_number b self.now.shown.e }
     {

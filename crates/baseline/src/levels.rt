@@ -14,11 +14,11 @@ use crate::taken::Taken;
 use book::Method;
 use grains::Grains;
 
-// Two raises.
-pub fn lift() -> u64
-    ensures { result ≡ grains (2 * raise) }
+// So many raises, in grains.
+pub fn raises(n: u8) -> u64
+    ensures { result ≡ grains (n * raise) }
 {
-    2 * Grains::from_watts(wire::RAISE).count
+    (n as u64) * Grains::from_watts(wire::RAISE).count
 }
 
 impl<'a> Case<'a> {
@@ -29,7 +29,8 @@ impl<'a> Case<'a> {
         ensures { Lasts (before_in self.now.readings.now (start self.now.shown.c self.now.shown.e) (self.now.shown.e.notice + 1)) result }
     {
         let n = self.shown.e.notice as usize + 1;
-        Grains::from_watts(wire::raised_at(self.readings, self.start() - n)).count + lift()
+        let raised = wire::raised_at(self.readings, self.start() - n).unwrap_or(0);
+        Grains::from_watts(raised).count + raises(2)
     }
 }
 
@@ -50,16 +51,16 @@ impl<'a> Taken<'a> {
         let own = crate::days::window(self.readings, q).unwrap_or(0);
         let mean = Grains::mean(own, 12).count;
         let less = Grains::mean(self.sum(place, 24, 12), 12 * (self.starts.len() as u64)).count;
-        mean + lift() - less
+        mean + raises(2) - less
     }
 
-    // What methods 1 and 2 add to a mean, and two raises.
+    // What methods 1 and 2 add to a mean, and two raises. A match on a value, as in `method_whole`.
     pub fn addend(&self, method: Method, place: usize, q: usize) -> u64
         requires { Adding method self.now.readings.now self.now.starts.now place × (4 * q ≤ length self.now.readings.now) }
         ensures { Added method (window_in self.now.readings.now q) (start_runs self.now.readings.now place 24 12 self.now.starts.now) (length self.now.starts.now) result }
     {
         match method {
-            Method::LastQuarter | Method::HighXOfY => lift(),
+            Method::LastQuarter | Method::HighXOfY => raises(2),
             Method::Adjusted => self.window_addend(place, q),
         }
     }

@@ -5,7 +5,7 @@ pub mod case;
 mod days;
 pub mod fill;
 pub mod judge;
-mod levels;
+pub mod levels;
 mod ranking;
 pub mod shown;
 mod taken;

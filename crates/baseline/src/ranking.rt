@@ -42,7 +42,9 @@ impl Ranking {
 }
 
 impl<'a> Case<'a> {
-    // Ranks the Y latest eligible days before the engagement's.
+    // Ranks the Y latest eligible days before the engagement's. A day's sum and the day are one number, so that among equal sums the later day's is the greater, and
+    // days are put in order as numbers are.
+    #[tactic(auto, using(crate::proofs::JudgedLaws::ranks_judged))]
     pub fn rank_days(&self) -> Ranking
         ensures few { result.found ≤ self.now.shown.y }
         ensures room { length result.keys ≡ 20 }

@@ -5,6 +5,7 @@ ghost use Rattle.book.specs.Engagements.{direction_of, engagement_of, engagement
 use crate::sections::row_at;
 use crate::{Direction, Engagement};
 
+// Total, since reading a row can't fail: a byte that judging refuses counts as the last.
 impl From<u8> for Direction {
     ghost from_gives = { λ byte direction. direction ≡ direction_of byte };
 
@@ -30,7 +31,7 @@ fn engagement_of(row: &[u8; 16]) -> Engagement
     }
 }
 
-// Row i of the engagements.
+// Row i of the engagements. That it stands there is a clause, as in register `point_at`.
 pub fn engagement_at(engagements: &[u8], i: usize) -> Engagement
     requires { 16 * i + 16 ≤ length engagements.now }
     ensures { result ≡ engagement_at engagements.now i }

@@ -23,6 +23,8 @@ pub fn calendar_of(book: &[u8]) -> RangedCalendar
     RangedCalendar { calendar }
 }
 
+// What the header's bytes say. Each asks for all 56 of them: a struct of a book that has them would be made only to make `judging`'s `Header` and
+// `settlement`'s `OpenBook`, which ask for nothing more.
 pub fn version_of(book: &[u8]) -> u16
     requires { 56 ≤ length book.now }
     ensures { result ≡ version_of book.now }
@@ -37,6 +39,7 @@ pub fn splits(version: u16) -> bool
     2 <= version
 }
 
+// How many points and how many engagements there are: columns with names of their own, as X and Y are.
 pub fn point_count(book: &[u8]) -> usize
     requires { 56 ≤ length book.now }
     ensures { result ≡ point_count book.now }

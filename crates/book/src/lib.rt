@@ -16,7 +16,8 @@ pub enum Situation {
     NetInjector,
 }
 
-// The file kinds that take a delivery point: 01 and 02, 03, none; or no situation at all.
+// The file kinds that take a delivery point: 01 and 02, 03, none; or no situation at all. Document 01 names this form: a match on the situation's byte, other
+// values refused.
 #[derive(Clone, Copy, Debug, PartialEq, Eq)]
 pub enum Takers {
     Aggregated,

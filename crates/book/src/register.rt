@@ -5,7 +5,7 @@ ghost use Rattle.book.specs.Register.{situation_of, supply_of, method_of, takers
 use crate::sections::row_at;
 use crate::{Method, Point, Situation, Supply, Takers};
 
-// The situation's byte decides which file kinds take the point.
+// The situation's byte decides which file kinds take the point. Document 01 names this form: a match on the byte, other values refused.
 pub fn takers_of(situation: u8) -> Takers
     ensures { result ≡ takers_of situation }
 {
@@ -18,6 +18,7 @@ pub fn takers_of(situation: u8) -> Takers
     }
 }
 
+// Total, here and below, since reading a row can't fail: a byte that judging refuses counts as the last.
 impl From<u8> for Situation {
     ghost from_gives = { λ byte situation. situation ≡ situation_of byte };
 
@@ -77,7 +78,8 @@ fn point_of(row: &[u8; 64]) -> Point
     }
 }
 
-// Row i of the register.
+// Row i of the register. That it stands there is a clause, here and in `engagement_at`: a struct of a row, as `searches` has, is made where several methods ask
+// it; here one function does.
 pub fn point_at(register: &[u8], i: usize) -> Point
     requires { 64 * i + 64 ≤ length register.now }
     ensures { result ≡ point_at register.now i }
@@ -85,7 +87,8 @@ pub fn point_at(register: &[u8], i: usize) -> Point
     point_of(row_at(register, i))
 }
 
-// Whether the mask excludes a day: bit `day`, counted from the lowest.
+// Whether the mask excludes a day: bit `day`, counted from the lowest. It is a bit's number: a type for it would be made at each call, with this clause at its
+// maker.
 pub fn excludes(mask: u64, day: u32) -> bool
     requires { day < 64 }
     ensures { result ≡ excludes mask day }

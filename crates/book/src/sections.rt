@@ -25,7 +25,8 @@ pub fn section(book: &[u8], section: Section) -> &[u8]
     &book[a..e]
 }
 
-// Row i of a section whose rows have W bytes.
+// Row i of a section whose rows have W bytes. Rows are told by number, here and by all that go over them, as in the definitions: over `as_chunks` each caller
+// would have to know that row k is chunk k.
 pub fn row_at<const W: usize>(section: &[u8], i: usize) -> &[u8; W]
     requires { W * i + W ≤ length section.now }
     ensures { result.now ≡ row_at W section.now i }

@@ -9,7 +9,8 @@ pub fn category(calendar: &[u8], day: usize) -> u8
     calendar[day]
 }
 
-// X and Y are columns with names of their own: one function of both would take 0 for X and 1 for Y.
+// X and Y are columns with names of their own: one function of both would take 0 for X and 1 for Y. A category that the table has is a number with that bound: a
+// type for it would be made for these two columns alone, with this clause at its maker.
 pub fn x_of(table: &[u8], category: usize) -> u8
     requires { 2 * category + 2 ≤ length table.now }
     ensures { result ≡ x_at table.now category }

@@ -18,7 +18,7 @@ pub fn is_leap(year: u64) -> bool
     }
 }
 
-// The days of a month, 0 where there is no such month.
+// The days of a month, 0 where there is no such month, and no Option: no day lies from 1 to 0, so one comparison judges a date.
 #[tactic(auto, unfolding(crate::specs::Dates::month_length))]
 pub fn month_length(year: u64, month: u64) -> u64
     ensures { result ≡ month_length year month }
@@ -67,6 +67,7 @@ pub struct Month {
     pub ghost is_month: { IsMonth year month },
 }
 
+// A day is a number, and what asks for one asks that it be 31 at most, the last of any month: so the sums have room.
 impl Month {
     // The number of a day, 1 January of year 1 being day 1.
     #[tactic(auto, using(crate::proofs::DatesLaws::day_bounds), unfolding(crate::specs::Dates::day_number))]

@@ -11,11 +11,11 @@ use calendar::dates::{Month, month_length};
 use moments::ids;
 use std::io;
 
-// The day of a calendar on which the clocks change, counted from 1, or 0; a calendar has fewer than 255.
+// The day of a calendar on which the clocks change, as it is printed: counted from 1, or 0.
 fn changes_on(clock: Clock) -> u64 {
     match clock {
-        Clock::Shorter(day) | Clock::Longer(day) if day < 255 => day + 1,
-        _ => 0,
+        Clock::Shorter(day) | Clock::Longer(day) => day.saturating_add(1),
+        Clock::Same => 0,
     }
 }
 

@@ -1,8 +1,19 @@
--- What is put into the part from an offset on, or into the first bytes, stands in the whole.
-use Rattle.std.specs.Prelude.{◌≡◌, Option, Some, None, List, [], ◌++◌, ℕ, ◌-◌, ◌≤◌, length, take, drop, replicate}
+-- A piece ends behind its start; what is put into the part from an offset on, or into the first bytes, stands in the whole.
+use Rattle.std.specs.Prelude.{◌≡◌, ◌==◌, Option, Some, None, List, [], ◌++◌, ℕ, ◌+◌, ◌-◌, ◌≤◌, ◌<◌, length, take, drop, replicate}
 use Rattle.std.proofs.Common.{ap, ◌∙◌, subst, append-nil, arith, length-append, length-drop, drop_of_length-le, take_all, take_at, drop_at, length-take-le}
 use Rattle.std.proofs.lemmas.List.{length-replicate}
-use Rattle.cases.specs.SparseInner.{UnhexedBy, PutAtBy, PiecesBy, FilledBy, SparseBy}
+use Rattle.std.specs.List.{position_or_len}
+use Rattle.cases.specs.WordsInner.{rest_of}
+use Rattle.cases.specs.SparseInner.{UnhexedBy, PutAtBy, Piece, behind_piece, PiecesBy, FilledBy, SparseBy}
+
+rest_shorter : (line : List ℕ) → length (rest_of line) ≤ length line - 1
+rest_shorter line = omega (arith, length-drop (position_or_len (λ x. x == 32) line + 1) line)
+
+pub piece-behind : {line before after : List ℕ} → Piece line before after → 0 < length line → length (behind_piece line) < length line
+piece-behind {line} p h = omega (arith, rest_shorter line, rest_shorter (rest_of line))
+
+pub piece-within : {line before after : List ℕ} → Piece line before after → length (behind_piece line) ≤ length line
+piece-within {line} p = omega (arith, rest_shorter line, rest_shorter (rest_of line))
 
 pub put_back : (word d ys : List ℕ) (offset : ℕ) (r : Option ℕ) → offset ≤ length d
     → length ys ≡ length (take (length d - offset) (drop offset d))

@@ -1,6 +1,5 @@
 // Answers on standard output.
-ghost use Rattle.std.specs.Prelude.{◌<◌};
-
+use crate::lent::kept;
 use std::fmt::Display;
 use std::io;
 
@@ -14,11 +13,9 @@ fn row<T: Display>(rt: &impl Print, numbers: &[T]) -> io::Result<()> {
     println!(rt)
 }
 
-// Rows of so many numbers, each on a line.
-pub fn rows<T: Display>(rt: &impl Print, numbers: &[T], width: usize) -> io::Result<()>
-    requires { 0 < width }
-{
-    for numbers in numbers.chunks(width) {
+// Rows of so many numbers, at least one, each on a line.
+pub fn rows<T: Display>(rt: &impl Print, numbers: &[T], width: usize) -> io::Result<()> {
+    for numbers in numbers.chunks(width.max(1)) {
         row(rt, numbers)?;
     }
     Ok(())
@@ -27,4 +24,14 @@ pub fn rows<T: Display>(rt: &impl Print, numbers: &[T], width: usize) -> io::Res
 // What is said of a line that is no case.
 pub fn no_case(rt: &impl Print) -> io::Result<()> {
     println!(rt; "no case")
+}
+
+// A refusal, behind which what was lent is to be kept.
+pub fn refusal<T: Copy + PartialEq + From<u8>>(
+    rt: &impl Print,
+    refused: &impl Display,
+    lent: &[T],
+) -> io::Result<()> {
+    println!(rt; "{refused}")?;
+    kept(rt, lent)
 }

@@ -22,7 +22,8 @@ fn hex_byte(first: u8, second: u8) -> Option<u8>
     Some(16 * nibble(first)? + nibble(second)?)
 }
 
-// Puts the bytes of a hex word at the start of out, if there is room; answers how many.
+// Puts the bytes of a hex word at the start of out, if there is room; answers how many. By place: `out[..n].iter_mut().zip(word.as_chunks::<2>().0)` was tried,
+// and what the cells that were passed hold didn't close.
 pub fn unhex(word: &[u8], out: &mut [u8]) -> Option<usize>
     ensures { UnhexedBy word.now out.old out.new result }
 {
@@ -47,7 +48,7 @@ pub fn hex_word(word: &[u8], out: &mut [u8]) -> Option<usize>
 }
 
 // The bytes of a hex word, N at most.
-#[derive(Clone, Copy)]
+#[derive(Clone, Copy, Debug, PartialEq, Eq)]
 pub struct Hex<const N: usize> {
     pub bytes: [u8; N],
     pub length: usize,

@@ -1,4 +1,6 @@
 // The lines of the cases, from standard input.
+use crate::answers::no_case;
+use crate::words::Words;
 use std::io;
 use std::io::Read;
 
@@ -13,6 +15,47 @@ pub fn each_line<R: Input + Alloc, F: FnMut(&[u8]) -> io::Result<()>>(
     rt.reader().read_to_end(&mut text)?;
     for line in text.split_inclusive(|byte| *byte == b'\n') {
         run(line.strip_suffix(b"\n").unwrap_or(line))?;
+    }
+    Ok(())
+}
+
+// What the words of a line say before a book, which are taken off.
+pub trait FromWords: Copy {
+    fn from_words(words: &mut Words) -> Option<Self>;
+}
+
+// A line that is a book alone.
+impl FromWords for () {
+    fn from_words(_words: &mut Words) -> Option<()> {
+        Some(())
+    }
+}
+
+// What a line says before its book, and the book, which is put into the room.
+fn read_case<'a, C: FromWords>(line: &[u8], room: &'a mut [u8]) -> Option<(C, &'a [u8])> {
+    let mut words = Words::new(line);
+    let case = C::from_words(&mut words)?;
+    let n = words.load(room)?;
+    Some((case, &room[..n]))
+}
+
+// Gives what each line says, and its book, to what runs a case; a line that doesn't say them, or whose book has no room, is no case.
+// By `each_line` it was tried: that the closure which it takes can be called didn't close from `IsAlwaysCallable run`.
+pub fn each_case<R: Input + Print + Alloc, C: FromWords, F: FnMut(C, &[u8]) -> io::Result<()>>(
+    rt: &R,
+    room: usize,
+    mut run: F,
+) -> io::Result<()>
+    requires { F.IsAlwaysCallable run }
+{
+    let mut room = vec![in rt.alloc(); 0; room]?;
+    let mut text = Vec::new(rt.alloc());
+    rt.reader().read_to_end(&mut text)?;
+    for line in text.split_inclusive(|byte| *byte == b'\n') {
+        match read_case(line.strip_suffix(b"\n").unwrap_or(line), &mut room) {
+            Some((case, book)) => run(case, book)?,
+            None => no_case(rt)?,
+        }
     }
     Ok(())
 }

@@ -4,7 +4,7 @@ ghost use Rattle.std.specs.List.{position};
 ghost use Rattle.cases.specs.WordsInner.{word_of, rest_of, number_of, up_to, with_digit_of};
 
 // The words from a place on, which are taken off one by one.
-#[derive(Clone, Copy)]
+#[derive(Clone, Copy, Debug, PartialEq, Eq)]
 pub struct Words<'a> {
     pub rest: &'a [u8],
 }
@@ -16,7 +16,7 @@ impl<'a> Words<'a> {
         Words { rest: line }
     }
 
-    // The next word, and none behind the last: an empty one.
+    // The next word. Behind the last it is empty and no Option: an empty word says no number and no bytes, so what reads a word needs no case more.
     pub fn word(&mut self) -> &'a [u8]
         ensures word { result.now ≡ word_of self.old.rest.now }
         ensures rest { self.new.rest.now ≡ rest_of self.old.rest.now }

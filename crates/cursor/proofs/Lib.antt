@@ -1,2 +1,3 @@
 pub mod ReadsLaws
 pub mod SoundLaws
+pub mod MarkedReadsLaws

@@ -1,4 +1,5 @@
--- Bytes laid behind each other into a list, or only measured: what has no room ends at no place.
+-- Laws about bytes that are laid behind each other into a list, or only measured, with a mark for the place behind them: what has no room ends at no place.
+-- They stand for whoever writes so; the writer itself goes by the trait `Sink` and its laws (Laying), and nothing above needs them.
 use Rattle.std.specs.Prelude.{◌≡◌, refl, Bool, true, false, cond, List, [], ◌++◌, ℕ, ◌+◌, ◌≤◌, ◌<◌, leb, length, drop, Option, Some, None}
 use Rattle.std.proofs.Common.{sym, ap, ◌∙◌, append_assoc, append-nil, length-append, arith, add_assoc, add-zero, zero-add, leb-true, leb-false, le-leb}
 use Rattle.std.proofs.lemmas.Bool.{lt-leb}
@@ -95,6 +96,10 @@ laid-is {live} {d} {m} {a} {out} {n} b e v = rw e at v
 
 true-false : (b : Bool) → b ≡ true → b ≡ false → ⊥
 true-false b e f = let z : ◌≡◌ {A = ℕ} 0 1 = cc in omega arith
+
+-- measured in another order: only the length counts
+pub laid-turned : {d out : List ℕ} {m n : Option ℕ} {a : List ℕ} (b : List ℕ) → length a ≡ length b → Laid false d m a out n → Laid false d m b out n
+laid-turned {d} {out} {m} {n} {a} b e v = record { keeps = v.keeps; behind = v.behind ∙ ap (ahead (length d) m) e; dry = v.dry; wrote = λ g. absurd (true-false false g refl) }
 
 pub laid-dry : (live : Bool) (d : List ℕ) (m : Option ℕ) (bs : List ℕ) (n : Option ℕ) → live ≡ false → n ≡ ahead (length d) m (length bs) → Laid live d m bs d n
 laid-dry live d m bs n e f = record { keeps = refl; behind = f; dry = λ g. refl; wrote = λ g. absurd (true-false live g e) }

@@ -1,5 +1,5 @@
 -- What is laid in parts is what the file has: in the order in which the parts are laid, each with all those behind it.
-use Rattle.std.specs.Prelude.{◌≡◌, refl, ℕ, zero, suc, ◌/◌, ◌%◌, ◌≤◌, length, List, [], ◌∷◌}
+use Rattle.std.specs.Prelude.{◌≡◌, refl, Option, ℕ, zero, suc, ◌/◌, ◌%◌, ◌≤◌, length, List, [], ◌∷◌}
 use Prim.Native.String.{String}
 use Rattle.std.proofs.Common.{sym, ap, ◌∙◌, arith}
 use mathlib.Core.List.{◌++◌, append_assoc, flat_map}
@@ -8,10 +8,12 @@ use Rattle.text.specs.Decimal.{fixed, plain}
 use Rattle.formats.specs.Words.{word_at}
 use Rattle.moments.specs.Moments.{moment_bytes, period_start, period_end}
 use Rattle.kinds.specs.declared.Kind.{Kind}
-use Rattle.message.specs.Bytes.{opening, ending, closing, element, root, counter, group, partner, digits, quantity_bytes, observation_bytes, period_bytes, supplies, supply_bytes, deliveries, volume_bytes}
-use Rattle.message.specs.Bytes.{in_series, with_partner, series_bytes, supply_of, partner_bytes, file_bytes}
+use Rattle.message.specs.Bytes.{opening, ending, closing, element, root, counter, group, partner, digits, quantity_bytes, observation_bytes, period_bytes, supply_bytes, volume_bytes}
+use Rattle.message.specs.Bytes.{with_partner, series_bytes, supply_of, partner_bytes, file_bytes}
 use Rattle.message.specs.Contents.{TimeSeries, Partner, File}
 use Rattle.message.specs.Reading.{observed}
+use Rattle.emitter.specs.SinksInner.{SinkLaws}
+use Rattle.emitter.proofs.Laying.{laid_as}
 use Rattle.emitter.specs.PartsInner.{open_tag, close_tag, element_of, delivery_bytes, head_bytes, series_head, series_end, partner_head, partner_end, origin_bytes, file_head, file_end}
 
 -- ---- tags, elements and words
@@ -28,6 +30,14 @@ pub an-element : {n c : List ℕ} (name : String) (content : List ℕ) → n ≡
 an-element {n} {c} name content e f =
     ap (λ (l : List ℕ). element_of n l) f ∙ ap (λ (l : List ℕ). l ++ (content ++ close_tag n)) (opened name e)
     ∙ ap (λ (l : List ℕ). opening name ++ (content ++ l)) (closed name e) ∙ sym (append_assoc (opening name) content (closing name))
+
+-- the same of what was laid
+module _ {S : Type 0} {lays : S → List ℕ → Option Unit → S → Type 0} (laws : SinkLaws lays) {a b : S} {r : Option Unit} where
+  pub an_opening : {n : List ℕ} (name : String) → n ≡ bytes name → lays a (open_tag n) r b → lays a (opening name) r b
+  an_opening name e v = laid_as laws (opened name e) v
+
+  pub an_element : {n c content : List ℕ} (name : String) → n ≡ bytes name → c ≡ content → lays a (element_of n c) r b → lays a (element name content) r b
+  an_element name e f v = laid_as laws (an-element name _ e f) v
 
 pub no-word : (a b : List ℕ) (which : ℕ) → 2 ≤ which → [] ≡ word_at (a ∷ b ∷ []) which
 unfolding word_at
@@ -53,29 +63,19 @@ pub period-parts : (year month : ℕ)
 unfolding period_bytes
 period-parts year month = simp append_assoc
 
-pub head-parts : (delivery n year month : ℕ)
-    → delivery_bytes delivery ++ (element "UnitType" (bytes "KWT") ++ (element "ObservationCounter" (plain n) ++ (opening "TimeSeriesPeriod" ++ period_bytes year month))) ≡ head_bytes delivery n year month
-unfolding head_bytes
-head-parts delivery n year month = simp append_assoc
-
-pub series-head-parts : (k : Kind) (supply delivery n year month : ℕ)
-    → opening "ToETimeSeries" ++ (in_series k (supply_bytes supply) ++ head_bytes delivery n year month) ≡ series_head k supply delivery n year month
-unfolding series_head
-series-head-parts k supply delivery n year month = simp append_assoc
-
 pub partner-head-parts : (k : Kind) (number supply n : ℕ)
     → opening (group k) ++ (element (partner k) (fixed (digits k) number) ++ (with_partner k (supply_bytes supply) ++ element "DirectionCounter" (plain n))) ≡ partner_head k number supply n
 unfolding partner_head
-partner-head-parts k number supply n = simp append_assoc
+partner-head-parts k number supply n = refl
 
 pub origin-parts : (k : Kind) (id moment : List ℕ) → opening (root k) ++ (element "TransactionID" id ++ element "MessageCreateDateTime" moment) ≡ origin_bytes k id moment
 unfolding origin_bytes
-origin-parts k id moment = simp append_assoc
+origin-parts k id moment = refl
 
 pub file-head-parts : (k : Kind) (id moment : List ℕ) (receiver n : ℕ)
     → origin_bytes k id moment ++ (element "ReceiverID" (fixed 10 receiver) ++ element (counter k) (plain n)) ≡ file_head k id moment receiver n
 unfolding file_head
-file-head-parts k id moment receiver n = simp append_assoc
+file-head-parts k id moment receiver n = refl
 
 -- ---- head, what is held, end
 

@@ -1,5 +1,5 @@
 -- What measuring leads to: so many bytes more, if there is room for them.
-use Rattle.std.specs.Prelude.{◌≡◌, refl, List, [], ◌++◌, ℕ, ◌+◌, ◌<◌, length, Option, Some, None}
+use Rattle.std.specs.Prelude.{◌≡◌, refl, List, ◌++◌, ℕ, ◌+◌, ◌<◌, length, Option, Some, None}
 use Rattle.std.proofs.Common.{◌∙◌, arith, length-append}
 use Rattle.emitter.specs.SinksInner.{SinkLaws}
 use Rattle.emitter.specs.declared.measure.Measure.{Measure}

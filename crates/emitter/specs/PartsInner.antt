@@ -25,11 +25,10 @@ delivery_bytes delivery = element "DeliveryDirection" (word_at deliveries delive
 -- from its delivery direction up to its observations, of which there are n
 unfoldable pub head_bytes : ℕ → ℕ → ℕ → ℕ → List ℕ
 head_bytes delivery n year month =
-    delivery_bytes delivery ++ (opening "UnitType" ++ bytes "KWT" ++ closing "UnitType" ++ opening "ObservationCounter") ++ plain n ++ (closing "ObservationCounter" ++ opening "TimeSeriesPeriod")
-    ++ period_bytes year month
+    delivery_bytes delivery ++ (element "UnitType" (bytes "KWT") ++ (element "ObservationCounter" (plain n) ++ (opening "TimeSeriesPeriod" ++ period_bytes year month)))
 
 unfoldable pub series_head : Kind → ℕ → ℕ → ℕ → ℕ → ℕ → List ℕ
-series_head k supply delivery n year month = opening "ToETimeSeries" ++ in_series k (supply_bytes supply) ++ head_bytes delivery n year month
+series_head k supply delivery n year month = opening "ToETimeSeries" ++ (in_series k (supply_bytes supply) ++ head_bytes delivery n year month)
 
 unfoldable pub series_end : List ℕ
 series_end = closing "TimeSeriesPeriod" ++ closing "ToETimeSeries"
@@ -38,7 +37,7 @@ series_end = closing "TimeSeriesPeriod" ++ closing "ToETimeSeries"
 
 unfoldable pub partner_head : Kind → ℕ → ℕ → ℕ → List ℕ
 partner_head k number supply n =
-    opening (group k) ++ element (partner k) (fixed (digits k) number) ++ with_partner k (supply_bytes supply) ++ element "DirectionCounter" (plain n)
+    opening (group k) ++ (element (partner k) (fixed (digits k) number) ++ (with_partner k (supply_bytes supply) ++ element "DirectionCounter" (plain n)))
 
 unfoldable pub partner_end : Kind → List ℕ
 partner_end k = closing (group k)
@@ -46,10 +45,10 @@ partner_end k = closing (group k)
 -- ---- a file, up to its partners, of which there are n
 
 unfoldable pub origin_bytes : Kind → List ℕ → List ℕ → List ℕ
-origin_bytes k id moment = opening (root k) ++ element "TransactionID" id ++ element "MessageCreateDateTime" moment
+origin_bytes k id moment = opening (root k) ++ (element "TransactionID" id ++ element "MessageCreateDateTime" moment)
 
 unfoldable pub file_head : Kind → List ℕ → List ℕ → ℕ → ℕ → List ℕ
-file_head k id moment receiver n = origin_bytes k id moment ++ element "ReceiverID" (fixed 10 receiver) ++ element (counter k) (plain n)
+file_head k id moment receiver n = origin_bytes k id moment ++ (element "ReceiverID" (fixed 10 receiver) ++ element (counter k) (plain n))
 
 unfoldable pub file_end : Kind → List ℕ
 file_end k = closing (root k)

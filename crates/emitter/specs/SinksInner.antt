@@ -1,5 +1,5 @@
 -- What every sink promises of laying.
-use Rattle.std.specs.Prelude.{◌≡◌, List, [], ◌++◌, ℕ, Option, Some, None}
+use Rattle.std.specs.Prelude.{List, [], ◌++◌, ℕ, Option, Some, None}
 
 pub record SinkLaws {S : Type 0} (lays : S → List ℕ → Option Unit → S → Type 0) : Type 0 where
   -- laying nothing changes nothing

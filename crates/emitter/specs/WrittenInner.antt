@@ -1,5 +1,5 @@
 -- What writing leads to: the bytes in the buffer, behind those before them, if there is room for them.
-use Rattle.std.specs.Prelude.{◌≡◌, refl, List, [], ◌++◌, ℕ, ◌+◌, ◌<◌, length, Option, Some, None}
+use Rattle.std.specs.Prelude.{◌≡◌, refl, List, ◌++◌, ℕ, ◌+◌, ◌<◌, length, Option, Some, None}
 use Rattle.std.proofs.Common.{◌∙◌, arith, length-append}
 use Rattle.text.specs.WrittenInner.{Wrote}
 use Rattle.text.proofs.WrittenLaws.{and_then, wrote_none}

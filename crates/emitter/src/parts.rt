@@ -5,18 +5,17 @@ ghost use Rattle.text.specs.Decimal.{fixed, plain};
 ghost use Rattle.formats.specs.Words.{word_at};
 ghost use Rattle.message.specs.Bytes.{root, counter, group, partner, digits};
 ghost use Rattle.message.specs.Bytes.{quantity_bytes, observation_bytes, period_bytes, supply_bytes, in_series, with_partner};
-ghost use Rattle.message.specs.Valid.{IsPeriod};
 ghost use Rattle.message.specs.Reading.{observed};
 ghost use Rattle.emitter.specs.PartsInner.{open_tag, close_tag, element_of, delivery_bytes, head_bytes, series_head, series_end, partner_head, partner_end, origin_bytes, file_head, file_end};
 
 use crate::sink::{Sink, lay_plain};
-use crate::{Stamp, Title};
+use crate::{SeriesTitle, Stamp};
 use calendar::dates::Month;
 use kinds::Kind;
 
 // ---- names
 
-// A file's element, by its kind.
+// A file's element, by its kind. Four tables of words, as the form's definitions are: each place takes one or two of them, so one struct of all four would be no plainer.
 fn root(kind: Kind) -> &'static [u8]
     ensures { result.now ≡ bytes (root kind) }
 {
@@ -61,6 +60,7 @@ fn partner(kind: Kind) -> &'static [u8]
 }
 
 // How many digits it has.
+#[tactic(auto, unfolding(message::specs::Bytes::digits))]
 pub fn digits(kind: Kind) -> usize
     ensures { result ≡ digits kind }
 {
@@ -70,7 +70,8 @@ pub fn digits(kind: Kind) -> usize
     }
 }
 
-// One of two words, by 0 or 1; none by another number.
+// One of two words, by 0 or 1; an empty word by another number.
+// So a direction is a number here and in all below that lays one, and no enum: it is one of a row's six, which C lends, and a caller's row may hold another.
 fn word(which: u64, first: &'static [u8], second: &'static [u8]) -> &'static [u8]
     ensures { result.now ≡ word_at (first.now ∷ second.now ∷ []) which }
 {
@@ -81,7 +82,7 @@ fn word(which: u64, first: &'static [u8], second: &'static [u8]) -> &'static [u8
     }
 }
 
-// <name>
+// <name>. With `close` two of one shape: one function of both would take the sign at each of its calls.
 fn open<S: Sink>(sink: &mut S, name: &[u8]) -> Option<()>
     ensures { S.lays sink.old (open_tag name.now) result sink.new }
 {
@@ -108,7 +109,8 @@ fn emit_element<S: Sink>(sink: &mut S, name: &[u8], content: &[u8]) -> Option<()
     close(sink, name)
 }
 
-// An element of a number's last n digits. A closure for what stands between the tags would be no plainer: its clause would speak of three states, and this is one call apart from the above.
+// An element of a number's last n digits.
+// A closure for what stands between the tags would be no plainer: its clause would speak of three states, and this is one call apart from the above.
 fn emit_fixed<S: Sink>(sink: &mut S, name: &[u8], n: usize, v: u64) -> Option<()>
     ensures { S.lays sink.old (element_of name.now (fixed n v)) result sink.new }
 {
@@ -146,7 +148,7 @@ pub fn emit_observation<S: Sink>(sink: &mut S, position: u64, watts: u64) -> Opt
     sink.lay(b"</Quantity></Observation>")
 }
 
-// A supply direction.
+// A supply direction. It and the delivery direction are one call each, of another name and two other words: nothing is left to share.
 fn emit_supply<S: Sink>(sink: &mut S, supply: u64) -> Option<()>
     ensures { S.lays sink.old (supply_bytes supply) result sink.new }
 {
@@ -169,10 +171,10 @@ fn emit_delivery<S: Sink>(sink: &mut S, delivery: u64) -> Option<()>
 }
 
 // The period of a month.
-fn emit_period<S: Sink>(sink: &mut S, year: u64, month: u64) -> Option<()>
-    requires { IsPeriod year month }
-    ensures { S.lays sink.old (period_bytes year month) result sink.new }
+fn emit_period<S: Sink>(sink: &mut S, title: SeriesTitle) -> Option<()>
+    ensures { S.lays sink.old (period_bytes title.year title.month) result sink.new }
 {
+    let SeriesTitle { year, month, .. } = title;
     let period = Month { year, month };
     let start = message::moment_text(moments::period_start(period));
     let end = message::moment_text(moments::period_end(period));
@@ -182,18 +184,18 @@ fn emit_period<S: Sink>(sink: &mut S, year: u64, month: u64) -> Option<()>
 }
 
 // A time series from its delivery direction up to its observations, of which there are n.
-fn emit_head<S: Sink>(sink: &mut S, title: Title, delivery: u64, n: u64) -> Option<()>
-    requires { IsPeriod title.year title.month }
+// Each part of a file takes what it needs: some the title, others its kind alone, and a direction or a count only where it may stand in that part.
+fn emit_head<S: Sink>(sink: &mut S, title: SeriesTitle, delivery: u64, n: u64) -> Option<()>
     ensures { S.lays sink.old (head_bytes delivery n title.year title.month) result sink.new }
 {
     emit_delivery(sink, delivery)?;
     sink.lay(b"<UnitType>KWT</UnitType>")?;
     emit_plain(sink, b"ObservationCounter", n)?;
     sink.lay(b"<TimeSeriesPeriod>")?;
-    emit_period(sink, title.year, title.month)
+    emit_period(sink, title)
 }
 
-// The supply direction, where a time series has it.
+// The supply direction, where a time series has it. It and `emit_partner_supply` differ in the kinds that lay one: which kinds is all that each says.
 fn emit_series_supply<S: Sink>(sink: &mut S, kind: Kind, supply: u64) -> Option<()>
     ensures { S.lays sink.old (in_series kind (supply_bytes supply)) result sink.new }
 {
@@ -206,12 +208,11 @@ fn emit_series_supply<S: Sink>(sink: &mut S, kind: Kind, supply: u64) -> Option<
 // A time series up to its observations, of which there are n.
 pub fn emit_series_head<S: Sink>(
     sink: &mut S,
-    title: Title,
+    title: SeriesTitle,
     supply: u64,
     delivery: u64,
     n: u64,
 ) -> Option<()>
-    requires { IsPeriod title.year title.month }
     ensures { S.lays sink.old (series_head title.kind supply delivery n title.year title.month) result sink.new }
 {
     sink.lay(b"<ToETimeSeries>")?;
@@ -220,6 +221,7 @@ pub fn emit_series_head<S: Sink>(
 }
 
 // What stands behind a time series' observations.
+#[tactic(auto, unfolding(text::specs::Ascii::bytes, message::specs::Bytes::ending, message::specs::Bytes::closing, crate::specs::PartsInner::series_end))]
 pub fn emit_series_end<S: Sink>(sink: &mut S) -> Option<()>
     ensures { S.lays sink.old series_end result sink.new }
 {
@@ -254,7 +256,8 @@ pub fn emit_partner_head<S: Sink>(
     emit_plain(sink, b"DirectionCounter", n)
 }
 
-// What stands behind a partner's series.
+// What stands behind a partner's series. One call, as in `emit_file_end`, of another word.
+#[tactic(auto, unfolding(text::specs::Ascii::bytes, message::specs::Bytes::ending, message::specs::Bytes::closing, crate::specs::PartsInner::partner_end))]
 pub fn emit_partner_end<S: Sink>(sink: &mut S, kind: Kind) -> Option<()>
     ensures { S.lays sink.old (partner_end kind) result sink.new }
 {
@@ -288,6 +291,7 @@ pub fn emit_file_head<S: Sink>(
 }
 
 // What stands behind a file's partners.
+#[tactic(auto, unfolding(text::specs::Ascii::bytes, message::specs::Bytes::ending, message::specs::Bytes::closing, crate::specs::PartsInner::file_end))]
 pub fn emit_file_end<S: Sink>(sink: &mut S, kind: Kind) -> Option<()>
     ensures { S.lays sink.old (file_end kind) result sink.new }
 {

@@ -2,49 +2,52 @@
 // Prints the settlement rows and the file, or the refusal, and `changed` if what is no part of the answer is not as it was.
 #![tactic(auto)]
 
-ghost use Rattle.std.specs.Prelude.{◌*◌, ◌≤◌, length, IfSome, IfOk};
+ghost use Rattle.std.specs.Prelude.{◌*◌, ◌≤◌, length, IfOk};
 ghost use Rattle.volumes.specs.Settlement.{row_width};
 
 use cases::hex::Hex;
+use cases::input::FromWords;
 use cases::words::Words;
 use cases::{answers, lent};
 use refusals::Refused;
 use settlement::rows::ROW_WIDTH;
 use std::io;
 
-// What is asked for, how many numbers and bytes are lent, and how many bytes of the buffer are the book.
-#[derive(Clone, Copy)]
-struct Case {
+// Room for the rows and the file of each case.
+const ROWS_ROOM: usize = 8704;
+
+const FILE_ROOM: usize = 66048;
+
+// What is asked for of a book, and how many numbers and bytes are lent. The kind is a number, as the call takes it.
+#[derive(Clone, Copy, Debug, PartialEq, Eq)]
+struct FileCase {
     kind: u8,
     receiver: u64,
     rows: usize,
     file: usize,
     id: Hex<128>,
     moment: Hex<128>,
-    book: usize,
+    ghost rows_within: { rows ≤ 8704 },
+    ghost file_within: { file ≤ 66048 },
 }
 
-// Reads a line, with that many numbers and bytes to lend, and puts its book into the buffer.
-fn read_case(line: &[u8], most_rows: usize, most_file: usize, book: &mut [u8]) -> Option<Case>
-    ensures { IfSome result (λ case. (case.rows ≤ most_rows) × (case.file ≤ most_file) × (case.book ≤ length book.new)) }
-{
-    let mut words = Words::new(line);
-    let kind = u8::try_from(words.number()?).ok()?;
-    let receiver = words.number()?;
-    let rows = words.number_up_to(most_rows)?;
-    let file = words.number_up_to(most_file)?;
-    let id = words.hex()?;
-    let moment = words.hex()?;
-    let book = words.load(book)?;
-    Some(Case {
-        kind,
-        receiver,
-        rows,
-        file,
-        id,
-        moment,
-        book,
-    })
+impl FromWords for FileCase {
+    fn from_words(words: &mut Words) -> Option<FileCase> {
+        let kind = u8::try_from(words.number()?).ok()?;
+        let receiver = words.number()?;
+        let rows = words.number_up_to(ROWS_ROOM)?;
+        let file = words.number_up_to(FILE_ROOM)?;
+        let id = words.hex()?;
+        let moment = words.hex()?;
+        Some(FileCase {
+            kind,
+            receiver,
+            rows,
+            file,
+            id,
+            moment,
+        })
+    }
 }
 
 // The number of rows and bytes, the rows, and the file; what stands behind both is to be kept.
@@ -72,8 +75,7 @@ fn answer(
     match said {
         Ok((count, n)) => answer_file(rt, rows, file, count, n),
         Err(refused) => {
-            println!(rt; "{refused}")?;
-            lent::kept(rt, rows)?;
+            answers::refusal(rt, &refused, rows)?;
             lent::kept(rt, file)
         }
     }
@@ -82,13 +84,11 @@ fn answer(
 // Asks for the file of a book with the first numbers of rows and the first bytes of file.
 fn file_case(
     rt: &impl Print,
+    case: &FileCase,
     book: &[u8],
-    case: &Case,
-    rows: &mut [i64],
-    file: &mut [u8],
-) -> io::Result<()>
-    requires { (case.now.rows ≤ length rows.old) × (case.now.file ≤ length file.old) }
-{
+    rows: &mut [i64; ROWS_ROOM],
+    file: &mut [u8; FILE_ROOM],
+) -> io::Result<()> {
     lent::prepare(rows);
     lent::prepare(file);
     let said = filing::file::file(
@@ -103,25 +103,10 @@ fn file_case(
     answer(rt, said, rows, file)
 }
 
-fn run_case(
-    rt: &impl Print,
-    line: &[u8],
-    book: &mut [u8],
-    rows: &mut [i64],
-    file: &mut [u8],
-) -> io::Result<()> {
-    match read_case(line, rows.len(), file.len(), book) {
-        Some(case) => file_case(rt, &book[..case.book], &case, rows, file),
-        None => answers::no_case(rt),
-    }
-}
-
 fn main(rt: HostRuntime) -> io::Result<()> {
-    let mut book = vec![in rt.alloc(); 0; 2400000]?; // the cases' largest: 180 points, 33 days
-    let mut rows = [0; 8704];
-    let mut file = [0; 66048];
-    cases::input::each_line(
-        &rt,
-        |line| run_case(&rt, line, &mut book, &mut rows, &mut file),
-    )
+    let mut rows = [0; ROWS_ROOM];
+    let mut file = [0; FILE_ROOM];
+    cases::input::each_case(&rt, cases::BOOK_ROOM, |case: FileCase, book| {
+        file_case(&rt, &case, book, &mut rows, &mut file)
+    })
 }

@@ -1,8 +1,8 @@
 -- The partners of a file, laid one behind the other as a scan of the register finds them: what is laid, and those that follow, are all.
-use Rattle.std.specs.Prelude.{◌≡◌, ℕ, zero, suc, ◌+◌, ◌*◌, ◌≤◌, ◌<◌, cond, ltb, length, take, Option, Some, None}
-use Prim.Native.Nat.{min}
-use Rattle.std.proofs.Common.{sym, ap, subst, ◌∙◌, arith, lt-ltb}
+use Rattle.std.specs.Prelude.{◌≡◌, Bool, true, false, ℕ, ◌+◌, ◌*◌, ◌≤◌, ◌<◌, cond, ltb, length, take, Option, Some, None, refl, unwrap_or}
+use Rattle.std.proofs.Common.{sym, ap, subst, ◌∙◌, arith}
 use mathlib.Core.List.{List, flat_map, map, Memᴰ}
+use mir.Val.{bool_byte}
 use Rattle.quarters.specs.declared.Calendar.{Calendar}
 use Rattle.quarters.specs.QuartersInner.{longest_month}
 use Rattle.book.specs.Book.{Book, book_of}
@@ -22,7 +22,7 @@ use Rattle.partners.specs.PartnersInner.{points_in, partner_column, no_partner, 
 use Rattle.partners.specs.PartnersLaws.{partners-all, partners-end}
 use Rattle.partners.specs.ObservationsLaws.{dated}
 use Rattle.partners.specs.PartnerRowsInner.{partner_rows_of, FileRowsFilled}
-use Rattle.partners.specs.PartnerRowsLaws.{filled-stand, filled-length, partner-bytes, partner-count}
+use Rattle.partners.specs.PartnerRowsLaws.{filled-stand, partner-bytes, partner-count}
 use Rattle.filing.specs.LayingLaws.{next-in, partners-bytes, partners-end-bytes, partners-count}
 
 -- ---- one partner
@@ -31,10 +31,14 @@ use Rattle.filing.specs.LayingLaws.{next-in, partners-bytes, partners-end-bytes,
 pub told : {S : Type 0} (lays : S → List ℕ → Option Unit → S → Type 0) {a b : S} {x y : List ℕ} {r s : Option Unit} → x ≡ y → r ≡ s → lays a x s b → lays a y r b
 told lays {a} {b} {x} {y} {r} {s} e f v = subst (λ (o : Option Unit). lays a y o b) (sym f) (subst (λ (l : List ℕ). lays a l s b) e v)
 
--- 1 for rows that are filled: the lesser of their number and 1
-lesser : (end : ℕ) → min end 1 ≡ cond (ltb 0 end) 1 0
-lesser zero = omega arith
-lesser (suc end) = rw (lt-ltb 0 (suc end) (omega arith)) (omega arith)
+-- a flag as a number: 1, or 0
+flag_is : (b : Bool) → bool_byte b ≡ cond b 1 0
+flag_is true = refl
+flag_is false = refl
+
+flag-most : (b : Bool) → bool_byte b ≤ 1
+flag-most true = omega arith
+flag-most false = omega arith
 
 -- the registered points of a book of known volumes, and its partners, by the register that stands beside
 pub own : (d : Delivered) → Registered (book_of d.book.now)
@@ -56,10 +60,10 @@ module _ (d : Delivered) (kind : Kind) (receiver partner : ℕ) (known : Memᴰ 
       ∙ partner-bytes book kind receiver partner (parts-of d.book.now d.volumes.now d.delivered).sound (own d) known rows (ap (map row_in) cut ∙ stood)
 
   -- and how many partners these rows are
-  pub filled-count : (n : ℕ) → n ≡ min end 1 → (n ≡ length (partner_if (book_of d.book.now) kind receiver partner)) × (n ≤ 1)
+  pub filled-count : (n : ℕ) → n ≡ bool_byte (ltb 0 end) → (n ≡ length (partner_if (book_of d.book.now) kind receiver partner)) × (n ≤ 1)
   filled-count n e = (
-    e ∙ lesser end ∙ partner-count (book_of d.book.now) kind receiver partner (parts-of d.book.now d.volumes.now d.delivered).sound (own d) known end (omega (arith, filled.0.behind)),
-    omega (arith, e),
+    e ∙ flag_is (ltb 0 end) ∙ partner-count (book_of d.book.now) kind receiver partner (parts-of d.book.now d.volumes.now d.delivered).sound (own d) known end (omega (arith, filled.0.behind)),
+    omega (arith, e, flag-most (ltb 0 end)),
   )
 
 -- ---- all partners
@@ -107,3 +111,8 @@ module _ {S : Type 0} {lays : S → List ℕ → Option Unit → S → Type 0} (
     laying-all laws v.laying (partners-end-bytes book kind receiver own v.low next v.following h),
     omega (arith, v.counted, ap length (partners-end book kind receiver own v.low next v.following h)),
   )
+
+-- where no next one is found, its number is that which no partner has
+pub none-left : (next : Option ℕ) → ((n : ℕ) → next ≡ Some n → ⊥) → no_partner ≤ unwrap_or next no_partner
+none-left None h = omega arith
+none-left (Some n) h = absurd (h n refl)

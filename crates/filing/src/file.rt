@@ -85,7 +85,8 @@ fn fill_file(
     )
 }
 
-// A receiver's file of a book: fills the settlement rows and the file, or changes nothing and says why.
+// A receiver's file of a book: fills the settlement rows and the file, or changes nothing and says why. Its parameters are those of the C call (include/toe.h):
+// the kind is a number, as C gives it.
 pub fn file(
     book: &[u8],
     kind: u8,

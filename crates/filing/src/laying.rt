@@ -1,4 +1,6 @@
-// A receiver's file laid partner by partner: the rows filled, then laid by the writer's own emitter.
+// A receiver's file is laid partner by partner: the partner's rows are filled, and the writer's emitter lays them. The rows need room for four series of a
+// longest month, since `fill_partner` asks it. `delivered`, `role` and `stamp` are shared, while `rows` is lent by `&mut` from partner to partner: a struct of
+// the shared ones would be made for the two calls of `write_file`, and a partner is laid without the stamp.
 ghost use Rattle.std.specs.Prelude.{◌≡◌, ◌*◌, ◌≤◌, length, IfSome};
 ghost use mathlib.Core.List.{flat_map, Memᴰ};
 ghost use Rattle.book.specs.Book.{book_of};
@@ -14,13 +16,13 @@ use emitter::parts::{emit_file_end, emit_file_head};
 use emitter::sink::Sink;
 use emitter::write::Write;
 use emitter::{Stamp, Title};
-use partners::register::{NO_PARTNER, next_partner};
+use partners::register::next_partner;
 use partners::rows::fill_partner;
 use series::Role;
 use series::sums::Delivered;
 use writer::FileRow;
 
-// A partner, if it has a series: its rows filled, then laid by the writer's emitter. How many partners that are.
+// Fills a partner's rows, and lays them if it has a series. The answer is the number of partners laid: 1, or 0.
 pub fn emit_partner<S: Sink>(
     sink: &mut S,
     delivered: &Delivered,
@@ -40,7 +42,7 @@ pub fn emit_partner<S: Sink>(
         month: delivered.c.calendar.month,
     };
     writer::writing::emit_partners(sink, title, &rows[..end])?;
-    Some(end.min(1) as u64)
+    Some(u64::from(0 < end))
 }
 
 // All partners of a receiver, by rising number; how many they are.
@@ -57,9 +59,10 @@ pub fn emit_partners<S: Sink>(
     let register = delivered.register;
     let mut count = 0;
     let mut next = next_partner(register, role, 0);
-    while next < NO_PARTNER {
-        count += emit_partner(sink, delivered, role, next, rows)?;
-        next = next_partner(register, role, next + 1);
+    // Each is sought anew in the register, from the number behind the last: what this goes over is no list or range.
+    while let Some(partner) = next {
+        count += emit_partner(sink, delivered, role, partner, rows)?;
+        next = next_partner(register, role, partner + 1);
     }
     Some(count)
 }

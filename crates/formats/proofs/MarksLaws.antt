@@ -1,4 +1,5 @@
--- Readings from a mark, a place that may be missing, to a mark: they follow from a reading at a place, and end at no place where a form isn't there.
+-- Laws about a reading that keeps a mark, a place that may be missing: it follows from a reading at a place, and ends at no place where a form isn't there.
+-- They stand for whoever reads so; the reader itself goes by `Reads` of `cursor`, and none of what the code does needs them.
 use Rattle.std.specs.Prelude.{◌≡◌, Bool, true, false, List, [], ℕ, ◌≤◌, length, drop, Option, Some, None}
 use Rattle.std.proofs.Common.{arith}
 use Rattle.formats.specs.Format.{Res, got, bad}

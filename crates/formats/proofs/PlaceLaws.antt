@@ -1,14 +1,16 @@
 -- What the readers' tests show of a reading at a place.
-use Rattle.std.specs.Prelude.{◌≡◌, refl, Bool, true, false, cond, List, [], ◌∷◌, ℕ, ◌+◌, ◌-◌, ◌*◌, ◌≤◌, ◌<◌, length, take, drop, get_or, eqb, ltb, leb, Option, Some, None, ◌⊎◌}
-use Rattle.std.proofs.Common.{sym, ap, inl, inr, ◌∙◌, subst, length-drop, length-append, drop_of_length-le, arith, add-one, le-leb, leb-true, leb-false, drop-cons, drop-drop}
-use Rattle.std.proofs.lemmas.Bool.{lt-leb}
+use Rattle.std.specs.Prelude.{◌≡◌, ◌≢◌, refl, Bool, true, false, cond, List, [], ◌∷◌, ℕ, ◌+◌, ◌-◌, ◌*◌, ◌≤◌, ◌<◌, length, take, drop, get_or, eqb, ltb, leb, Option, Some, None, unwrap_or, not, nat_lt, ◌⊎◌}
+use Rattle.std.proofs.Common.{sym, ap, inl, inr, ◌∙◌, subst, length-drop, length-append, drop_of_length-le, arith, add-one, eq-eqb, ne_eqb, le-leb, leb-true, leb-false, ltb-false, drop-cons, drop-drop}
+use Rattle.std.proofs.lemmas.Bool.{lt-leb, lt-ltb, le-ltb}
+use Rattle.std.specs.List.{position, position_or_len}
+use Rattle.std.proofs.lemmas.List.Recursion.{is_position_or_len}
 use Rattle.text.specs.Tag.{begins}
 use Rattle.text.proofs.TagLaws.{begins-length}
 use Rattle.text.specs.Decimal.{digit, digits, value_of, pick_number, fixed_at}
+use Rattle.text.proofs.DecimalLaws.{digit-is}
 use Rattle.formats.specs.Format.{Res, got, bad, Sound, Format, bind, pick}
 use Rattle.formats.specs.Combine.{strip, strip-sound, map_parse}
 use Rattle.formats.specs.FormatLaws.{sound-of}
-use Rattle.formats.specs.Words.{words_parse}
 use Rattle.formats.specs.Exactly.{exactly_parse, fixed_digits}
 use Rattle.formats.specs.Numbers.{more_parse, number_parse}
 use Rattle.formats.specs.Name.{span, span-split, name_parse}
@@ -29,28 +31,16 @@ tag-moved t s {p} {q} h k e =
     omega (arith, ap length f.0, length-append t (drop q s), length-drop p s, length-drop q s)
 
 module _ (t s : List ℕ) (at : ℕ) where
-  pub tag-there : at ≤ length s → begins t (drop at s) ≡ true → Parsed (strip t) s at tt (Some (at + length t))
+  pub tag-behind : begins t (drop at s) ≡ true → strip t (drop at s) ≡ got tt (drop (at + length t) s)
   unfolding strip
-  tag-there h e = (rw e (ap (got tt) (drop-drop (length t) at s)), omega (arith, begins-length t (drop at s) e, length-drop at s))
+  tag-behind e = rw e (ap (got tt) (drop-drop (length t) at s))
+
+  pub tag-room : at ≤ length s → begins t (drop at s) ≡ true → at + length t ≤ length s
+  tag-room h e = omega (arith, begins-length t (drop at s) e, length-drop at s)
 
   pub tag-none : begins t (drop at s) ≡ false → Parsed (strip t) s at tt None
   unfolding strip
   tag-none e = rw e
-
--- ---- one of two words
-
-module _ (v w s : List ℕ) where
-  pub word_first : {rest : List ℕ} → strip v s ≡ got tt rest → words_parse (v ∷ w ∷ []) s ≡ got 0 rest
-  unfolding words_parse
-  word_first e = rw e
-
-  pub word-second : {rest : List ℕ} → strip v s ≡ bad → strip w s ≡ got tt rest → words_parse (v ∷ w ∷ []) s ≡ got 1 rest
-  unfolding words_parse
-  word-second e f = rw (e, f)
-
-  pub word-none : strip v s ≡ bad → strip w s ≡ bad → words_parse (v ∷ w ∷ []) s ≡ bad
-  unfolding words_parse
-  word-none e f = rw (e, f)
 
 -- ---- a number of n digits
 
@@ -101,13 +91,63 @@ module _ (stop max : ℕ) (s : List ℕ) (p : ℕ) where
   unfolding more_parse
   more-short acc k = rw (drop_of_length-le s k)
 
-  pub more-step : (acc : ℕ) → p < length s
+  more-step : (acc : ℕ) → p < length s
       → more_parse stop max acc (drop p s)
       ≡ cond (eqb (get_or s p 0) stop) (got acc (drop (p + 1) s))
       (pick (digit (get_or s p 0)) (pick (ltb 0 acc) (pick (leb (acc * 10 + (get_or s p 0 - 48)) max)
       (more_parse stop max (acc * 10 + (get_or s p 0 - 48)) (drop (p + 1) s)))))
   unfolding more_parse
   more-step acc k = rw (add-one, drop-cons s p 0)
+
+  -- the same, as each of the code's tests finds it
+  module _ (acc : ℕ) (k : p < length s) where
+    pub more-stop : get_or s p 0 ≡ stop → more_parse stop max acc (drop p s) ≡ got acc (drop (p + 1) s)
+    more-stop e = more-step acc k ∙ rw (eq-eqb (get_or s p 0) stop e)
+
+    module _ (n : get_or s p 0 ≢ stop) where
+      pub more-none : digit (get_or s p 0) ≡ false → more_parse stop max acc (drop p s) ≡ bad
+      more-none e = more-step acc k ∙ rw (ne_eqb (get_or s p 0) stop n, e)
+
+      pub more-zero : digit (get_or s p 0) ≡ true → acc ≡ 0 → more_parse stop max acc (drop p s) ≡ bad
+      more-zero e z = more-step acc k ∙ rw (ne_eqb (get_or s p 0) stop n, e, le-ltb 0 acc (omega arith))
+
+      pub more-over : digit (get_or s p 0) ≡ true → 0 < acc → max < acc * 10 + (get_or s p 0 - 48) → more_parse stop max acc (drop p s) ≡ bad
+      more-over e z h = more-step acc k ∙ rw (ne_eqb (get_or s p 0) stop n, e, lt-ltb 0 acc z, lt-leb (acc * 10 + (get_or s p 0 - 48)) max h)
+
+      pub more-digit : digit (get_or s p 0) ≡ true → 0 < acc → acc * 10 + (get_or s p 0 - 48) ≤ max
+          → more_parse stop max acc (drop p s) ≡ more_parse stop max (acc * 10 + (get_or s p 0 - 48)) (drop (p + 1) s)
+      more-digit e z h = more-step acc k ∙ rw (ne_eqb (get_or s p 0) stop n, e, lt-ltb 0 acc z, le-leb (acc * 10 + (get_or s p 0 - 48)) max h)
+
+-- ---- a name
+
+-- how long it is: as far as the first byte that doesn't pass, or to the end
+span-one : (test : ℕ → Bool) (y : ℕ) (l : List ℕ) → length (span test (y ∷ l)) ≡ cond (not (test y)) 0 (1 + length (span test l))
+unfolding span
+span-one test y l = go (test y)
+  where
+    go : (b : Bool) → length (cond b (y ∷ span test l) []) ≡ cond (not b) 0 (1 + length (span test l))
+    go true = omega arith
+    go false = refl
+
+span-empty : (test : ℕ → Bool) → length (span test []) ≡ 0
+unfolding span
+span-empty test = refl
+
+span-or-len : (test : ℕ → Bool) (l : List ℕ) → length (span test l) ≡ position_or_len (λ x. not (test x)) l
+span-or-len test l = is_position_or_len (λ k. length (span test k)) (λ x. not (test x)) (span-empty test) (span-one test) l
+
+pub span_position : (test : ℕ → Bool) (l : List ℕ) → unwrap_or (position (λ x. not (test x)) l) (length l) ≡ length (span test l)
+span_position test l = go (nat_lt n (length l)) refl
+  where
+    n : ℕ
+    n = position_or_len (λ x. not (test x)) l
+
+    most : length (span test l) ≤ length l
+    most = omega (arith, ap length (span-split test l), length-append (span test l) (drop (length (span test l)) l))
+
+    go : (b : Bool) → nat_lt n (length l) ≡ b → unwrap_or (cond b (Some n) None) (length l) ≡ length (span test l)
+    go true e = sym (span-or-len test l)
+    go false e = omega (arith, most, span-or-len test l, ltb-false n (length l) e)
 
 -- ---- a name, one byte on
 
@@ -151,3 +191,12 @@ module _ (test : ℕ → Bool) (s : List ℕ) (p : ℕ) where
     name-there None h k t =
         let l = span test (drop p s) in
         rw (le-leb least (length l) h, le-leb (length l) most k, drop-drop (length l) p s, t)
+
+-- the same, as the check cites them
+pub ruleset tags = (tag-behind, tag-room, tag-none)
+
+pub ruleset fixed_values = (fixed-there, fixed-none, fixed-room)
+
+pub ruleset number_steps = (number_short, number_step, more-short, more-stop, more-none, more-zero, more-over, more-digit, digit-is)
+
+pub ruleset names = (span-room, name-out, name-there)

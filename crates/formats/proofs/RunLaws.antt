@@ -1,4 +1,5 @@
--- A reading from a place that may be missing to another: what straight-line code does, by the rules of the formats.
+-- Laws about a reading from a place that may be missing to another, by the rules of the formats: what straight-line code does that keeps a mark.
+-- They stand for whoever reads so, under MarksLaws; the reader itself goes by `Reads` of `cursor`, and none of what the code does needs them.
 use Rattle.std.proofs.Math.Path.{◌≡◌, refl, ap}
 use Rattle.std.proofs.Common.{sym, ◌∙◌}
 use Rattle.std.specs.Prelude.{Bool, true, false, List, ◌++◌, ℕ}

@@ -35,3 +35,9 @@ mean-small n sum most h k =
 pub mean-over : (n bias : ℕ) (z : ℤ) (sum : ℕ) → Shares n → Over (bias * n) z sum → Over (grains bias) (z *ℤ pos (share n)) (sum * share n)
 mean-over n bias z sum h o =
     over-mul (share n) (grains bias) o (sym (mul_assoc bias n (share n) ∙ ap (λ (j : ℕ). bias * j) h.whole))
+
+-- the same of numbers of 32 bits, as the check cites it
+pub mean-fits : (n sum : ℕ) → Shares n → sum ≤ 4294967295 * n → sum * share n ≤ grains 4294967295
+mean-fits n sum h k = mean-small n sum 4294967295 h k
+
+pub ruleset means = (mean-fits)

@@ -30,6 +30,7 @@ impl Grains {
     }
 
     // The mean of n numbers of watts, each a u32, that sum up to `sum`.
+    #[tactic(auto, using(crate::specs::GrainsLaws::means))]
     pub fn mean(sum: u64, n: u64) -> Grains
         requires { Shares n × (sum ≤ 4294967295 * n) }
         ensures { result.count ≡ sum * share n }

@@ -8,6 +8,7 @@ use book::Section;
 use book::header::{calendar_of, engagement_count, point_count, version_of};
 use quarters::RangedCalendar;
 
+// The range's own `contains`, called five times in `header_fields`, was tried: what that ensures didn't close.
 fn between(least: u16, most: u16, n: u16) -> bool
     ensures { result ≡ between least most n }
 {
@@ -36,7 +37,7 @@ pub fn header_good(book: &[u8]) -> bool
 }
 
 // What a good header says: the version, the calendar, and how many points and engagements there are.
-#[derive(Clone, Copy)]
+#[derive(Clone, Copy, Debug, PartialEq, Eq)]
 pub struct Header {
     pub version: u16,
     pub calendar: RangedCalendar,

@@ -15,8 +15,8 @@ use searches::metering::judge_readings;
 use searches::register::judge_register;
 
 // The sections with rows, of a book whose layout is good.
-#[derive(Clone, Copy)]
-struct Rows<'a> {
+#[derive(Clone, Copy, Debug, PartialEq, Eq)]
+struct RowSections<'a> {
     header: Header,
     register: &'a [u8],
     readings: &'a [u8],
@@ -26,7 +26,7 @@ struct Rows<'a> {
     ghost engaged: { 16 * header.rows ≤ length engagements.now },
 }
 
-impl<'a> Rows<'a> {
+impl<'a> RowSections<'a> {
     // The rows and the readings: 5 to 7.
     #[tactic(auto, using(crate::proofs::JudgedLaws::few_rows), unfolding(book::specs::Judged::rows_refusal, book::specs::Metering::first_bad_reading))]
     fn judge(self) -> Result<(), Refused>
@@ -59,13 +59,13 @@ fn judge_sections(book: &[u8], header: Header) -> Result<(), Refused>
     if !good {
         return Err(Refused::Tables);
     }
-    let rows = Rows {
+    let sections = RowSections {
         header,
         register: section(book, Section::Register),
         readings: section(book, Section::Readings),
         engagements: section(book, Section::Engagements),
     };
-    rows.judge()
+    sections.judge()
 }
 
 #[tactic(auto, using(book::specs::HeaderLaws::headed), unfolding(book::specs::Judged::refusal_of, book::specs::Header::layout_good))]

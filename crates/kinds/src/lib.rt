@@ -36,6 +36,7 @@ impl TryFrom<u64> for Kind {
     }
 }
 
+// 1 to 3, as document 01 numbers them.
 impl From<Kind> for u64 {
     ghost from_gives = { λ kind number. number ≡ kind_number kind };
 

@@ -48,3 +48,6 @@ reader-exact =
       valid_accepted = λ f ok before after r c h. said-same (c.answer ∙ sym (says-file (file_bytes f) (length before) (message f) [] (is_read f ok) h));
       only_valid = read_of;
     }
+
+-- the same, as the check cites it
+pub ruleset exact_readers = (reader-exact)

@@ -6,6 +6,7 @@ pub mod FileForm
 pub mod FileLaws
 pub mod GroupLaws
 pub mod MessageForm
+pub mod MomentLaws
 pub mod MonthsLaws
 pub mod ObservationForm
 pub mod PartnerForm

@@ -13,6 +13,7 @@ use kinds::Kind;
 use moments::Moment;
 
 // What a file says beside its rows, their number, and where in the file its ID and its moment stand.
+// Year and month are two numbers, 0 and 0 where the file has no series, as the facts of the C interface and the writer's title have them.
 #[derive(Clone, Copy, Debug, PartialEq, Eq)]
 pub struct FileFacts {
     pub kind: Kind,
@@ -34,6 +35,7 @@ pub fn last_position(year: u64, month: u64) -> u64
 }
 
 // A moment's bytes.
+#[tactic(auto, using(crate::proofs::MomentLaws::moment_filled))]
 pub fn moment_text(moment: Moment) -> [u8; 29]
     ensures { result ≡ moment_bytes moment }
 {
@@ -51,6 +53,7 @@ pub fn is_period(year: u64, month: u64) -> bool
 }
 
 // The 29 bytes of a moment: the place behind them.
+#[tactic(auto, using(crate::proofs::MomentLaws::moments_read))]
 pub fn moment_at(s: &[u8], at: usize) -> Option<usize>
     requires { at ≤ length s.now }
     ensures { Parsed (exactly_parse 29 is_moment) s.now at (take 29 (drop at s.now)) result }
@@ -61,6 +64,7 @@ pub fn moment_at(s: &[u8], at: usize) -> Option<usize>
 }
 
 // That the file reader accepts exactly the files of our form. It does nothing: what it ensures has to be proved.
+#[tactic(auto, using(crate::proofs::ExactLaws::exact_readers))]
 pub fn reader_is_exact()
     ensures { ReaderExact }
 {}

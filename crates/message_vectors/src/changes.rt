@@ -23,8 +23,8 @@ fn values_at(rt: &impl Print, file: &mut [u8], place: usize, rows: &mut [u64]) -
 {
     let old = file[place];
     let mut count = 0;
-    for value in 0..256u64 {
-        file[place] = value as u8;
+    for value in 0..=255u8 {
+        file[place] = value;
         if is_read(rt, file, rows)? {
             count += 1;
         }

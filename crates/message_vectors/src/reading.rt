@@ -29,7 +29,7 @@ pub fn written_back(facts: FileFacts, file: &[u8], rows: &[u64]) -> bool {
         &mut again,
     );
     match answer {
-        Ok(n) => between(&again, 0, n) == file,
+        Ok(n) => again.get(..n) == Some(file),
         Err(_) => false,
     }
 }
@@ -59,20 +59,18 @@ fn answer_file(rt: &impl Print, facts: FileFacts, file: &[u8], numbers: &[u64]) 
     Ok(())
 }
 
-// Reads a file into the first n numbers of rows.
+// Reads a file into the first n numbers of rows; those behind them are to be kept.
 fn read_file(rt: &impl Print, file: &[u8], rows: &mut [u64], n: usize) -> io::Result<()>
     requires { n ≤ length rows.old }
 {
     lent::prepare(rows);
     match reader::read(file, &mut rows[..n]) {
         Ok(facts) => answer_file(rt, facts, file, rows),
-        Err(refused) => {
-            println!(rt; "{refused}")?;
-            lent::kept(rt, rows)
-        }
+        Err(refused) => answers::refusal(rt, &refused, rows),
     }
 }
 
+// A word that is missing or no number is 0, here and in the writer's cases, as the stored cases have it.
 // Puts the base with the edits that the words say into out; answers how many bytes. A turn takes as many words as an edit has.
 fn edited(mut words: Words, base: &[u8], out: &mut [u8]) -> usize
     ensures { result ≤ length out.old }

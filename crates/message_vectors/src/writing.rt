@@ -5,13 +5,13 @@ use crate::parts::{between, part, split_rows};
 use crate::reading::kind_byte;
 use crate::{FILE_ROOM, ROWS_ROOM};
 use cases::hex::Hex;
-use cases::lent;
 use cases::words::Words;
+use cases::{answers, lent};
 use message::FileFacts;
 use std::io;
 
-// What a file is written of beside its rows, its ID and its moment.
-#[derive(Clone, Copy, PartialEq, Eq)]
+// What a file is written of beside its rows, its ID and its moment. The kind is a number, as the write call takes it.
+#[derive(Clone, Copy, Debug, PartialEq, Eq)]
 struct Head {
     kind: u8,
     receiver: u64,
@@ -31,8 +31,8 @@ impl Head {
 }
 
 // What a file is written of, how many bytes are lent, and between which places those that are written are printed.
-#[derive(Clone, Copy)]
-struct Case {
+#[derive(Clone, Copy, Debug, PartialEq, Eq)]
+struct WriteCase {
     head: Head,
     id: Hex<80>,
     moment: Hex<80>,
@@ -42,7 +42,7 @@ struct Case {
 }
 
 // Whether what is read of a file is what it was written of.
-fn read_back(case: &Case, rows: &[u64], file: &[u8]) -> bool {
+fn read_back(case: &WriteCase, rows: &[u64], file: &[u8]) -> bool {
     let mut again = [0; ROWS_ROOM];
     let Ok(facts) = reader::read(file, &mut again) else {
         return false;
@@ -56,7 +56,7 @@ fn read_back(case: &Case, rows: &[u64], file: &[u8]) -> bool {
 // The bytes between two places of the n that were written, which are to be read back; the bytes behind those n are to be kept.
 fn answer_bytes(
     rt: &impl Print,
-    case: &Case,
+    case: &WriteCase,
     rows: &[u64],
     file: &[u8],
     n: usize,
@@ -72,7 +72,7 @@ fn answer_bytes(
 }
 
 // Writes from rows into as many bytes of file as are lent.
-fn write_rows(rt: &impl Print, case: &Case, rows: &[u64], file: &mut [u8]) -> io::Result<()> {
+fn write_rows(rt: &impl Print, case: &WriteCase, rows: &[u64], file: &mut [u8]) -> io::Result<()> {
     lent::prepare(file);
     let lent = case.lent.min(file.len());
     let answer = writer::writing::write(
@@ -87,10 +87,7 @@ fn write_rows(rt: &impl Print, case: &Case, rows: &[u64], file: &mut [u8]) -> io
     );
     match answer {
         Ok(n) => answer_bytes(rt, case, rows, file, n),
-        Err(refused) => {
-            println!(rt; "{refused}")?;
-            lent::kept(rt, file)
-        }
+        Err(refused) => answers::refusal(rt, &refused, file),
     }
 }
 
@@ -115,7 +112,7 @@ pub fn write_case(rt: &impl Print, mut words: Words, from: usize, to: usize) -> 
         year: words.number().unwrap_or(0),
         month: words.number().unwrap_or(0),
     };
-    let case = Case {
+    let case = WriteCase {
         head,
         lent: words.number().unwrap_or(0) as usize,
         id: words.hex().unwrap_or_default(),

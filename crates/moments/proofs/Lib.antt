@@ -1,1 +1,2 @@
 pub mod IdsLaws
+pub mod InstantLaws

@@ -39,7 +39,8 @@ pub fn real_time(hour: u64, minute: u64, second: u64, milli: u64) -> bool
     hour <= 23 && minute <= 59 && second <= 59 && milli <= 999
 }
 
-// The number of n digits at `at`, 0 where there is none: a place, and no part, since the bytes may be too few.
+// The number of n digits at `at`, 18 at most: a place, and no part, since the bytes may be too few.
+// 0 where there is none, and no Option: `read_moment` writes again what was read, and compares.
 #[tactic(auto, unfolding(crate::specs::Moments::value_at))]
 fn value_at(s: &[u8], at: usize, n: usize) -> u64
     requires { n ≤ 18 }
@@ -73,6 +74,7 @@ fn millis(days: u64, hour: u64, minute: u64, second: u64, milli: u64) -> u64
     (((days * 24 + hour) * 60 + minute) * 60 + second) * 1000 + milli
 }
 
+// Its bytes are put one by one, and not by Display, whose contract doesn't say them.
 impl Moment {
     // Whether it is one of 2018 to 2099 with either offset.
     #[tactic(auto, unfolding(crate::specs::Moments::real))]
@@ -85,7 +87,7 @@ impl Moment {
     }
 
     // 2021-08-02
-    #[tactic(auto, using(text::proofs::WrittenLaws::and_then), unfolding(crate::specs::Moments::date_bytes, text::specs::Ascii::bytes, text::specs::Decimal::fixed))]
+    #[tactic(auto, using(text::proofs::WrittenLaws::writes), unfolding(crate::specs::Moments::date_bytes, text::specs::Ascii::bytes, text::specs::Decimal::fixed))]
     fn write_date(self, out: &mut [u8], at: usize) -> usize
         requires { at + 10 ≤ length out.old }
         ensures { Wrote out.old at (date_bytes self) out.new result }
@@ -98,7 +100,7 @@ impl Moment {
     }
 
     // T09:00:00
-    #[tactic(auto, using(text::proofs::WrittenLaws::and_then), unfolding(crate::specs::Moments::time_bytes, text::specs::Ascii::bytes, text::specs::Decimal::fixed))]
+    #[tactic(auto, using(text::proofs::WrittenLaws::writes), unfolding(crate::specs::Moments::time_bytes, text::specs::Ascii::bytes, text::specs::Decimal::fixed))]
     fn write_time(self, out: &mut [u8], at: usize) -> usize
         requires { at + 9 ≤ length out.old }
         ensures { Wrote out.old at (time_bytes self) out.new result }
@@ -112,7 +114,7 @@ impl Moment {
     }
 
     // .000+02:00
-    #[tactic(auto, using(text::proofs::WrittenLaws::and_then), unfolding(crate::specs::Moments::tail_bytes, text::specs::Ascii::bytes, text::specs::Decimal::fixed))]
+    #[tactic(auto, using(text::proofs::WrittenLaws::writes), unfolding(crate::specs::Moments::tail_bytes, text::specs::Ascii::bytes, text::specs::Decimal::fixed))]
     fn write_tail(self, out: &mut [u8], at: usize) -> usize
         requires { at + 10 ≤ length out.old }
         ensures { Wrote out.old at (tail_bytes self) out.new result }
@@ -125,7 +127,7 @@ impl Moment {
     }
 
     // Writes its 29 bytes at `at`; answers the place behind them.
-    #[tactic(auto, using(text::proofs::WrittenLaws::and_then), unfolding(crate::specs::Moments::moment_bytes, crate::specs::Moments::date_bytes, crate::specs::Moments::time_bytes, crate::specs::Moments::tail_bytes, text::specs::Ascii::bytes, text::specs::Decimal::fixed))]
+    #[tactic(auto, using(text::proofs::WrittenLaws::writes), unfolding(crate::specs::Moments::moment_bytes, crate::specs::Moments::date_bytes, crate::specs::Moments::time_bytes, crate::specs::Moments::tail_bytes, text::specs::Ascii::bytes, text::specs::Decimal::fixed))]
     pub fn write(self, out: &mut [u8], at: usize) -> usize
         requires { at + 29 ≤ length out.old }
         ensures { Wrote out.old at (moment_bytes self) out.new result }
@@ -136,6 +138,7 @@ impl Moment {
     }
 
     // Milliseconds from the start of day 0, the offset taken off.
+    #[tactic(auto, using(crate::proofs::InstantLaws::real_moments), unfolding(crate::specs::MomentsInner::instant, crate::specs::MomentsInner::clock))]
     pub fn instant(self) -> u64
         requires { real self ≡ true }
         ensures { result ≡ instant self }

@@ -145,6 +145,19 @@ inside input a l =
       book = omega (arith, r, ap (λ (b : Asked). b.book) f.is);
     }
 
+-- the same, as the check cites it
+module _ (input : List ℕ) (a : Asked) (l : Some a ≡ request_of input) where
+  pub inside-id : a.id + a.id_length ≤ length input
+  inside-id = (inside input a l).id
+
+  pub inside-moment : a.moment + 29 ≤ length input
+  inside-moment = (inside input a l).moment
+
+  pub inside-book : a.book ≤ length input
+  inside-book = (inside input a l).book
+
+pub ruleset parts_inside = (inside-id, inside-moment, inside-book)
+
 -- an answer without the number of settlement rows
 abbrev pub bytes_of : Result (ℕ × ℕ) Refused → Result ℕ Refused
 bytes_of (Ok counts) = Ok counts.1

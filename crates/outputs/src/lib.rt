@@ -25,6 +25,7 @@ fn put_refused(out: &mut [u8], refused: Refused) -> usize
 }
 
 // The file that a line asks for, in front of `out`: how many bytes, or the refusal.
+#[tactic(auto, using(crate::proofs::OutputLaws::parts_inside))]
 fn file_asked(
     input: &[u8],
     asked: Asked,

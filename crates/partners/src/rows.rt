@@ -2,7 +2,6 @@
 ghost use Rattle.std.specs.Prelude.{◌≡◌, ◌∷◌, [], ◌+◌, ◌*◌, ◌≤◌, ◌<◌, length};
 ghost use Rattle.book.specs.Book.{book_of};
 ghost use Rattle.message.specs.Reading.{observed};
-ghost use Rattle.reports.specs.FileRows.{supply_number, delivery_number};
 ghost use Rattle.partners.specs.ObservationsInner.{observation_if, observations_in};
 ghost use Rattle.partners.specs.PartnerRowsInner.{row_of, rows_by, series_rows_of, partner_rows_of, FileRowsFilled};
 ghost use Rattle.volumes.specs.Series.{series_of};
@@ -14,32 +13,12 @@ use series::{FileSeries, Role};
 use volumes::Series;
 use writer::FileRow;
 
-// The directions as a file's rows have them.
-fn supply_number(supply: Supply) -> u64
-    ensures { result ≡ supply_number supply }
-{
-    match supply {
-        Supply::OffTake => 0,
-        Supply::Injection => 1,
-    }
-}
-
-fn delivery_number(delivery: Direction) -> u64
-    ensures { result ≡ delivery_number delivery }
-{
-    match delivery {
-        Direction::Up => 0,
-        Direction::Down => 1,
-    }
-}
-
-// A row at `at`; the place behind it.
+// A row at `at`, with the directions' numbers; the place behind it.
 fn push_row(rows: &mut [FileRow], at: usize, s: Series, position: u64, watts: u64) -> usize
     requires { at < length rows.old }
     ensures { FileRowsFilled (row_of s (observed (position, watts)) ∷ []) rows.old at rows.new result }
 {
-    let supply = supply_number(s.supply);
-    let delivery = delivery_number(s.delivery);
+    let (supply, delivery) = (s.supply as u64, s.delivery as u64);
     rows[at] = [s.partner, supply, delivery, position, watts, 0];
     at + 1
 }
@@ -61,8 +40,8 @@ pub fn push_watts(rows: &mut [FileRow], start: usize, s: Series, watts: &[u64]) 
     ensures { FileRowsFilled (rows_by s (observations_in watts.now (length watts.now))) rows.old start rows.new result }
 {
     let mut at = start;
-    for i in 0..watts.len() {
-        at = push_position(rows, at, s, i as u64 + 1, watts[i]);
+    for (i, power) in watts.iter().enumerate() {
+        at = push_position(rows, at, s, i as u64 + 1, *power);
     }
     at
 }
@@ -89,33 +68,20 @@ fn series_to(role: Role, partner: u64, supply: Supply, delivery: Direction) -> F
     FileSeries { role, series }
 }
 
-// The rows of a partner, four series of a longest month at most: how many they are.
+// The rows of a partner, four series of a longest month at most: how many they are. Any slice that long will do; an array's type would ask more of callers.
 pub fn fill_partner(delivered: &Delivered, role: Role, partner: u64, rows: &mut [FileRow]) -> usize
     requires { 4 * longest_month ≤ length rows.old }
     ensures { FileRowsFilled (partner_rows_of (book_of delivered.now.book.now) role.kind role.receiver partner) rows.old 0 rows.new result × (result ≤ 4 * longest_month) }
 {
-    let a = fill_series(
-        delivered,
-        series_to(role, partner, Supply::OffTake, Direction::Up),
-        rows,
-        0,
-    );
-    let b = fill_series(
-        delivered,
-        series_to(role, partner, Supply::OffTake, Direction::Down),
-        rows,
-        a,
-    );
-    let c = fill_series(
-        delivered,
-        series_to(role, partner, Supply::Injection, Direction::Up),
-        rows,
-        b,
-    );
-    fill_series(
-        delivered,
-        series_to(role, partner, Supply::Injection, Direction::Down),
-        rows,
-        c,
-    )
+    let mut at = 0;
+    for (supply, delivery) in [
+        (Supply::OffTake, Direction::Up),
+        (Supply::OffTake, Direction::Down),
+        (Supply::Injection, Direction::Up),
+        (Supply::Injection, Direction::Down),
+    ] {
+        let series = series_to(role, partner, supply, delivery);
+        at = fill_series(delivered, series, rows, at);
+    }
+    at
 }

@@ -1,1 +1,2 @@
 pub mod ViewsInner
+pub mod MonthLaws

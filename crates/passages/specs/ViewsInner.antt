@@ -3,17 +3,17 @@ use Rattle.std.specs.Prelude.{ℕ, Option, Some, None, Bool, true, false}
 use Rattle.calendar.specs.declared.dates.Month.{Month}
 use Rattle.message.specs.Contents.{Observation}
 use Rattle.message.specs.Reading.{is_period}
-use Rattle.passages.specs.declared.Observed.{Observed}
+use Rattle.passages.specs.declared.ReadObservation.{ReadObservation}
 
 -- "supply direction (0 off-take, 1 injection)", "direction (0 up, 1 down)"
 abbrev pub bit : Bool → ℕ
 bit true = 1
 bit false = 0
 
-abbrev pub numbers_of : Observed → ℕ × ℕ
+abbrev pub numbers_of : ReadObservation → ℕ × ℕ
 numbers_of o = (o.position, o.watts)
 
-abbrev pub observation_of : Observed → Observation
+abbrev pub observation_of : ReadObservation → Observation
 observation_of o = record { position = o.position; watts = o.watts }
 
 abbrev pub year_and_month : Month → ℕ × ℕ

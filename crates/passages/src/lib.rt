@@ -15,7 +15,7 @@ use calendar::dates::Month;
 use cursor::Cursor;
 
 // Watts, written as kilowatts with three decimals.
-#[tactic(auto, unfolding(message::specs::Reading::quantity_parse, formats::specs::Exactly::fixed_parse, formats::specs::Combine::map_parse, formats::specs::Combine::seq_parse))]
+#[tactic(auto, using(crate::proofs::WordLaws::whole_few, crate::proofs::WordLaws::part_few), unfolding(message::specs::Reading::quantity_parse, formats::specs::Exactly::fixed_parse, formats::specs::Combine::map_parse, formats::specs::Combine::seq_parse))]
 pub fn quantity(c: &mut Cursor) -> Option<u64>
     ensures { Reads quantity_parse c.old c.new result }
 {
@@ -26,14 +26,14 @@ pub fn quantity(c: &mut Cursor) -> Option<u64>
 
 // An observation's position in its month, and its watts.
 #[derive(Clone, Copy, Debug, PartialEq, Eq)]
-pub struct Observed {
+pub struct ReadObservation {
     pub position: u64,
     pub watts: u64,
 }
 
 // An observation of any position and watts.
 #[tactic(auto, unfolding(text::specs::Ascii::bytes, message::specs::Bytes::opening, message::specs::Bytes::ending, message::specs::Bytes::closing, message::specs::Reading::position_parse, message::specs::Reading::plain_parse, formats::specs::Combine::pre_parse, formats::specs::Combine::post_parse, formats::specs::Combine::seq_parse))]
-fn position(c: &mut Cursor) -> Option<Observed>
+pub fn any_observation(c: &mut Cursor) -> Option<ReadObservation>
     ensures { Reads position_parse c.old c.new (option_map numbers_of result) }
 {
     c.tag(b"<Observation><Position>")?;
@@ -41,15 +41,15 @@ fn position(c: &mut Cursor) -> Option<Observed>
     c.tag(b"/Position><Quantity>")?;
     let watts = quantity(c)?;
     c.tag(b"</Quantity></Observation>")?;
-    Some(Observed { position, watts })
+    Some(ReadObservation { position, watts })
 }
 
 // An observation of a month with so many positions.
 #[tactic(auto, unfolding(message::specs::Reading::observation_parse, formats::specs::Combine::map_parse, formats::specs::Combine::only_parse))]
-pub fn observation(c: &mut Cursor, last: u64) -> Option<Observed>
+pub fn observation(c: &mut Cursor, last: u64) -> Option<ReadObservation>
     ensures { Reads (observation_parse last) c.old c.new (option_map observation_of result) }
 {
-    let o = position(c)?;
+    let o = any_observation(c)?;
     if last < o.position {
         return None;
     }
@@ -107,6 +107,7 @@ pub fn period(c: &mut Cursor) -> Option<Month>
 }
 
 // A transaction ID, and the byte that ends it.
+#[tactic(auto, using(crate::proofs::WordLaws::behind_name, crate::proofs::WordLaws::a_name))]
 pub fn id<'a>(c: &mut Cursor<'a>) -> Option<&'a [u8]>
     ensures { Reads (name_parse name_byte 1 36 60) c.old c.new (option_map (λ s. s.now) result) }
 {
@@ -117,6 +118,7 @@ pub fn id<'a>(c: &mut Cursor<'a>) -> Option<&'a [u8]>
 }
 
 // Whether the second of two words stands at the cursor; none where neither does.
+#[tactic(auto, using(crate::proofs::WordLaws::two_told))]
 pub fn second_word(c: &mut Cursor, first: &[u8], second: &[u8]) -> Option<bool>
     ensures { Reads (words_parse (first.now ∷ second.now ∷ [])) c.old c.new (option_map bit result) }
 {

@@ -1,10 +1,11 @@
 -- From the reading of a file at a cursor to what the call answers: no file, bytes left behind one, or all of a file, whose rows were stored.
-use Rattle.std.specs.Prelude.{IsErrAnd, ◌≡◌, refl, ℕ, suc, ◌*◌, ◌^◌, ◌≤◌, ◌<◌, length, drop, get_or, Some, None, Result, Ok, Err}
+use Rattle.std.specs.Prelude.{IsErrAnd, ◌≡◌, refl, ℕ, suc, ◌*◌, ◌/◌, ◌^◌, ◌≤◌, ◌<◌, length, drop, get_or, Some, None, Result, Ok, Err}
 use Rattle.std.proofs.Common.{sym, ap, ◌∙◌, subst, arith, length-append, drop_of_length-le, drop-cons}
 use mathlib.Core.List.{List, [], ◌∷◌, ◌++◌}
 use Rattle.integers.specs.All.{All}
 use Rattle.refusals.specs.Buffers.{over, afterwards}
 use Rattle.refusals.specs.declared.Refused.{Refused}
+use Rattle.refusals.specs.declared.Refused.TheVariants.{Short, NoFile}
 use Rattle.refusals.specs.Sent.{said}
 use Rattle.formats.specs.Format.{Res, got, bad}
 use Rattle.formats.specs.FormatLaws.{sound-of}
@@ -23,7 +24,7 @@ use Rattle.message.specs.Calls.{id_place, moment_place, facts_of, read_refusal, 
 use Rattle.message.proofs.FileForm.{file}
 use Rattle.message.proofs.ReadingLaws.{file-parse}
 use Rattle.message.proofs.SizeLaws.{file-least}
-use Rattle.message.proofs.CallsLaws.{written_over, accepted-is, called-refused}
+use Rattle.message.proofs.CallsLaws.{says-no-file, says-short, says-file, written_over, accepted-is, called-refused}
 use Rattle.series_reader.specs.declared.rows.Rows.{Rows}
 use Rattle.series_reader.specs.RowsInner.{held, with_rows, Filled}
 use Rattle.series_reader.proofs.RowsLaws.{rows-fit, rows-counted}
@@ -136,33 +137,45 @@ module _ (s : List ℕ) {c d : Cursor} {before after : Rows} (at : c.at ≡ 0) (
 
 -- ---- from what is told to what was read
 
-pub record Told (s : List ℕ) (t : FileFacts) : Type 0 where
+pub record FactsTold (s : List ℕ) (t : FileFacts) : Type 0 where
   pub message : Message
   pub rest : List ℕ
   pub read : read_message s ≡ got message rest
   pub facts : t ≡ facts_of message
   pub many : t.rows ≡ length message.rows
 
-pub told-none : (x : Res Message) → None ≡ facts_in x → x ≡ bad
+told-none : (x : Res Message) → None ≡ facts_in x → x ≡ bad
 told-none bad e = refl
 told-none (got m r) e = cc
 
-pub told-some : (s : List ℕ) (t : FileFacts) → Some t ≡ facts_in (read_message s) → Told s t
+told-some : (s : List ℕ) (t : FileFacts) → Some t ≡ facts_in (read_message s) → FactsTold s t
 unfolding facts_of
 told-some s t e = go (read_message s) refl e
   where
-    go : (x : Res Message) → read_message s ≡ x → Some t ≡ facts_in x → Told s t
+    go : (x : Res Message) → read_message s ≡ x → Some t ≡ facts_in x → FactsTold s t
     go bad f e = cc
     go (got m r) f e = let g : t ≡ facts_of m = cc in record { message = m; rest = r; read = f; facts = g; many = ap (λ (k : FileFacts). k.rows) g }
 
+-- ---- what is told is what the call answers
+
+module _ (s : List ℕ) (lent : ℕ) where
+  pub answers_none : None ≡ facts_in (read_message s) → said (Err NoFile) ≡ read_answer s lent
+  answers_none e = says-no-file s lent (told-none (read_message s) e)
+
+  pub answers_short : (t : FileFacts) → Some t ≡ facts_in (read_message s) → lent / 6 < t.rows → said (Err (Short 0)) ≡ read_answer s lent
+  answers_short t e h = let g = told-some s t e in says-short s lent g.message g.rest g.read (omega (arith, g.many))
+
+  pub answers_file : (t : FileFacts) → Some t ≡ facts_in (read_message s) → t.rows ≤ lent / 6 → said (Ok t) ≡ read_answer s lent
+  answers_file t e h = let g = told-some s t e in ap (λ (f : FileFacts). said (Ok f)) g.facts ∙ says-file s lent g.message g.rest g.read (omega (arith, g.many))
+
 -- ---- the rows, by the second reading
 
-pub file-called : (s before after : List ℕ) (t : FileFacts) → said (Ok t) ≡ read_answer s (length before) → RowsRead (read_message s) before after → ReadCalled s before after (Ok t)
-file-called s before after t e h =
+pub file_called : (s before after : List ℕ) (t : FileFacts) → said (Ok t) ≡ read_answer s (length before) → RowsRead (read_message s) before after → ReadCalled s before after (Ok t)
+file_called s before after t e h =
     let a = accepted-is s before (afterwards (read_refusal (read_message s) (length before)) (numbers (message_in (read_message s)).rows) before) t (record { answer = e; rows = refl }) in
     record { answer = e; rows = subst (λ (x : Res Message). RowsRead x before after) a.read h a.long ∙ sym a.rows }
 
 -- a refusal is passed on
-pub refusal-called : (s rows : List ℕ) (e : Refused) (r : Result FileFacts Refused) → IsErrAnd r (λ f. f ≡ e) → said (Err e) ≡ read_answer s (length rows) → ReadCalled s rows rows r
-refusal-called s rows e (Ok t) i a = absurd i
-refusal-called s rows e (Err f) i a = called-refused s rows f (ap (λ (g : Refused). said (Err g)) i ∙ a)
+pub refusal_called : (s rows : List ℕ) (e : Refused) (r : Result FileFacts Refused) → IsErrAnd r (λ f. f ≡ e) → said (Err e) ≡ read_answer s (length rows) → ReadCalled s rows rows r
+refusal_called s rows e (Ok t) i a = absurd i
+refusal_called s rows e (Err f) i a = called-refused s rows f (ap (λ (g : Refused). said (Err g)) i ∙ a)

@@ -1,9 +1,11 @@
--- How a file is read: its root and moment, and what month and rows its partners give.
+-- Laws about a reading of a file that keeps marks: its root and moment, and what month and rows its partners give.
+-- They stand for whoever reads so; the reader itself goes by `Reads` and `Filled`, and nothing above needs them.
 use Rattle.std.specs.Prelude.{◌≡◌, refl, ℕ, zero, suc, ◌+◌, length, take, Option, Some, None}
 use Rattle.std.proofs.Common.{sym, ap, ◌∙◌, length-append, arith}
 use mathlib.Core.List.{List, [], ◌∷◌, ◌++◌, map, flat_map}
 use Rattle.std.proofs.lemmas.List.{length-map}
 use Rattle.integers.specs.All.{All}
+use Rattle.text.specs.Ascii.{bytes}
 use Rattle.formats.specs.FormatLaws.{got-bad}
 use Rattle.formats.specs.Combine.{strip}
 use Rattle.formats.specs.Words.{words_parse}
@@ -11,6 +13,9 @@ use Rattle.formats.specs.Name.{name_byte, span}
 use Rattle.formats.proofs.RunLaws.{run-map, run-seq, run-pre, run-post}
 use Rattle.formats.proofs.MarksLaws.{Parsed, left}
 use Rattle.formats.proofs.MarksLaws.{parsed, not_there}
+use Rattle.cursor.specs.declared.Cursor.{Cursor}
+use Rattle.cursor.specs.ReadsInner.{Reads}
+use Rattle.cursor.proofs.MarkedReadsLaws.{reads-parsed}
 use Rattle.kinds.specs.declared.Kind.{Kind}
 use Rattle.kinds.specs.declared.Kind.TheVariants.{Toe01, Toe02, Toe03}
 use Rattle.message.specs.Contents.{Observation, TimeSeries, Partner, File}
@@ -50,6 +55,10 @@ unfolding kind_form roots kind_of
 root-first s m q h =
     let p = words-first (opening (root Toe01)) (opening (root Toe02) ∷ opening (root Toe03) ∷ []) s m q h in
     record { run = run-map kind_of p.run; within = p.within }
+
+pub root-found : {c d : Cursor} → Reads (strip (bytes "<AggregatedToEVolumesForFSP>")) c d (Some tt) → Parsed kind_form.parse c.text.now (Some c.at) (Some d.at) Toe01
+unfolding opening root bytes
+root-found {c} {d} h = root-first c.text.now (Some c.at) d.at (reads-parsed tt h)
 
 pub root-rest : (s : List ℕ) (m r : Option ℕ) (n : ℕ) → Parsed (strip (opening (root Toe01))) s m None tt → Parsed (words_parse (opening (root Toe02) ∷ opening (root Toe03) ∷ [])) s m r n
     → Parsed kind_form.parse s m r (kind_of (suc n))

@@ -1,4 +1,5 @@
--- How a partner is read: its head, its series, its end.
+-- Laws about a reading of a partner that keeps a mark: its head, its series and its end, one behind the other, are the partner's form.
+-- They stand for whoever reads so; the reader itself goes by `Reads` and `Filled`, and nothing above needs them.
 use Rattle.std.specs.Prelude.{◌≡◌, refl, Bool, true, false, List, [], ◌++◌, ℕ, drop, Option, Some, None}
 use Rattle.std.proofs.Common.{sym, arith}
 use Rattle.formats.specs.Format.{Res, got, bad, Format}

@@ -1,4 +1,5 @@
--- How partners, each behind the other, fill the rows, and that these are the file's.
+-- Laws about a reading of partners that keeps a mark and fills rows: partners, each behind the other, fill them, and these are the file's.
+-- They stand for whoever reads so; the reader itself goes by `Filled`, and nothing above needs them.
 use Rattle.std.specs.Prelude.{◌≡◌, refl, leb, length, drop, Option, Some}
 use Rattle.std.proofs.Common.{sym, ap, ap₂, ◌∙◌, length-append, add-one, arith}
 use Rattle.std.proofs.Math.Path.{subst}
@@ -23,7 +24,8 @@ use Rattle.series_reader.proofs.MarkedSeriesInner.{counting, list_form}
 use Rattle.reader.proofs.MarkedPartnerLaws.{Head, head_parse, partner-seen}
 use Rattle.reader.proofs.MarkedPartnersInner.{numbered, partner_kept, partner_item}
 use Rattle.reader.proofs.MarkedPartnersLaws.{partner_onto, months-folded}
-use Rattle.series_reader.proofs.MarkedFillingInner.{Fills, rows_of_observation, rows_of_series, rows_of_partner}
+use Rattle.series_reader.proofs.MarkedFillingInner.{Fills, rows_of_series, rows_of_partner}
+use Rattle.series_reader.specs.RowsInner.{rows_of_observation}
 use Rattle.series_reader.proofs.MarkedFillingLaws.{fills-view, fills-only, fills-bad, fills-within, fills-none, fills-step}
 use Rattle.series_reader.proofs.MarkedSeriesFillingLaws.{fills-all, rows-each}
 

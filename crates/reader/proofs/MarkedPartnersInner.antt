@@ -1,4 +1,5 @@
--- How a file's partners are read: each behind the one before it, and what is kept of them.
+-- Definitions for a reading of a file's partners that keeps a mark: each behind the one before it, and what is kept of them.
+-- They stand for whoever reads so; the reader itself goes by `Reads` and `Filled`.
 use Rattle.std.specs.Prelude.{List, ℕ}
 use Rattle.formats.specs.Format.{Format}
 use Rattle.formats.specs.Rising.{from_low}

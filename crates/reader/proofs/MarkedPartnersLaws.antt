@@ -1,4 +1,5 @@
--- How the partners are read one after the other.
+-- Laws about a reading of partners that keeps a mark: the turns, one partner after the other, give what their form gives.
+-- They stand for whoever reads so; the reader itself goes by `Filled` and `Turned`, and nothing above needs them.
 use Rattle.std.specs.Prelude.{◌≡◌, Bool, true, false, List, [], ◌∷◌, map, leb, Option}
 use Rattle.std.proofs.Math.Path.{refl, ap}
 use Rattle.std.proofs.Common.{sym, ◌∙◌, add-one}

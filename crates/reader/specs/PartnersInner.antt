@@ -13,7 +13,7 @@ use Rattle.message.specs.Rows.{Row}
 use Rattle.message.specs.Reading.{counted_parse, own_series_parse, series_list_parse, partner_parse}
 use Rattle.series_reader.specs.RowsInner.{rows_of_partner}
 use Rattle.series_reader.specs.ViewsInner.{month_seen}
-use Rattle.reader.specs.declared.partners.Told.{Told}
+use Rattle.reader.specs.declared.partners.ReadPartner.{ReadPartner}
 
 -- a supplier or an FSP, by the tags before and behind its number and at its end
 unfoldable pub company_parse : List ℕ → List ℕ → List ℕ → ℕ × ℕ → List ℕ → Res Partner
@@ -27,7 +27,7 @@ company_parse before behind end seen =
 abbrev pub kept_of_partner : ℕ × ℕ → Partner → ℕ × (ℕ × ℕ)
 kept_of_partner seen p = (p.number, next_months seen p)
 
-abbrev pub partner_told : Told → ℕ × (ℕ × ℕ)
+abbrev pub partner_told : ReadPartner → ℕ × (ℕ × ℕ)
 partner_told t = (t.number, month_seen t.seen.month)
 
 -- the next partner: of a number from low on

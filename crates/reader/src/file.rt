@@ -16,9 +16,7 @@ use series_reader::rows::Rows;
 fn opening(c: &mut Cursor) -> Option<Kind>
     ensures { Reads kind_parse c.old c.new result }
 {
-    let mut first = *c;
-    if let Some(()) = first.tag(b"<AggregatedToEVolumesForFSP>") {
-        *c = first;
+    if let Some(()) = c.tag(b"<AggregatedToEVolumesForFSP>") {
         return Some(Kind::Toe01);
     }
     let n = c.word(
@@ -64,7 +62,7 @@ fn end(c: &mut Cursor, kind: Kind) -> Option<()>
     }
 }
 
-// A file; its rows are stored, but not told.
+// A file; its rows are stored, but not told. (`file_told` is the form's value, which has no count: `facts` puts it in.)
 #[tactic(auto, unfolding(text::specs::Ascii::bytes, message::specs::Bytes::opening, message::specs::Bytes::ending, message::specs::Bytes::closing, message::specs::Reading::file_parse, message::specs::Reading::plain_parse, formats::specs::Exactly::fixed_parse, formats::specs::Combine::map_parse, formats::specs::Combine::pre_parse, formats::specs::Combine::post_parse, formats::specs::Combine::seq_parse))]
 pub fn file(c: &mut Cursor, rows: &mut Rows) -> Option<FileFacts>
     ensures { Filled file_parse (kept_of_file c.old.at) rows_of_file c.old c.new rows.old rows.new (option_map file_told result) }

@@ -33,6 +33,7 @@ fn facts(file: &[u8], numbers: &mut [u64]) -> Option<FileFacts>
 }
 
 // What reading a file answers where so many numbers of rows are lent; none is at hand (a refusal leaves the rows as they were).
+#[tactic(auto, using(crate::proofs::FactsLaws::answers_none, crate::proofs::FactsLaws::answers_short, crate::proofs::FactsLaws::answers_file))]
 pub fn judge(file: &[u8], lent: usize) -> Result<FileFacts, Refused>
     ensures { said result ≡ read_answer file.now lent }
 {
@@ -47,6 +48,7 @@ pub fn judge(file: &[u8], lent: usize) -> Result<FileFacts, Refused>
 }
 
 // A file is read: judged first, then read again into the lent rows.
+#[tactic(auto, using(crate::proofs::FactsLaws::file_called, crate::proofs::FactsLaws::refusal_called))]
 pub fn read(file: &[u8], rows: &mut [u64]) -> Result<FileFacts, Refused>
     ensures { ReadCalled file.now rows.old rows.new result }
 {

@@ -12,7 +12,7 @@ use series_reader::series::{Seen, rises, series_list, supply};
 
 // A partner that was read: its number, and the month that was seen last.
 #[derive(Clone, Copy, Debug, PartialEq, Eq)]
-pub struct Told {
+pub struct ReadPartner {
     pub number: u64,
     pub seen: Seen,
 }
@@ -26,7 +26,7 @@ fn company(
     before: &[u8],
     behind: &[u8],
     end: &[u8],
-) -> Option<Told>
+) -> Option<ReadPartner>
     ensures { Filled (company_parse before.now behind.now end.now (month_seen seen.month)) (kept_of_partner (month_seen seen.month)) rows_of_partner c.old c.new rows.old rows.new (option_map partner_told result) }
 {
     c.tag(before)?;
@@ -36,12 +36,12 @@ fn company(
     c.tag(b"/DirectionCounter>")?;
     let seen = series_list(c, rows, number, None, count, seen)?;
     c.tag(end)?;
-    Some(Told { number, seen })
+    Some(ReadPartner { number, seen })
 }
 
 // An access point.
 #[tactic(auto, unfolding(text::specs::Ascii::bytes, message::specs::Bytes::opening, message::specs::Bytes::ending, message::specs::Bytes::closing, message::specs::Bytes::group, message::specs::Bytes::partner, message::specs::Bytes::digits, message::specs::Reading::partner_parse, message::specs::Reading::shared_partner_parse, message::specs::Reading::counted_parse, message::specs::Reading::plain_parse, formats::specs::Exactly::fixed_parse, formats::specs::Combine::map_parse, formats::specs::Combine::pre_parse, formats::specs::Combine::post_parse, formats::specs::Combine::seq_parse))]
-fn access(c: &mut Cursor, rows: &mut Rows, seen: Seen) -> Option<Told>
+fn access(c: &mut Cursor, rows: &mut Rows, seen: Seen) -> Option<ReadPartner>
     ensures { Filled (partner_parse Kind.Toe03 (month_seen seen.month)) (kept_of_partner (month_seen seen.month)) rows_of_partner c.old c.new rows.old rows.new (option_map partner_told result) }
 {
     c.tag(b"<SDPSupplySeries><SDPSupply>")?;
@@ -53,11 +53,11 @@ fn access(c: &mut Cursor, rows: &mut Rows, seen: Seen) -> Option<Told>
     c.tag(b"/DirectionCounter>")?;
     let seen = series_list(c, rows, number, Some(injection), count, seen)?;
     c.tag(b"</SDPSupplySeries>")?;
-    Some(Told { number, seen })
+    Some(ReadPartner { number, seen })
 }
 
 // A partner of a file of a kind: what a file is of stands in its root, so the kind is a value.
-fn partner(c: &mut Cursor, rows: &mut Rows, kind: Kind, seen: Seen) -> Option<Told>
+fn partner(c: &mut Cursor, rows: &mut Rows, kind: Kind, seen: Seen) -> Option<ReadPartner>
     ensures { Filled (partner_parse kind (month_seen seen.month)) (kept_of_partner (month_seen seen.month)) rows_of_partner c.old c.new rows.old rows.new (option_map partner_told result) }
 {
     match kind {
@@ -88,7 +88,7 @@ fn next_partner(
     kind: Kind,
     behind: Option<u64>,
     seen: Seen,
-) -> Option<Told>
+) -> Option<ReadPartner>
     ensures { Filled (next_partner kind (low_of behind, month_seen seen.month)) (kept_of_partner (month_seen seen.month)) rows_of_partner c.old c.new rows.old rows.new (option_map partner_told result) }
 {
     let p = partner(c, rows, kind, seen)?;

@@ -7,7 +7,7 @@ ghost use Rattle.refusals.specs.Sent.{sent_back};
 use std::error::Error;
 use std::fmt;
 
-// Why a call is refused. Where an item isn't 0 it stands beside: the first bad row, point or engagement row, or the buffer that is short.
+// Why a call is refused. A case that has an item carries it: the first bad row, point or engagement row, counted from 0.
 #[derive(Clone, Copy, Debug, PartialEq, Eq)]
 pub enum Refused {
     Header,
@@ -18,6 +18,7 @@ pub enum Refused {
     Engagements(usize),
     Missing(usize),
     TooFew(usize),
+    // Which buffer, counted from 0.
     Short(usize),
     Role,
     Malformed,
@@ -25,7 +26,7 @@ pub enum Refused {
 }
 
 impl Refused {
-    // The number that document 01 gives it.
+    // The number that document 01 gives it. A match, since a case that carries its item has no number by `as`, and 3 is none of them.
     pub fn number(self) -> u64
         ensures { result ≡ (sent_back self).number }
     {

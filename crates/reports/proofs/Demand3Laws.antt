@@ -191,3 +191,6 @@ module _ (bytes : List ℕ) (ok : book_refusal bytes ≡ none) where
 
 pub demand-3 : Demand3
 demand-3 bytes a = let ok = accepted bytes a in record { answered = answers bytes ok; agreed = agrees bytes ok }
+
+-- the same, as the check cites it
+pub ruleset calls_agree = (demand-3)

@@ -1,5 +1,5 @@
 -- A line's words stand where the code says.
-use Rattle.std.specs.Prelude.{◌≡◌, refl, true, false, List, ◌++◌, ℕ, ◌+◌, ◌-◌, ◌≤◌, drop}
+use Rattle.std.specs.Prelude.{◌≡◌, refl, true, List, ◌++◌, ℕ, ◌+◌, ◌-◌, ◌≤◌, drop}
 use Rattle.std.proofs.Math.Path.{sym}
 use Rattle.std.proofs.Common.{ap, ◌∙◌, append_assoc, length-append, take_at, drop_at}
 use Rattle.std.specs.Prelude.{Some, None, Result, Ok, Err}
@@ -18,6 +18,7 @@ use Rattle.requests.specs.declared.Asked.{Asked}
 use Rattle.std.specs.Result.{result_ok}
 use Rattle.kinds.specs.declared.Kind.{Kind}
 use Rattle.kinds.specs.declared.UnknownKind.{UnknownKind}
+use Rattle.std.proofs.Math.Option.{none}
 use Rattle.kinds.specs.Numbers.{kind_numbered, is_there, is_kind}
 use Rattle.kinds.specs.NumbersInner.{kind_in}
 use Rattle.requests.specs.Line.{Words, line}
@@ -25,63 +26,28 @@ use Rattle.requests.specs.LineInner.{asked, request_by, request_of}
 
 -- ---- the line
 
--- the parts one after the other: a part that isn't there ends it
-module _ (s : List ℕ) where
-  pub no-kind : (fixed_digits 2).parse s ≡ bad → line.parse s ≡ bad
-  unfolding line seq_parse post_parse only_parse
-  no-kind e = rw e
+-- the parts one after the other
+pub line-is : (s : List ℕ) {kind receiver : ℕ} {id moment a b c d f g h : List ℕ} → (fixed_digits 2).parse s ≡ got kind a → is_kind kind ≡ true → strip (bytes " ") a ≡ got tt b
+    → (fixed_digits 10).parse b ≡ got receiver c → strip (bytes " ") c ≡ got tt d → name_parse name_byte 1 36 32 d ≡ got id f → exactly_parse 29 is_moment f ≡ got moment g
+    → strip (bytes "\n") g ≡ got tt h → line.parse s ≡ got (kind, (receiver, (id, moment))) h
+unfolding line seq_parse post_parse only_parse
+line-is s e₀ e₁ e₂ e₃ e₄ e₅ e₆ e₇ = rw (e₀, e₁, e₂, e₃, e₄, e₅, e₆, e₇)
 
-  module _ {kind : ℕ} {a : List ℕ} (e₀ : (fixed_digits 2).parse s ≡ got kind a) where
-    pub other-kind : is_kind kind ≡ false → line.parse s ≡ bad
-    unfolding line seq_parse post_parse only_parse
-    other-kind e = rw (e₀, e)
-
-    module _ (e₁ : is_kind kind ≡ true) where
-      pub no-space : strip (bytes " ") a ≡ bad → line.parse s ≡ bad
-      unfolding line seq_parse post_parse only_parse
-      no-space e = rw (e₀, e₁, e)
-
-      module _ {b : List ℕ} (e₂ : strip (bytes " ") a ≡ got tt b) where
-        pub no-receiver : (fixed_digits 10).parse b ≡ bad → line.parse s ≡ bad
-        unfolding line seq_parse post_parse only_parse
-        no-receiver e = rw (e₀, e₁, e₂, e)
-
-        module _ {receiver : ℕ} {c : List ℕ} (e₃ : (fixed_digits 10).parse b ≡ got receiver c) where
-          pub no-second-space : strip (bytes " ") c ≡ bad → line.parse s ≡ bad
-          unfolding line seq_parse post_parse only_parse
-          no-second-space e = rw (e₀, e₁, e₂, e₃, e)
-
-          module _ {d : List ℕ} (e₄ : strip (bytes " ") c ≡ got tt d) where
-            pub no-id : name_parse name_byte 1 36 32 d ≡ bad → line.parse s ≡ bad
-            unfolding line seq_parse post_parse only_parse
-            no-id e = rw (e₀, e₁, e₂, e₃, e₄, e)
-
-            module _ {id : List ℕ} {f : List ℕ} (e₅ : name_parse name_byte 1 36 32 d ≡ got id f) where
-              pub no-moment : exactly_parse 29 is_moment f ≡ bad → line.parse s ≡ bad
-              unfolding line seq_parse post_parse only_parse
-              no-moment e = rw (e₀, e₁, e₂, e₃, e₄, e₅, e)
-
-              module _ {moment : List ℕ} {g : List ℕ} (e₆ : exactly_parse 29 is_moment f ≡ got moment g) where
-                pub no-end : strip (bytes "\n") g ≡ bad → line.parse s ≡ bad
-                unfolding line seq_parse post_parse only_parse
-                no-end e = rw (e₀, e₁, e₂, e₃, e₄, e₅, e₆, e)
-
-                pub line-is : {h : List ℕ} → strip (bytes "\n") g ≡ got tt h → line.parse s ≡ got (kind, (receiver, (id, moment))) h
-                unfolding line seq_parse post_parse only_parse
-                line-is e = rw (e₀, e₁, e₂, e₃, e₄, e₅, e₆, e)
-
-pub request-none : (s : List ℕ) → line.parse s ≡ bad → None ≡ request_of s
-unfolding request_of
-request-none s e = sym (ap request_by e)
-
--- a number that is no kind's, and one that is
-pub kind-off : (n : ℕ) (r : Result Kind UnknownKind) → kind_in r ≡ kind_numbered n → None ≡ result_ok r → is_kind n ≡ false
-kind-off n (Err u) e f = ap is_there (sym e)
-kind-off n (Ok k) e f = let z : ◌≡◌ {A = ℕ} 0 1 = cc in absurd (omega arith)
-
+-- a number is a kind's where the conversion answers one
 pub kind-on : (n : ℕ) (r : Result Kind UnknownKind) (k : Kind) → kind_in r ≡ kind_numbered n → Some k ≡ result_ok r → is_kind n ≡ true
 kind-on n (Ok j) k e f = ap is_there (sym e)
 kind-on n (Err u) k e f = let z : ◌≡◌ {A = ℕ} 0 1 = cc in absurd (omega arith)
+
+-- what `ok` makes of the conversion's answer, as the check cites it
+pub kind-lost : (r : Result Kind UnknownKind) → None ≡ result_ok r → kind_in r ≡ none
+kind-lost (Err u) e = refl
+kind-lost (Ok k) e = let z : ◌≡◌ {A = ℕ} 0 1 = cc in absurd (omega arith)
+
+pub kind-kept : (r : Result Kind UnknownKind) → (None ≡ result_ok r → ⊥) → is_there (kind_in r) ≡ true
+kind-kept (Err u) h = absurd (h refl)
+kind-kept (Ok k) h = refl
+
+pub ruleset kinds_read = (kind-lost, kind-kept)
 
 -- the places that the code has are those of the words
 pub request-some : (s : List ℕ) (w : Words) (rest : List ℕ) (id moment book : ℕ) → line.parse s ≡ got w rest
@@ -91,6 +57,13 @@ unfolding request_of asked
 request-some s w rest id moment book e f g h =
     let n : moment - id - 1 ≡ length w.1.1.0 = omega arith in
     rw (e, n, f, g, h) refl
+
+-- the same by the book's place alone
+pub line-there : (s : List ℕ) (w : Words) (rest : List ℕ) (q : ℕ) → line.parse s ≡ got w rest → q ≡ 45 + length w.1.1.0
+    → Some (record { kind = w.0; receiver = w.1.0; id = 14; id_length = q - 45; moment = q - 30; book = q }) ≡ request_of s
+line-there s w rest q e f =
+    let n : q - 45 ≡ (q - 30) - 14 - 1 = omega arith in
+    rw n (request-some s w rest 14 (q - 30) q e refl (omega arith) f)
 
 pub line-length : (w : Words) → line.Ok w → length (line.render w) ≡ 45 + length w.1.1.0
 unfolding line bytes

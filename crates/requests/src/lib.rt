@@ -18,6 +18,7 @@ pub struct Asked {
 }
 
 // What the line at the front of the input asks for.
+#[tactic(auto, using(crate::proofs::LineLaws::kinds_read), unfolding(crate::specs::LineInner::request_of, crate::specs::Line::line, formats::specs::Combine::seq_parse, formats::specs::Combine::post_parse, formats::specs::Combine::only_parse, text::specs::Ascii::bytes))]
 pub fn read_request(input: &[u8]) -> Option<Asked>
     ensures { result ≡ request_of input.now }
 {

@@ -3,7 +3,8 @@ use Rattle.std.specs.Prelude.{◌≡◌, List, ℕ, zero, suc, ◌+◌, ◌-◌,
 use Rattle.std.proofs.Common.{ap, ◌∙◌, arith}
 use Rattle.integers.specs.First.{first}
 use Rattle.integers.proofs.FirstLaws.{first-behind}
-use Rattle.integers.proofs.FoundLaws.{NoneBelow, told}
+use Rattle.std.proofs.iter.runs.Sources.{ranges}
+use Rattle.integers.proofs.FoundLaws.{NoneBelow, told, first-is}
 use Rattle.book.specs.Metering.{bad_reading}
 use Rattle.searches.specs.MeteringInner.{any_bad}
 
@@ -27,3 +28,8 @@ module _ (readings : List ℕ) where
       → (1024 * unwrap_or found blocks ≤ n) × (first (bad_reading readings) 0 n ≡ first (bad_reading readings) (1024 * unwrap_or found blocks) (n - 1024 * unwrap_or found blocks))
   behind blocks n None h p = (h, passed blocks n h p)
   behind blocks n (Some k) h p = let l : 1024 * k ≤ n = omega (arith, p.0) in (l, passed k n l p.1)
+
+-- what `find` answers, as the check cites it
+pub ruleset finds = (first-is, ranges)
+
+pub ruleset blocks = (behind, ranges)

@@ -1,6 +1,6 @@
 -- A reading's range, told from the raised reading: 10^9 each way of the raise, or 0.
-use Rattle.std.specs.Prelude.{◌≡◌, refl, Bool, true, false, not, List, ℕ, suc, eqb, leb, ℤ, pos, negsuc, Some}
-use Rattle.std.proofs.Common.{arith, eqb-true, eq-eqb, ne_eqb, leb-true, leb-false, lt-ltb, le-ltb}
+use Rattle.std.specs.Prelude.{◌≡◌, refl, Bool, true, false, not, ◌&&◌, ◌||◌, List, ℕ, suc, ◌+◌, ◌-◌, ◌^◌, ◌≤◌, eqb, leb, ltb, ℤ, pos, negsuc, Some}
+use Rattle.std.proofs.Common.{arith, ap, sym, ◌∙◌, eqb-true, eq-eqb, ne_eqb, leb-true, leb-false, lt-ltb, le-ltb}
 use Rattle.std.proofs.lemmas.Bool.{eqb-false}
 use Rattle.integers.proofs.ZLaws.{Within}
 use Rattle.wire.specs.Readings.{reading_of, missing_if}
@@ -25,3 +25,12 @@ outside-is (negsuc w) r h e = go (eqb (suc w) 2147483648) refl (leb w 999999999)
 
 pub outside_is : (readings : List ℕ) (i r : ℕ) → Raised readings i r → is_outside r ≡ bad_reading readings i
 outside_is readings i r h = outside-is _ r h.range h.is
+
+-- the same of one that is there, and of none
+pub outside-there : (readings : List ℕ) (i r : ℕ) → Raised readings i r → 1 ≤ r → (ltb r (raise - 10 ^ 9) || ltb (raise + 10 ^ 9) r) ≡ bad_reading readings i
+outside-there readings i r h some = ap (λ (b : Bool). not b && (ltb r (raise - 10 ^ 9) || ltb (raise + 10 ^ 9) r)) (sym (ne_eqb r 0 (λ z. omega (arith, some)))) ∙ outside_is readings i r h
+
+pub outside-none : (readings : List ℕ) (i : ℕ) → Raised readings i 0 → false ≡ bad_reading readings i
+outside-none readings i h = outside_is readings i 0 h
+
+pub ruleset outside_cases = (outside-there, outside-none)

@@ -4,6 +4,7 @@ use Rattle.std.proofs.Common.{sym, div-lt_iff_lt-mul, arith, ltb-true, ltb-false
 use Rattle.std.proofs.Math.Nat.{one-le-pow}
 use Rattle.std.proofs.lemmas.Bool.{lt-leb}
 use Rattle.integers.specs.First.{any_below}
+use Rattle.integers.proofs.FirstLaws.{first-here, first-later, first-end}
 use Rattle.book.specs.Register.{takers_of, register_row, access_in, differs}
 use Rattle.searches.specs.RegisterInner.{is_known, differs_from, Topped}
 
@@ -40,3 +41,6 @@ none-shared register i top h k (suc n) m =
 
 pub none_earlier : (register : List ℕ) (i top : ℕ) → Topped register i top → top < access_in (register_row register i) → false ≡ any_below (differs register i) i
 none_earlier register i top h k = sym (none-shared register i top h k i (omega arith))
+
+-- what a loop over the rows goes by, as the check cites it
+pub ruleset register_steps = (first-here, first-later, first-end)

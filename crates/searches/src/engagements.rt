@@ -71,6 +71,7 @@ fn bad_engagement(engagements: &[u8], i: usize, c: RangedCalendar, points: usize
 }
 
 // The first bad row of n.
+#[tactic(auto, using(crate::proofs::BlocksLaws::finds))]
 pub fn judge_engagements(
     engagements: &[u8],
     n: usize,

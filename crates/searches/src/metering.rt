@@ -14,16 +14,19 @@ const GREATEST: u32 = wire::RAISE + 1_000_000_000;
 const BLOCK: usize = 1024;
 
 // Reading i is there, and more than 10^9 watts off.
-#[tactic(auto, using(crate::proofs::MeteringLaws::outside_is))]
+#[tactic(auto, using(crate::proofs::MeteringLaws::outside_cases))]
 fn outside(readings: &[u8], i: usize) -> bool
     requires { 4 * i + 4 ≤ length readings.now }
     ensures { result ≡ bad_reading readings.now i }
 {
-    let raised = wire::raised_at(readings, i);
-    (raised != 0) & ((raised < LEAST) | (GREATEST < raised))
+    match wire::raised_at(readings, i) {
+        Some(raised) => (raised < LEAST) | (GREATEST < raised),
+        None => false,
+    }
 }
 
-// Whether one of n readings from `at` on is out of range. None ends the loop, so that the compiler tests several at once.
+// Whether one of n readings from `at` on is out of range. None ends the loop: a way out keeps the compiler from testing several at once, and took four times as
+// long (docs/CHANGING.md).
 #[tactic(auto, using(integers::proofs::FirstLaws::any_next), unfolding(integers::specs::First::any_below, crate::specs::MeteringInner::any_bad))]
 fn any_outside(readings: &[u8], at: usize, n: usize) -> bool
     requires { 4 * (at + n) ≤ length readings.now }
@@ -37,6 +40,7 @@ fn any_outside(readings: &[u8], at: usize, n: usize) -> bool
 }
 
 // The first of the readings from `at` on, up to n, that is out of range.
+#[tactic(auto, using(crate::proofs::BlocksLaws::finds))]
 fn first_outside(readings: &[u8], at: usize, n: usize) -> Option<usize>
     requires { (4 * n ≤ length readings.now) × (at ≤ n) }
     ensures { found_at result ≡ first (bad_reading readings.now) at (n - at) }
@@ -45,6 +49,7 @@ fn first_outside(readings: &[u8], at: usize, n: usize) -> Option<usize>
 }
 
 // How many whole blocks of n readings come before the first that has one out of range.
+#[tactic(auto, using(crate::proofs::BlocksLaws::blocks))]
 fn good_blocks(readings: &[u8], n: usize) -> usize
     requires { 4 * n ≤ length readings.now }
     ensures inside { 1024 * result ≤ n }

@@ -9,7 +9,7 @@ use book::Takers;
 use book::register::takers_of;
 use book::sections::row_at;
 
-// Bits from `days` up are 0.
+// Bits from `days` up are 0. These are the calendar's days, counted once for all rows: a type of so many would be made for this one test.
 #[tactic(auto, using(crate::proofs::RegisterLaws::bits_above))]
 fn mask_good(mask: u64, days: u32) -> bool
     requires { days ≤ 64 }
@@ -55,7 +55,7 @@ fn bytes_good(version: u16, row: &[u8; 64]) -> bool
 }
 
 // Row i of a register.
-#[derive(Clone, Copy)]
+#[derive(Clone, Copy, Debug, PartialEq, Eq)]
 struct Row<'a> {
     register: &'a [u8],
     i: usize,
@@ -127,7 +127,8 @@ impl<'a> Row<'a> {
     }
 }
 
-// The first bad row of n.
+// The first bad row of n. Not `find`: the greatest access EAN so far goes along from row to row.
+#[tactic(auto, using(crate::proofs::RegisterLaws::register_steps))]
 pub fn judge_register(version: u16, register: &[u8], n: usize, days: u32) -> Option<usize>
     requires { (64 * n ≤ length register.now) × (days ≤ 64) }
     ensures { found_at result ≡ first (bad_point version days register.now) 0 n }

@@ -1,6 +1,6 @@
 -- The second numbers of an engagement's rows are its delivered volumes, and those of all engagements stand one behind the other.
 use Rattle.std.specs.Prelude.{◌≡◌, refl, ℕ, zero, suc, ◌+◌, ◌*◌, ◌^◌, ◌≤◌, ◌<◌, T, ℤ, negsuc, nat_abs, get_or, take, set}
-use Rattle.std.proofs.Common.{sym, ◌∙◌, zero-add, mul-zero, mul-suc, get_or-append-add, take_at, Fits, SFits}
+use Rattle.std.proofs.Common.{append-nil, sym, ◌∙◌, zero-add, mul-zero, mul-suc, get_or-append-add, take_at, Fits, SFits}
 use Rattle.std.proofs.Math.Path.{ap}
 use mathlib.Core.List.{List, [], ◌∷◌, ◌++◌, map, flat_map, map-append}
 use Rattle.std.proofs.Math.Option.{none}
@@ -8,6 +8,7 @@ use native.Mathlib.Omega.{arith}
 use Rattle.std.proofs.Math.IntN.{pos}
 use Rattle.std.specs.Int.Signed.{non_neg}
 use Rattle.std.proofs.Math.ListN.{length, drop, length-map, get_or-append}
+use Rattle.std.proofs.lemmas.List.{drop_all}
 use Rattle.std.proofs.lemmas.List.Edits.{sets, sets-eq}
 use Rattle.std.proofs.Math.Seq.{split_at}
 use Rattle.std.specs.Int.{w64}
@@ -49,6 +50,15 @@ set_next f l at k v e =
     let n : length stored ≡ k = length-map (range 0 k) f ∙ length-range 0 k in
     let more : map f (range 0 (k + 1)) ≡ stored ++ (v ∷ []) = ap (map f) (range-more 0 k) ∙ map-append f (range 0 k) ((0 + k) ∷ []) ∙ ap (λ (x : ℕ). stored ++ (x ∷ [])) (ap f (zero-add k) ∙ sym e) in
     ap (λ (j : ℕ). set (sets l at stored) (at + j) v) (sym n) ∙ sets-append l at stored (v ∷ []) ∙ ap (sets l at) (sym more)
+
+-- numbers stored in all cells of a list
+pub all-set : (f : ℕ → ℕ) (l : List ℕ) (n : ℕ) → n ≡ length l → sets l 0 (map f (range 0 n)) ≡ map f (range 0 (length l))
+all-set f l n e =
+    let long : length (map f (range 0 n)) ≡ n = length-map (range 0 n) f ∙ length-range 0 n in
+    sets-eq (map f (range 0 n)) l 0 (omega arith)
+    ∙ ap (λ (t : List ℕ). map f (range 0 n) ++ t) (drop_all (0 + length (map f (range 0 n))) l (omega arith))
+    ∙ append-nil (map f (range 0 n))
+    ∙ ap (λ (k : ℕ). map f (range 0 k)) e
 
 module _ (book : Book) where
   own-volume : (e : Engagement) (k : ℕ) → k < e.count → get_or (rows_of book e) (row_width * k + 1) (pos 0) ≡ pos (delivered book e k)

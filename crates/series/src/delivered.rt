@@ -11,6 +11,7 @@ ghost use Rattle.settlement.specs.SectionsInner.{engagement_count_in};
 ghost use Rattle.settlement.specs.OpenedInner.{book_in};
 ghost use Rattle.series.specs.VolumesInner.{volumes_of, book_volumes, volume_in};
 
+use settlement::days::MOST_POINTS;
 use settlement::opened::OpenBook;
 use settlement::rows::ROW_WIDTH;
 
@@ -22,13 +23,13 @@ fn volume_at(rows: &[i64], i: usize) -> u64
     rows[i] as u64
 }
 
-// The volumes of the first n rows, from `at` on.
-fn store_volumes(volumes: &mut [u64], at: usize, rows: &[i64], n: usize)
-    requires { (at + n ≤ length volumes.old) × (row_width * n ≤ length rows.now) × ((k : ℕ) → k < n → dn (volume_in rows.now k) ≡ 0) }
-    ensures { volumes.new ≡ sets volumes.old at (map (λ k. up (volume_in rows.now k)) (range 0 n)) }
+// The volumes of rows, one for each. By place: over `zip` a turn would tell of the pair's iterator and no longer of the volumes (see `add_volumes`).
+fn store_volumes(volumes: &mut [u64], rows: &[i64])
+    requires { (row_width * length volumes.old ≤ length rows.now) × ((k : ℕ) → k < length volumes.old → dn (volume_in rows.now k) ≡ 0) }
+    ensures { volumes.new ≡ map (λ k. up (volume_in rows.now k)) (range 0 (length volumes.old)) }
 {
-    for k in 0..n {
-        volumes[at + k] = volume_at(rows, ROW_WIDTH * k + 1);
+    for (k, volume) in volumes.iter_mut().enumerate() {
+        *volume = volume_at(rows, ROW_WIDTH * k + 1);
     }
 }
 
@@ -40,7 +41,7 @@ fn fill_engagement(opened: &OpenBook, i: usize, volumes: &mut [u64], at: usize) 
     let mut rows = [0i64; ROW_WIDTH * quarters::LONGEST_DAY];
     opened.settle_engagement_at(i, &mut rows);
     let n = opened.engagement(i).count as usize;
-    store_volumes(volumes, at, &rows, n);
+    store_volumes(&mut volumes[at..at + n], &rows);
     at + n
 }
 
@@ -60,5 +61,6 @@ pub fn fill_volumes(book: &[u8], volumes: &mut [u64])
     requires { (book_refusal book.now ≡ none) × (row_count (book_of book.now) ≤ length volumes.old) }
     ensures { volumes.new ≡ sets volumes.old 0 (book_volumes (book_of book.now)) }
 {
-    fill_engagements(&OpenBook::of(book), volumes);
+    let mut engaged = [0u64; MOST_POINTS];
+    fill_engagements(&OpenBook::of(book, &mut engaged), volumes);
 }

@@ -53,7 +53,8 @@ impl Role {
         receiver_of(self.kind, point) == self.receiver
     }
 
-    // The receiver's files take the point.
+    // The receiver's files take the point. That its takers are those of its situation is a clause, here and below: so they are in each register row (`told_at`). It
+    // speaks of the file kinds, which are told in `volumes`, above the crate of `Point`, so it is no fact of that struct.
     pub fn takes(self, point: Point) -> bool
         requires { Told point }
         ensures { result ≡ (takes self.kind point.situation && eqb (receiver_of self.kind point) self.receiver) }

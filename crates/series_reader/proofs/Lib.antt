@@ -10,3 +10,4 @@ pub mod MarkedSeriesLaws
 pub mod MarkedFillingInner
 pub mod MarkedFillingLaws
 pub mod MarkedSeriesFillingLaws
+pub mod MarkedPassagesLaws

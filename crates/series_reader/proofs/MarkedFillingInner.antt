@@ -1,15 +1,14 @@
--- What reading leaves in the lent rows: "and again to fill the rows".
+-- Definitions for a reading that keeps a mark and fills rows: what it leaves in the lent rows, "and again to fill the rows".
+-- They stand for whoever reads so; the reader itself goes by `Filled`.
 use Rattle.std.specs.Prelude.{◌≡◌, ℕ, ◌+◌, ◌*◌, ◌≤◌, length, drop, Option, Some}
-use mathlib.Core.List.{List, [], ◌∷◌, flat_map}
+use mathlib.Core.List.{List, flat_map}
 use Rattle.text.specs.WrittenInner.{written}
 use Rattle.formats.specs.Format.{Res, got}
-use Rattle.message.specs.Contents.{Observation, TimeSeries, Partner}
+use Rattle.message.specs.Contents.{TimeSeries, Partner}
 use Rattle.message.specs.Rows.{Row, row_numbers, numbers}
+use Rattle.series_reader.specs.RowsInner.{rows_of_observation}
 
--- the rows of an observation, a series and a partner
-abbrev pub rows_of_observation : ℕ → ℕ × ℕ → Observation → List Row
-rows_of_observation partner directions o = (partner, (directions, o)) ∷ []
-
+-- the rows of a series and a partner
 abbrev pub rows_of_series : ℕ → TimeSeries → List Row
 rows_of_series partner s = flat_map (rows_of_observation partner (s.supply, s.delivery)) s.observations
 

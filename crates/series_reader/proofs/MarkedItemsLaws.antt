@@ -1,4 +1,5 @@
--- Readings of which a part is kept, one item after the other.
+-- Laws about a reading that keeps a mark and of what it reads a part, one item after the other: the turns of a list give what its form gives.
+-- They stand for whoever reads so; the reader itself goes by `Reads`, `Filled` and `Turned`, and nothing above needs them.
 use Rattle.std.specs.Prelude.{◌≡◌, Bool, ℕ, ◌+◌, ◌-◌, ◌≤◌, ◌<◌, length, drop, Option, Some, None}
 use Rattle.std.proofs.Math.Path.{refl, ap}
 use Rattle.std.proofs.Common.{sym, ◌∙◌, length-append, length-drop, arith}
@@ -23,6 +24,11 @@ run-same {f = f} {g} {x} h r = record { run = same x ∙ r.run }
     same : (x : Res (Unit {0})) → bind x (λ u q. g q) ≡ bind x (λ u q. f q)
     same bad = refl
     same (got u q) = sym (h q)
+
+-- what is read from nowhere ends nowhere
+pub from-none : {A : Type 0} {f : List ℕ → Res A} {s : List ℕ} (m : Option ℕ) {v : A} → Parsed f s None m v → m ≡ None
+from-none None p = refl
+from-none (Some q) p = absurd (got-bad (sym p.run.run))
 
 pub only_same : {A : Type 0} (test : A → Bool) (f g : List ℕ → Res A) → ((s : List ℕ) → f s ≡ g s) → (s : List ℕ) → only_parse test f s ≡ only_parse test g s
 unfolding only_parse

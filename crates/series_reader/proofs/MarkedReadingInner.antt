@@ -1,4 +1,5 @@
--- What is read of a file's parts and kept of it: an observation in its order, observations that were passed, a time series and its outline.
+-- Definitions for a reading that keeps a mark, a place that may be missing: an observation in its order, observations that were passed, a time series and its outline.
+-- They stand for whoever reads so; the reader itself goes by `Reads` and `Filled`.
 use Rattle.std.specs.Prelude.{Bool, ◌&&◌, List, [], ◌∷◌, ℕ, leb, length, Option}
 use Rattle.formats.specs.Format.{Res}
 use Rattle.formats.proofs.RunLaws.{Ran}

@@ -1,4 +1,5 @@
--- How observations and series, each behind the other, fill the rows: what the loops over them go by.
+-- Laws about a reading that keeps a mark and fills rows: observations and series, each behind the other, fill them in turn.
+-- They stand for whoever reads so; the reader itself goes by `Filled`, and nothing above needs them.
 use Rattle.std.specs.Prelude.{◌≡◌, refl, ℕ, suc, ◌+◌, ◌-◌, ◌*◌, ◌≤◌, ◌<◌, leb, length, drop, Option, Some}
 use Rattle.std.proofs.Common.{sym, ◌∙◌, add-one, arith}
 use Rattle.std.proofs.Math.Path.{ap, subst}
@@ -27,7 +28,8 @@ use Rattle.series_reader.proofs.MarkedReadingInner.{Passed, observations_of, Vol
 use Rattle.series_reader.proofs.MarkedItemsLaws.{viewed, view-bad}
 use Rattle.series_reader.proofs.MarkedSeriesInner.{series_form, item, place_in, list_form}
 use Rattle.series_reader.proofs.MarkedSeriesLaws.{onto}
-use Rattle.series_reader.proofs.MarkedFillingInner.{Fills, Stored, rows_of_observation, rows_of_series}
+use Rattle.series_reader.proofs.MarkedFillingInner.{Fills, Stored, rows_of_series}
+use Rattle.series_reader.specs.RowsInner.{rows_of_observation}
 use Rattle.series_reader.proofs.MarkedFillingLaws.{fills_same, fills-only, fills-bad, fills-within, fills-none, fills-step}
 
 -- contents as they are

@@ -1,4 +1,5 @@
--- How a partner's series are read one behind the other, and that their rows are no more than their bytes.
+-- Laws about a reading of a partner's series that keeps a mark: one behind the other they are the list, and their rows are no more than their bytes.
+-- They stand for whoever reads so; the reader itself goes by `Reads` and `Filled`, and nothing above needs them.
 use Rattle.std.specs.Prelude.{◌≡◌, Bool, true, false, ◌&&◌, ℕ, suc, ◌+◌, ◌-◌, ◌≤◌, ◌<◌, leb, length, drop, Option, Some, None}
 use Rattle.std.proofs.Math.Path.{refl, ap}
 use Rattle.std.proofs.Common.{sym, ◌∙◌, subst, add-one, arith}

@@ -11,10 +11,10 @@ use Rattle.series_reader.specs.declared.rows.Rows.{Rows}
 use borrow.Rule.Slice.PartMut.{put_mid}
 use mir.Val.{bool_byte}
 use Rattle.text.proofs.WrittenLaws.{written-copied}
-use Rattle.passages.specs.declared.Observed.{Observed}
+use Rattle.passages.specs.declared.ReadObservation.{ReadObservation}
 use Rattle.series_reader.specs.declared.rows.Key.{Key}
 use Rattle.passages.specs.ViewsInner.{bit}
-use Rattle.series_reader.specs.RowsInner.{with_row, with_rows, Lent, Added}
+use Rattle.series_reader.specs.RowsInner.{with_row, with_rows, Lent, Pushed}
 
 -- ---- the same numbers
 
@@ -74,7 +74,7 @@ bit_told false = refl
 no-room : (k n : ℕ) → n ≤ k → ltb k n ≡ false
 no-room k n h = grind (arith, nat_tests)
 
-pub added-none : (k : Key) (o : Observed) (a b : Rows) → length a.numbers.now / 6 ≤ a.count → b.numbers.ghost_name ≡ a.numbers.ghost_name → b.numbers.now ≡ a.numbers.now → b.count ≡ (a.count + 1) % 2 ^ 64 → Added k o a b
+pub added-none : (k : Key) (o : ReadObservation) (a b : Rows) → length a.numbers.now / 6 ≤ a.count → b.numbers.ghost_name ≡ a.numbers.ghost_name → b.numbers.now ≡ a.numbers.now → b.count ≡ (a.count + 1) % 2 ^ 64 → Pushed k o a b
 unfolding with_row
 added-none k o a b full name numbers count =
     record {
@@ -82,9 +82,9 @@ added-none k o a b full name numbers count =
       row = rw (no-room a.count (length a.numbers.now / 6) full) (λ i. (numbers i, count i));
     }
 
-pub added-row : (k : Key) (o : Observed) (a b : Rows) (x y : ℕ) (row : List ℕ) → a.count < length a.numbers.now / 6 → x ≡ bool_byte k.injection → y ≡ bool_byte k.down
+pub added-row : (k : Key) (o : ReadObservation) (a b : Rows) (x y : ℕ) (row : List ℕ) → a.count < length a.numbers.now / 6 → x ≡ bool_byte k.injection → y ≡ bool_byte k.down
     → row ≡ k.partner ∷ x ∷ y ∷ o.position ∷ o.watts ∷ 0 ∷ []
-    → b.numbers.ghost_name ≡ a.numbers.ghost_name → b.numbers.now ≡ put_mid (a.count * 6) (a.count * 6 + 6 - a.count * 6) a.numbers.now row → b.count ≡ (a.count + 1) % 2 ^ 64 → Added k o a b
+    → b.numbers.ghost_name ≡ a.numbers.ghost_name → b.numbers.now ≡ put_mid (a.count * 6) (a.count * 6 + 6 - a.count * 6) a.numbers.now row → b.count ≡ (a.count + 1) % 2 ^ 64 → Pushed k o a b
 unfolding with_row row_numbers
 added-row k o a b x y row room injection down is name numbers count =
     let six : List ℕ = k.partner ∷ bit k.injection ∷ bit k.down ∷ o.position ∷ o.watts ∷ 0 ∷ [] in

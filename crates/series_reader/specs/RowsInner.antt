@@ -7,7 +7,7 @@ use Rattle.cursor.specs.declared.Cursor.{Cursor}
 use Rattle.cursor.specs.ReadsInner.{Reads}
 use Rattle.message.specs.Contents.{Observation, TimeSeries, Partner}
 use Rattle.message.specs.Rows.{Row, row_numbers}
-use Rattle.passages.specs.declared.Observed.{Observed}
+use Rattle.passages.specs.declared.ReadObservation.{ReadObservation}
 use Rattle.passages.specs.ViewsInner.{bit, observation_of}
 use Rattle.series_reader.specs.declared.rows.Key.{Key}
 use Rattle.series_reader.specs.declared.rows.Rows.{Rows}
@@ -51,7 +51,7 @@ pub record Lent (before after : Rows) : Type 0 where
   pub long : length after.numbers.now ≡ length before.numbers.now
 
 -- an observation's row
-pub record Added (k : Key) (o : Observed) (before after : Rows) : Type 0 where
+pub record Pushed (k : Key) (o : ReadObservation) (before after : Rows) : Type 0 where
   pub lent : Lent before after
   pub row : held after ≡ with_row (k.partner, (directions k, observation_of o)) (held before)
 

@@ -8,8 +8,8 @@ use Rattle.message.specs.Valid.{month_of}
 use Rattle.message.specs.Months.{follows, after}
 use Rattle.message.specs.Reading.{Volume, observation_parse, own_series_parse, shared_series_parse}
 use Rattle.passages.specs.ViewsInner.{bit, year_and_month}
-use Rattle.series_reader.specs.declared.elements.Delivered.{Delivered}
-use Rattle.series_reader.specs.declared.series.Outline.{Outline}
+use Rattle.series_reader.specs.declared.elements.DeliverySeries.{DeliverySeries}
+use Rattle.series_reader.specs.declared.series.SeriesOutline.{SeriesOutline}
 use mathlib.Core.List.{map}
 
 -- ---- an observation
@@ -24,14 +24,14 @@ next_observation last low = only_parse (λ o. leb low (position o)) (observation
 abbrev pub volume_kept : Volume → ℕ × (ℕ × ℕ)
 volume_kept v = (v.0, v.1.1.0)
 
-abbrev pub volume_told : Delivered → ℕ × (ℕ × ℕ)
+abbrev pub volume_told : DeliverySeries → ℕ × (ℕ × ℕ)
 volume_told v = (bit v.down, year_and_month v.month)
 
 -- its directions and its month
-abbrev pub outline : TimeSeries → (ℕ × ℕ) × (ℕ × ℕ)
-outline s = ((s.supply, s.delivery), (s.year, s.month))
+abbrev pub series_outline : TimeSeries → (ℕ × ℕ) × (ℕ × ℕ)
+series_outline s = ((s.supply, s.delivery), (s.year, s.month))
 
-abbrev pub outline_of : Outline → (ℕ × ℕ) × (ℕ × ℕ)
+abbrev pub outline_of : SeriesOutline → (ℕ × ℕ) × (ℕ × ℕ)
 outline_of o = ((bit o.injection, bit o.down), year_and_month o.month)
 
 -- with the supply direction of its access point, or with its own

@@ -29,6 +29,7 @@ fn observation(c: &mut Cursor, rows: &mut Rows, key: Key, last: u64, behind: u64
 pub fn observations(c: &mut Cursor, rows: &mut Rows, key: Key, last: u64, count: u64) -> Option<()>
     ensures { Filled (observations_parse last count) (λ l. tt) (rows_of_observations key.partner (directions key)) c.old c.new rows.old rows.new result }
 {
+    // (0 is before the first position and is none itself.)
     let mut behind = 0;
     for _i in 0..count {
         behind = observation(c, rows, key, last, behind)?;
@@ -36,14 +37,14 @@ pub fn observations(c: &mut Cursor, rows: &mut Rows, key: Key, last: u64, count:
     Some(())
 }
 
-// A time series from its delivery direction on.
+// A time series from its delivery direction on. (`volume_parse` has no supply direction, so what it gives has none; `SeriesOutline` has both.)
 #[derive(Clone, Copy, Debug, PartialEq, Eq)]
-pub struct Delivered {
+pub struct DeliverySeries {
     pub down: bool,
     pub month: Month,
 }
 
-// A delivery direction.
+// A delivery direction. (It names its two words as `supply` names its own: one function with a flag for the pair is no plainer.)
 #[tactic(auto, unfolding(text::specs::Ascii::bytes, message::specs::Bytes::deliveries))]
 fn delivery(c: &mut Cursor) -> Option<bool>
     ensures { Reads (words_parse deliveries) c.old c.new (option_map bit result) }
@@ -53,7 +54,12 @@ fn delivery(c: &mut Cursor) -> Option<bool>
 
 // A time series from its delivery direction on; its rows are stored.
 #[tactic(auto, unfolding(text::specs::Ascii::bytes, message::specs::Bytes::opening, message::specs::Bytes::ending, message::specs::Bytes::closing, message::specs::Reading::volume_parse, message::specs::Reading::counted_parse, message::specs::Reading::plain_parse, formats::specs::Combine::map_parse, formats::specs::Combine::pre_parse, formats::specs::Combine::post_parse, formats::specs::Combine::seq_parse))]
-pub fn volume(c: &mut Cursor, rows: &mut Rows, partner: u64, injection: bool) -> Option<Delivered>
+pub fn volume(
+    c: &mut Cursor,
+    rows: &mut Rows,
+    partner: u64,
+    injection: bool,
+) -> Option<DeliverySeries>
     ensures { Filled volume_parse volume_kept (λ v. rows_of_series partner (of_volume (bit injection) v)) c.old c.new rows.old rows.new (option_map volume_told result) }
 {
     c.tag(b"<DeliveryDirection>")?;
@@ -70,5 +76,5 @@ pub fn volume(c: &mut Cursor, rows: &mut Rows, partner: u64, injection: bool) ->
     };
     observations(c, rows, key, last, count)?;
     c.tag(b"</TimeSeriesPeriod>")?;
-    Some(Delivered { down, month })
+    Some(DeliverySeries { down, month })
 }

@@ -1,9 +1,10 @@
 // The rows that a reading gives, in the numbers that are lent to it.
-ghost use Rattle.series_reader.specs.RowsInner.{Added};
+ghost use Rattle.series_reader.specs.RowsInner.{Pushed};
 
-use passages::Observed;
+use passages::ReadObservation;
 
-// What the rows of a series say beside its observations.
+// What the rows of a series say beside its observations. A direction is a bool, here and in what is read of a series: a file has two words for each,
+// and `book`'s enums are the book's, of which the file's crates know nothing. A row holds 0 or 1, which a bool gives by `From`.
 #[derive(Clone, Copy, Debug, PartialEq, Eq)]
 pub struct Key {
     pub partner: u64,
@@ -12,6 +13,9 @@ pub struct Key {
 }
 
 // The lent numbers, and how many rows were read; those that the numbers have no room for are counted too.
+// (They are lent beside the cursor: one struct of both is no plainer, since tags, numbers and passages are read by the cursor alone,
+// as document 01 names it, and each would go through a field.
+// What a series is read under, `partner`, `shared` and what was `seen`, goes beside them too: each is of another kind, and a struct of them would be made anew for each partner.)
 #[derive(Drop)]
 pub struct Rows<'a> {
     pub numbers: &'a mut [u64],
@@ -20,8 +24,8 @@ pub struct Rows<'a> {
 
 impl<'a> Rows<'a> {
     // An observation's six numbers behind those of the rows before it, where they have room. (No file has so many rows that the count wraps.)
-    pub fn push(&mut self, key: Key, o: Observed)
-        ensures { Added key o self.old self.new }
+    pub fn push(&mut self, key: Key, o: ReadObservation)
+        ensures { Pushed key o self.old self.new }
     {
         if self.count < self.numbers.len() / 6 {
             let at = self.count * 6;

@@ -7,7 +7,7 @@ ghost use Rattle.message.specs.Months.{follows};
 ghost use Rattle.message.specs.Reading.{own_series_parse, shared_series_parse, series_list_parse};
 ghost use Rattle.passages.specs.ViewsInner.{bit, year_and_month};
 ghost use Rattle.series_reader.specs.RowsInner.{Filled, rows_of_series, rows_of_all};
-ghost use Rattle.series_reader.specs.ViewsInner.{outline, outline_of, series_parse, next_series, low_of, month_seen, last_month};
+ghost use Rattle.series_reader.specs.ViewsInner.{series_outline, outline_of, series_parse, next_series, low_of, month_seen, last_month};
 
 use crate::rows::Rows;
 use calendar::dates::Month;
@@ -15,14 +15,14 @@ use cursor::Cursor;
 
 // A time series: its directions and its month.
 #[derive(Clone, Copy, Debug, PartialEq, Eq)]
-pub struct Outline {
+pub struct SeriesOutline {
     pub injection: bool,
     pub down: bool,
     pub month: Month,
 }
 
-impl Outline {
-    // Off-take before injection, up before down.
+impl SeriesOutline {
+    // Off-take before injection, up before down. (A number: `rises` compares partners' numbers too, and the form's key is this number.)
     fn place(self) -> u64
         ensures { result ≡ bit self.injection * 2 + bit self.down }
     {
@@ -40,15 +40,15 @@ pub fn supply(c: &mut Cursor) -> Option<bool>
 
 // A series with its own supply direction (TOE01, TOE02).
 #[tactic(auto, unfolding(text::specs::Ascii::bytes, message::specs::Bytes::opening, message::specs::Bytes::ending, message::specs::Bytes::closing, message::specs::Reading::own_series_parse, formats::specs::Combine::map_parse, formats::specs::Combine::pre_parse, formats::specs::Combine::post_parse, formats::specs::Combine::seq_parse))]
-fn own_series(c: &mut Cursor, rows: &mut Rows, partner: u64) -> Option<Outline>
-    ensures { Filled own_series_parse outline (rows_of_series partner) c.old c.new rows.old rows.new (option_map outline_of result) }
+fn own_series(c: &mut Cursor, rows: &mut Rows, partner: u64) -> Option<SeriesOutline>
+    ensures { Filled own_series_parse series_outline (rows_of_series partner) c.old c.new rows.old rows.new (option_map outline_of result) }
 {
     c.tag(b"<ToETimeSeries><SupplyDirection>")?;
     let injection = supply(c)?;
     c.tag(b"</SupplyDirection>")?;
     let v = crate::elements::volume(c, rows, partner, injection)?;
     c.tag(b"</ToETimeSeries>")?;
-    Some(Outline {
+    Some(SeriesOutline {
         injection,
         down: v.down,
         month: v.month,
@@ -57,13 +57,18 @@ fn own_series(c: &mut Cursor, rows: &mut Rows, partner: u64) -> Option<Outline>
 
 // A series with the supply direction of its access point (TOE03).
 #[tactic(auto, unfolding(text::specs::Ascii::bytes, message::specs::Bytes::opening, message::specs::Bytes::ending, message::specs::Bytes::closing, message::specs::Reading::shared_series_parse, formats::specs::Combine::map_parse, formats::specs::Combine::pre_parse, formats::specs::Combine::post_parse, formats::specs::Combine::seq_parse))]
-fn shared_series(c: &mut Cursor, rows: &mut Rows, partner: u64, injection: bool) -> Option<Outline>
-    ensures { Filled (shared_series_parse (bit injection)) outline (rows_of_series partner) c.old c.new rows.old rows.new (option_map outline_of result) }
+fn shared_series(
+    c: &mut Cursor,
+    rows: &mut Rows,
+    partner: u64,
+    injection: bool,
+) -> Option<SeriesOutline>
+    ensures { Filled (shared_series_parse (bit injection)) series_outline (rows_of_series partner) c.old c.new rows.old rows.new (option_map outline_of result) }
 {
     c.tag(b"<ToETimeSeries>")?;
     let v = crate::elements::volume(c, rows, partner, injection)?;
     c.tag(b"</ToETimeSeries>")?;
-    Some(Outline {
+    Some(SeriesOutline {
         injection,
         down: v.down,
         month: v.month,
@@ -71,8 +76,15 @@ fn shared_series(c: &mut Cursor, rows: &mut Rows, partner: u64, injection: bool)
 }
 
 // A series of a partner, which may have one supply direction for all of them.
-fn series(c: &mut Cursor, rows: &mut Rows, partner: u64, shared: Option<bool>) -> Option<Outline>
-    ensures { Filled (series_parse (option_map bit shared)) outline (rows_of_series partner) c.old c.new rows.old rows.new (option_map outline_of result) }
+// (Two forms in the definitions, `own_series_parse` and `shared_series_parse`. One function, the tag before a match on `shared`, was tried:
+// the search closed none of its five ends, each of which is of both forms.)
+fn series(
+    c: &mut Cursor,
+    rows: &mut Rows,
+    partner: u64,
+    shared: Option<bool>,
+) -> Option<SeriesOutline>
+    ensures { Filled (series_parse (option_map bit shared)) series_outline (rows_of_series partner) c.old c.new rows.old rows.new (option_map outline_of result) }
 {
     match shared {
         Some(injection) => shared_series(c, rows, partner, injection),
@@ -84,13 +96,10 @@ fn series(c: &mut Cursor, rows: &mut Rows, partner: u64, shared: Option<bool>) -
 pub fn rises(behind: Option<u64>, key: u64) -> bool
     ensures { result ≡ leb (low_of behind) key }
 {
-    match behind {
-        Some(k) => k < key,
-        None => true,
-    }
+    behind.is_none_or(|k| k < key)
 }
 
-// Whether a month may stand behind the one that was seen.
+// Whether a month may stand behind the one that was seen. (By `is_none_or` the proof didn't close with the closure's own contract, and a clause on the closure is no plainer.)
 fn follows(seen: Option<Month>, month: Month) -> bool
     ensures { result ≡ follows (month_seen seen) (year_and_month month) }
 {
@@ -108,8 +117,8 @@ fn next_series(
     shared: Option<bool>,
     behind: Option<u64>,
     seen: Option<Month>,
-) -> Option<Outline>
-    ensures { Filled (next_series (option_map bit shared) (low_of behind, month_seen seen)) outline (rows_of_series partner) c.old c.new rows.old rows.new (option_map outline_of result) }
+) -> Option<SeriesOutline>
+    ensures { Filled (next_series (option_map bit shared) (low_of behind, month_seen seen)) series_outline (rows_of_series partner) c.old c.new rows.old rows.new (option_map outline_of result) }
 {
     let s = series(c, rows, partner, shared)?;
     if !follows(seen, s.month) {

@@ -2,10 +2,11 @@
 // the refusal, and `changed` if a number that is no part of the answer is not as it was.
 #![tactic(auto)]
 
-ghost use Rattle.std.specs.Prelude.{◌*◌, ◌≤◌, length, IfSome};
+ghost use Rattle.std.specs.Prelude.{◌*◌, ◌≤◌, length};
 ghost use Rattle.volumes.specs.Settlement.{row_width};
 ghost use Rattle.settle_vectors.specs.FitsInner.{RowsFit};
 
+use cases::input::FromWords;
 use cases::words::Words;
 use cases::{answers, lent};
 use settlement::rows::ROW_WIDTH;
@@ -13,21 +14,21 @@ use settlement::settle;
 use settlement::settle::Settled;
 use std::io;
 
-// How many numbers are lent, and how many bytes of the buffer are the book.
-#[derive(Clone, Copy)]
-struct Case {
+// Room for the rows of each case.
+const ROOM: usize = 2560;
+
+// How many numbers are lent for a book.
+#[derive(Clone, Copy, Debug, PartialEq, Eq)]
+struct SettleCase {
     lent: usize,
-    book: usize,
+    ghost within: { lent ≤ 2560 },
 }
 
-// Reads a line, with that many numbers to lend, and puts its book into the buffer.
-fn read_case(line: &[u8], most: usize, book: &mut [u8]) -> Option<Case>
-    ensures { IfSome result (λ case. (case.lent ≤ most) × (case.book ≤ length book.new)) }
-{
-    let mut words = Words::new(line);
-    let lent = words.number_up_to(most)?;
-    let book = words.load(book)?;
-    Some(Case { lent, book })
+impl FromWords for SettleCase {
+    fn from_words(words: &mut Words) -> Option<SettleCase> {
+        let lent = words.number_up_to(ROOM)?;
+        Some(SettleCase { lent })
+    }
 }
 
 // The number of rows, and the rows; the numbers behind them are to be kept.
@@ -52,24 +53,22 @@ fn answer(rt: &impl Print, settled: Settled, rows: &[i64]) -> io::Result<()>
     }
 }
 
-// Settles a book with the first n numbers of rows.
-fn settle_case(rt: &impl Print, book: &[u8], rows: &mut [i64], n: usize) -> io::Result<()>
-    requires { n ≤ length rows.old }
-{
+// Settles a book with the first numbers of rows. `sheet_case` of `sheet_vectors` has this shape; what they share, room and answers, is `cases`'.
+fn settle_case(
+    rt: &impl Print,
+    case: SettleCase,
+    book: &[u8],
+    rows: &mut [i64; ROOM],
+) -> io::Result<()> {
     lent::prepare(rows);
-    let settled = settle::settle(book, &mut rows[..n]);
+    let settled = settle::settle(book, &mut rows[..case.lent]);
     answer(rt, settled, rows)
 }
 
-fn run_case(rt: &impl Print, line: &[u8], book: &mut [u8], rows: &mut [i64]) -> io::Result<()> {
-    match read_case(line, rows.len(), book) {
-        Some(case) => settle_case(rt, &book[..case.book], rows, case.lent),
-        None => answers::no_case(rt),
-    }
-}
-
+// Beside what `each_case` does, only the room and the call are left.
 fn main(rt: HostRuntime) -> io::Result<()> {
-    let mut book = vec![in rt.alloc(); 0; cases::BOOK_ROOM]?;
-    let mut rows = [0; 2560];
-    cases::input::each_line(&rt, |line| run_case(&rt, line, &mut book, &mut rows))
+    let mut rows = [0; ROOM];
+    cases::input::each_case(&rt, cases::BOOK_ROOM, |case, book| {
+        settle_case(&rt, case, book, &mut rows)
+    })
 }

@@ -1,6 +1,6 @@
 -- Stores through a part of a slice, `&mut s[a..e]`, are stores in the slice.
-use Rattle.std.specs.Prelude.{◌≡◌, refl, List, [], ◌∷◌, ◌++◌, ℕ, suc, ◌+◌, ◌-◌, ◌≤◌, length, take, drop, set}
-use Rattle.std.proofs.Common.{sym, ap, ◌∙◌, arith, take_all, length-set, length-append, length-take, length-drop, take-append-drop}
+use Rattle.std.specs.Prelude.{◌≡◌, refl, List, [], ◌∷◌, ◌++◌, ℕ, suc, ◌+◌, ◌-◌, ◌≤◌, ◌<◌, length, take, drop, set}
+use Rattle.std.proofs.Common.{sym, ap, ◌∙◌, arith, take_all, length-set, length-take, length-drop, take-append-drop}
 use Rattle.std.proofs.lemmas.List.{set-append_left, set-append_right}
 use Rattle.std.proofs.Math.Seq.{length-take-le}
 use Rattle.std.proofs.lemmas.List.Edits.{sets, sets-eq}
@@ -42,3 +42,13 @@ module _ {A : Type 0} where
       ∙ sym (sets-right (take a l) (drop a l) 0 vs)
       ∙ ap (λ (n : ℕ). sets (take a l ++ drop a l) n vs) here
       ∙ ap (λ (p : List A). sets p a vs) (take-append-drop a l)
+
+  -- a value stored in a part
+  pub set-part : (a k n : ℕ) (x : A) (l part : List A) → length part ≡ k → a + k ≤ length l → n < k → put_mid a k l (set part n x) ≡ set (put_mid a k l part) (a + n) x
+  set-part a k n x l part long room h =
+      let before : length (take a l) ≡ a = length-take-le a l (omega arith) in
+      let cell : a + n - a ≡ n = omega arith in
+      sym
+      (set-append_right (take a l) (part ++ post_of a k l) a (a + n) x before (omega arith)
+      ∙ ap (λ (m : ℕ). take a l ++ set (part ++ post_of a k l) m x) cell
+      ∙ ap (λ (p : List A). take a l ++ p) (set-append_left part (post_of a k l) n x (omega arith)))

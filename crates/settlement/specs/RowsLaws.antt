@@ -16,12 +16,12 @@ use Rattle.book.specs.Book.{Book, book_of}
 use Rattle.volumes.specs.Quarters.{quarter_hours, start}
 use Rattle.volumes.specs.Baseline.{point_of, watts, complete, own_reading, baseline}
 use Rattle.volumes.proofs.BaselineLaws.{complete-append}
-use Rattle.volumes.specs.Settlement.{needed_by, needed, requested_at, limited, delivered_by, delivered, off_take_of, signed, source_correction, fsp_correction, injection_correction, corrections, row_width, row, rows_of}
+use Rattle.volumes.specs.Settlement.{needed_by, needed, requested_at, limited, delivered_by, delivered, off_take_of, off_take_difference, off_take_share, signed, source_correction, fsp_correction, injection_correction, corrections, row_width, row, rows_of}
 use Rattle.volumes.proofs.SettlementLaws.{Settles}
 use Rattle.volumes.proofs.SplitLaws.{off-take-is}
 use Rattle.wire.specs.ReadingsInner.{raise}
 use Rattle.settlement.specs.RaisedInner.{bias, baseline_of, watts_of}
-use Rattle.settlement.specs.RaisedLaws.{over-level, over-grains, is-level}
+use Rattle.settlement.specs.RaisedLaws.{over-level, over-grains, is-level, above-up, above_down}
 use Rattle.settlement.specs.RowsInner.{row_from, first_reading, readings_from, row_at, rows_from, largest}
 use Rattle.settlement.specs.StoresLaws.{flat_map-range-cong}
 use Rattle.integers.proofs.RangesLaws.{map-range-cong}
@@ -78,6 +78,19 @@ pub limited-is : (z : ℤ) (most : ℕ) → limited z most ≡ min (up z) (grain
 unfolding limited
 limited-is (pos n) most = refl
 limited-is (negsuc n) most = omega arith
+
+-- and of a level and a reading in grains, whose bias is one
+pub limited-share : (direction : Direction) (level raised most : ℕ)
+    → limited (signed direction (baseline_of level -ℤ grains_z (watts_of raised))) most ≡ off_take_share direction (pos level) (pos (grains (raised + 2 * raise))) (grains most)
+unfolding signed off_take_share off_take_difference off_take_of
+limited-share Up level raised most = rw (limited-is, above-up level raised) refl
+limited-share Down level raised most = rw (limited-is, above_down level raised) refl
+
+-- a share of two numbers' off-take is one of what they are of it
+pub share-of : (direction : Direction) (base read : ℤ) (volume : ℕ) → off_take_share direction base read volume ≡ off_take_share direction (pos (off_take_of base)) (pos (off_take_of read)) volume
+unfolding off_take_share off_take_difference off_take_of
+share-of Up base read volume = refl
+share-of Down base read volume = refl
 
 -- of two naturals that make up a third, the one is the third less the other
 pub rest_of : (volume source rest : ℕ) → source + rest ≡ volume → pos volume -ℤ pos source ≡ pos rest

@@ -1,5 +1,5 @@
 -- The sections of a book that passes refusals 1 to 7 are parts of its bytes; with its own engagements it is itself.
-use Rattle.std.specs.Prelude.{◌≡◌, refl, true, List, ℕ, zero, suc, ◌+◌, ◌≤◌, length}
+use Rattle.std.specs.Prelude.{◌≡◌, refl, true, List, ℕ, ◌+◌, ◌≤◌, length}
 use Rattle.std.proofs.Common.{ap, ◌∙◌, arith}
 use Rattle.std.proofs.Math.Option.{none}
 use Rattle.book.specs.Header.{calendar_of, point_count, engagement_count, offset_of, length_of, header_good, layout_good, register_section, engagement_section}

@@ -14,7 +14,7 @@ fn with_day(mask: u64, day: u32) -> u64
     mask | (1u64 << day)
 }
 
-// Adds the day of each engagement to those of its point.
+// Adds the day of each engagement to those of its point. By row number: see book `row_at`.
 pub fn gather_days(engagements: &[u8], engaged: &mut [u64])
     requires { Gatherable engagements.now (length engaged.old) }
     ensures { Gathers engagements.now engaged.old engaged.new }

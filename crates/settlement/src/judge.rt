@@ -6,6 +6,7 @@ ghost use Rattle.refusals.specs.SentInner.{refusal_in};
 ghost use Rattle.volumes.specs.Settlement.{book_refusal};
 ghost use Rattle.settlement.specs.RefusedInner.{lack_at};
 
+use crate::days::MOST_POINTS;
 use crate::opened::OpenBook;
 use baseline::judge::Lack;
 use refusals::Refused;
@@ -52,5 +53,6 @@ pub fn judge_settlement(book: &[u8]) -> Result<(), Refused>
     ensures { refusal_in result ≡ book_refusal book.now }
 {
     judging::judge::judge_book(book)?;
-    OpenBook::of(book).judge()
+    let mut engaged = [0u64; MOST_POINTS];
+    OpenBook::of(book, &mut engaged).judge()
 }

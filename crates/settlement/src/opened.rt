@@ -10,7 +10,7 @@ use book::{Engagement, Section};
 use quarters::RangedCalendar;
 
 // The engagements are a field of their own: they are the book's, or others that it is judged and settled with.
-#[derive(Clone, Copy)]
+#[derive(Clone, Copy, Debug, PartialEq, Eq)]
 pub struct OpenBook<'a> {
     pub book: &'a [u8],
     pub version: u16,
@@ -20,10 +20,10 @@ pub struct OpenBook<'a> {
     pub register: &'a [u8],
     pub readings: &'a [u8],
     pub engagements: &'a [u8],
-    pub engaged: [u64; MOST_POINTS],
+    pub engaged: &'a [u64],
     pub ghost opened: { Opened book.now engagements.now },
     pub ghost spread: { Spread book.now version c.calendar calendar.now table.now register.now readings.now },
-    pub ghost gathered: { Gathered engagements.now engaged },
+    pub ghost gathered: { Gathered engagements.now engaged.now },
 }
 
 impl<'a> OpenBook<'a> {
@@ -37,16 +37,16 @@ impl<'a> OpenBook<'a> {
     ghost use Rattle.settlement.specs.SectionsInner.{engagement_count_in, shown_in};
     ghost use Rattle.settlement.specs.OpenedInner.{book_in};
 
-    // A book with its own engagements.
-    pub fn of(book: &'a [u8]) -> OpenBook<'a>
+    // A book with its own engagements, whose days are gathered in the masks that are lent; what these had counts for nothing.
+    pub fn of(book: &'a [u8], engaged: &'a mut [u64; MOST_POINTS]) -> OpenBook<'a>
         requires { refusal_of book.now ≡ none }
         ensures bytes { result.book.now ≡ book.now }
         ensures own { result.engagements.now ≡ engagement_section book.now }
         ensures whole { book_in result ≡ book_of book.now }
     {
         let engagements = section(book, Section::Engagements);
-        let mut engaged = [0u64; MOST_POINTS];
-        crate::days::gather_days(engagements, &mut engaged);
+        engaged.fill(0);
+        crate::days::gather_days(engagements, engaged);
         OpenBook {
             book,
             version: book::header::version_of(book),
@@ -67,6 +67,7 @@ impl<'a> OpenBook<'a> {
         self.engagements.len() / 16
     }
 
+    // An engagement's number is one with that bound: callers have it from a range, and a type for it, which would hold the book once more, is no plainer.
     pub fn engagement(&self, i: usize) -> Engagement
         requires { i < engagement_count_in self.now.engagements.now }
         ensures { result ≡ engagement_at self.now.engagements.now i }
@@ -77,7 +78,7 @@ impl<'a> OpenBook<'a> {
     // What the book shows of engagement i.
     pub fn shown_at(&self, i: usize) -> Shown
         requires { i < engagement_count_in self.now.engagements.now }
-        ensures { result ≡ shown_in self.now.book.now self.now.engagements.now self.now.engaged i }
+        ensures { result ≡ shown_in self.now.book.now self.now.engagements.now self.now.engaged.now i }
     {
         let e = self.engagement(i);
         let point = book::register::point_at(self.register, e.point as usize);

@@ -10,6 +10,7 @@ ghost use Rattle.settlement.specs.SectionsInner.{engagement_count_in, row_count_
 ghost use Rattle.settlement.specs.Calls.{SettleCalled, settled_by};
 ghost use Rattle.settlement.specs.CallsInner.{RowsSent};
 
+use crate::days::MOST_POINTS;
 use crate::opened::OpenBook;
 use crate::rows::ROW_WIDTH;
 use book::Section;
@@ -34,7 +35,7 @@ impl From<Result<usize, Refused>> for Settled {
     }
 }
 
-// The rows of a section of engagements: their quarter-hours, at most 255 for each of 512.
+// The rows of a section of engagements: their quarter-hours, at most 255 for each of 512. By row number: see book `row_at`.
 pub fn count_rows(engagements: &[u8]) -> usize
     requires { engagement_count_in engagements.now ≤ 512 }
     ensures { (result ≡ row_count_in engagements.now) × (result ≤ 130560) }
@@ -59,7 +60,8 @@ pub fn fill_book(book: &[u8], out: &mut [i64])
     requires { (book_refusal book.now ≡ none) × (row_width * row_count (book_of book.now) ≤ length out.old) }
     ensures { out.new ≡ sets out.old 0 (rows (book_of book.now)) }
 {
-    OpenBook::of(book).settle(out);
+    let mut engaged = [0u64; MOST_POINTS];
+    OpenBook::of(book, &mut engaged).settle(out);
 }
 
 // The number of a book's rows, which are filled; or why it is refused, with nothing changed.
@@ -67,7 +69,8 @@ pub fn settle_rows(book: &[u8], out: &mut [i64]) -> Result<usize, Refused>
     ensures { RowsSent book.now out.old out.new (said result) }
 {
     judging::judge::judge_book(book)?;
-    let opened = OpenBook::of(book);
+    let mut engaged = [0u64; MOST_POINTS];
+    let opened = OpenBook::of(book, &mut engaged);
     opened.judge()?;
     let count = row_count(book);
     if out.len() < ROW_WIDTH * count {

@@ -2,30 +2,31 @@
 // the sums that aren't 0 or the refusal, and `changed` if a number that is no part of the answer is not as it was.
 #![tactic(auto)]
 
-ghost use Rattle.std.specs.Prelude.{◌≤◌, length, IfSome, IfOk};
+ghost use Rattle.std.specs.Prelude.{◌≤◌, length, IfOk};
 
+use cases::input::FromWords;
 use cases::words::Words;
 use cases::{answers, lent};
 use refusals::Refused;
 use std::io;
 
-// Whose sheet is asked for, how many numbers are lent, and how many bytes of the buffer are the book.
-#[derive(Clone, Copy)]
-struct Case {
+// Room for the sums of each case.
+const ROOM: usize = 3008;
+
+// Whose sheet of a book is asked for, and how many numbers are lent.
+#[derive(Clone, Copy, Debug, PartialEq, Eq)]
+struct SheetCase {
     party: u16,
     lent: usize,
-    book: usize,
+    ghost within: { lent ≤ 3008 },
 }
 
-// Reads a line, with that many numbers to lend, and puts its book into the buffer.
-fn read_case(line: &[u8], most: usize, book: &mut [u8]) -> Option<Case>
-    ensures { IfSome result (λ case. (case.lent ≤ most) × (case.book ≤ length book.new)) }
-{
-    let mut words = Words::new(line);
-    let party = u16::try_from(words.number()?).ok()?;
-    let lent = words.number_up_to(most)?;
-    let book = words.load(book)?;
-    Some(Case { party, lent, book })
+impl FromWords for SheetCase {
+    fn from_words(words: &mut Words) -> Option<SheetCase> {
+        let party = u16::try_from(words.number()?).ok()?;
+        let lent = words.number_up_to(ROOM)?;
+        Some(SheetCase { party, lent })
+    }
 }
 
 // The number of sums, and the sums that aren't 0, each behind its place; the numbers behind the sums are to be kept.
@@ -45,37 +46,26 @@ fn answer(rt: &impl Print, said: Result<usize, Refused>, sums: &[i64]) -> io::Re
 {
     match said {
         Ok(count) => answer_sums(rt, sums, count),
-        Err(refused) => {
-            println!(rt; "{refused}")?;
-            lent::kept(rt, sums)
-        }
+        Err(refused) => answers::refusal(rt, &refused, sums),
     }
 }
 
-// Asks for the sheet with the first n numbers of sums.
+// Asks for the sheet with the first numbers of sums. `settle_case` of `settle_vectors` has this shape; what they share, room and answers, is `cases`'.
 fn sheet_case(
     rt: &impl Print,
+    case: SheetCase,
     book: &[u8],
-    party: u16,
-    sums: &mut [i64],
-    n: usize,
-) -> io::Result<()>
-    requires { n ≤ length sums.old }
-{
+    sums: &mut [i64; ROOM],
+) -> io::Result<()> {
     lent::prepare(sums);
-    let said = filing::sheet::sheet(book, party, &mut sums[..n]);
+    let said = filing::sheet::sheet(book, case.party, &mut sums[..case.lent]);
     answer(rt, said, sums)
 }
 
-fn run_case(rt: &impl Print, line: &[u8], book: &mut [u8], sums: &mut [i64]) -> io::Result<()> {
-    match read_case(line, sums.len(), book) {
-        Some(case) => sheet_case(rt, &book[..case.book], case.party, sums, case.lent),
-        None => answers::no_case(rt),
-    }
-}
-
+// Beside what `each_case` does, only the room and the call are left.
 fn main(rt: HostRuntime) -> io::Result<()> {
-    let mut book = vec![in rt.alloc(); 0; cases::BOOK_ROOM]?;
-    let mut sums = [0; 3008];
-    cases::input::each_line(&rt, |line| run_case(&rt, line, &mut book, &mut sums))
+    let mut sums = [0; ROOM];
+    cases::input::each_case(&rt, cases::BOOK_ROOM, |case, book| {
+        sheet_case(&rt, case, book, &mut sums)
+    })
 }

@@ -1,1 +1,2 @@
 pub mod PartiesLaws
+pub mod PartsLaws

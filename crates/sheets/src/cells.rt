@@ -1,22 +1,12 @@
 // What settlement rows add to the cells of a sheet, one for each quarter-hour of the month.
-ghost use Rattle.std.specs.Prelude.{◌≡◌, cond, ◌*◌, ◌≤◌, ◌<◌, eqb, pos, ◌+ℤ◌, length, get_or};
-ghost use Rattle.std.specs.Int.{w64};
-ghost use Rattle.std.proofs.Common.{SFits};
+ghost use Rattle.std.specs.Prelude.{◌≡◌, cond, ◌*◌, ◌≤◌, eqb, pos, length};
 ghost use Rattle.volumes.specs.Settlement.{row_width};
 ghost use Rattle.volumes.specs.SoundInner.{Bounded};
-ghost use Rattle.sheets.specs.AddsInner.{add_at, adds, Addable};
+ghost use Rattle.sheets.specs.AddsInner.{adds, Addable};
 ghost use Rattle.sheets.specs.SharesInner.{correction_most, gets, gets_of, RowsSmall};
 
 use book::Point;
 use settlement::rows::ROW_WIDTH;
-
-// Adds a correction to cell i.
-pub fn add_at(sums: &mut [i64], i: usize, correction: i64)
-    requires { (i < length sums.old) × SFits w64 (get_or sums.old i (pos 0) +ℤ correction) }
-    ensures { sums.new ≡ add_at sums.old i correction }
-{
-    sums[i] += correction;
-}
 
 // A column's correction, if the party stands in the column.
 fn amount(column: u16, party: u16, correction: i64) -> i64
@@ -26,7 +16,7 @@ fn amount(column: u16, party: u16, correction: i64) -> i64
 }
 
 // A party at a point, in a book of a version.
-#[derive(Clone, Copy)]
+#[derive(Clone, Copy, Debug, PartialEq, Eq)]
 pub struct Share {
     pub version: u16,
     pub party: u16,
@@ -48,15 +38,16 @@ impl Share {
         two + amount(point.injectionparty, self.party, injection)
     }
 
-    // Adds what the party gets of `count` rows, from cell `at` on.
-    pub fn add_rows(self, rows: &[i64], count: usize, sums: &mut [i64], at: usize)
-        requires { (row_width * count ≤ length rows.now) × RowsSmall rows.now count × Addable sums.old at (gets_of self.version self.party self.point rows.now count) }
-        ensures { sums.new ≡ adds sums.old at (gets_of self.version self.party self.point rows.now count) }
+    // Adds what the party gets of rows, one to each cell. By place: over `zip` a turn would tell of the pair's iterator and no longer of the cells (see series
+    // `add_volumes`).
+    pub fn add_rows(self, rows: &[i64], sums: &mut [i64])
+        requires { (row_width * length sums.old ≤ length rows.now) × RowsSmall rows.now (length sums.old) × Addable sums.old 0 (gets_of self.version self.party self.point rows.now (length sums.old)) }
+        ensures { sums.new ≡ adds sums.old 0 (gets_of self.version self.party self.point rows.now (length sums.old)) }
     {
-        for k in 0..count {
-            let row = ROW_WIDTH * k;
-            let correction = self.of(rows[row + 2], rows[row + 3], rows[row + 4]);
-            add_at(sums, at + k, correction);
+        let (rows, _) = rows.as_chunks::<ROW_WIDTH>();
+        for (k, sum) in sums.iter_mut().enumerate() {
+            let [_, _, source, fsp, injection] = rows[k];
+            *sum += self.of(source, fsp, injection);
         }
     }
 }

@@ -13,6 +13,7 @@ ghost use Rattle.sheets.specs.AddsInner.{adds, Addable};
 ghost use Rattle.sheets.specs.SharesInner.{corrections_for, first_cell};
 
 use crate::cells::Share;
+use settlement::days::MOST_POINTS;
 use settlement::opened::OpenBook;
 use settlement::rows::ROW_WIDTH;
 
@@ -30,7 +31,7 @@ fn add_engagement(opened: &OpenBook, i: usize, party: u16, sums: &mut [i64])
     let mut rows = [0i64; ROW_WIDTH * quarters::LONGEST_DAY];
     opened.settle_engagement_at(i, &mut rows);
     let at = opened.c.calendar.cell_of(e.day, e.first);
-    share.add_rows(&rows, e.count as usize, sums, at);
+    share.add_rows(&rows, &mut sums[at..at + e.count as usize]);
 }
 
 // Fills the sheet of a party, of a book no engagement of which is refused.
@@ -57,5 +58,6 @@ pub fn fill_sheet(book: &[u8], party: u16, sums: &mut [i64])
     requires { (book_refusal book.now ≡ none) × (month_quarters (book_of book.now).calendar ≤ length sums.old) }
     ensures { sums.new ≡ sheet (book_of book.now) party ++ drop (month_quarters (book_of book.now).calendar) sums.old }
 {
-    fill_cells(&OpenBook::of(book), party, sums);
+    let mut engaged = [0u64; MOST_POINTS];
+    fill_cells(&OpenBook::of(book, &mut engaged), party, sums);
 }

@@ -15,7 +15,7 @@ fn in_columns(version: u16, point: Point, party: u16) -> bool
         | (book::header::splits(version) & (point.injectionparty == party))
 }
 
-// It is one of row i's.
+// It is one of row i's. By row number: see book `row_at`.
 #[tactic(auto, unfolding(crate::specs::PartiesInner::in_row))]
 fn in_row(version: u16, register: &[u8], party: u16, i: usize) -> bool
     requires { 64 * i + 64 ≤ length register.now }
@@ -28,11 +28,5 @@ fn in_row(version: u16, register: &[u8], party: u16, i: usize) -> bool
 pub fn is_party(version: u16, register: &[u8], party: u16) -> bool
     ensures { result ≡ stands party (parties_in version register.now) }
 {
-    // `any` of the range was tried: what it answers of this test didn't close.
-    for i in 0..register.len() / 64 {
-        if in_row(version, register, party, i) {
-            return true;
-        }
-    }
-    false
+    (0..register.len() / 64).any(|i| in_row(version, register, party, i))
 }

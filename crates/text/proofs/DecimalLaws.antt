@@ -197,3 +197,23 @@ few-digits n v k h = go (leb (suc (count v (v / 10))) n) refl
         let c = count v (v / 10) in
         let m : n ≤ c = omega (arith, leb-false (suc c) n e) in
         absurd (omega (arith, above-none c v (below-within c n v m (above-none n v h)), (plain-has v).lead (omega arith)))
+
+-- ---- as the check cites them
+
+-- n digits of v that are all and whose first isn't 0 are how many v has
+pub counted : (n v : ℕ) → 1 ≤ n → above n v ≡ 0 → (1 < n → 0 < above (n - 1) v) → n ≡ length (plain v)
+counted zero v h e l = absurd (omega arith)
+counted (suc m) v h e l =
+    let f : suc m - 1 ≡ m = omega arith in
+    sym (ap length (plain-is m v (omega (arith, above-suc m v)) (λ z. rw f at (l (omega arith)))) ∙ length-fixed (suc m) v)
+
+-- one digit more is counted
+pub above-more : (n v : ℕ) → above (n + 1) v ≡ above n v / 10
+above-more n v = rw add-one (above-suc n v)
+
+pub above-one : (v : ℕ) → above 1 v ≡ v / 10
+above-one v = omega (arith, above-suc 0 v, above_zero v)
+
+pub ruleset widths = (above-one, above-more, fewer, counted)
+
+pub ruleset plains = (plain-fixed)

@@ -1,3 +1,4 @@
 pub mod DecimalLaws
+pub mod FixedLaws
 pub mod TagLaws
 pub mod WrittenLaws

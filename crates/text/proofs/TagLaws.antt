@@ -48,6 +48,12 @@ begins-short t s h = go (begins t s) refl
     go true e = absurd (omega (arith, begins-length t s e))
     go false e = e
 
+-- where less than a tag is left, only the empty one begins
+pub begins-no-room : (s t : List ℕ) (p : ℕ) → length s < p + length t → begins t (drop p s) ≡ eqb (length t) 0
+unfolding begins
+begins-no-room s [] p h = refl
+begins-no-room s (x ∷ t) p h = begins-short (x ∷ t) (drop p s) (omega (arith, length-drop p s)) ∙ sym (ne_eqb (length (x ∷ t)) 0 (λ e. omega arith))
+
 module _ (s t : List ℕ) (i : ℕ) where
   pub begins-end : length t ≤ i → begins (drop i t) (drop i s) ≡ true
   unfolding begins
@@ -56,3 +62,6 @@ module _ (s t : List ℕ) (i : ℕ) where
   pub begins-step : i < length t → i < length s → begins (drop i t) (drop i s) ≡ (eqb (get_or s i 0) (get_or t i 0) && begins (drop (i + 1) t) (drop (i + 1) s))
   unfolding begins
   begins-step h k = rw (add-one, drop-cons t i 0 h, drop-cons s i 0 k)
+
+-- the same, as the check cites them
+pub ruleset tags = (to_end, begins-outside, begins-short, begins-end, begins-step, and_assoc)

@@ -78,3 +78,8 @@ and_then {d} {at} {a} {b} {out} {out'} {p} {p'} v w =
 
 pub wrote_none : (d : List ℕ) (at : ℕ) → at ≤ length d → Wrote d at [] d at
 wrote_none d at h = record { room = omega arith; behind = omega arith; list = sym (written-nil d at) }
+
+-- the same, as the check cites it
+pub ruleset copies = (written-copied)
+
+pub ruleset writes = (written_both, length-written)

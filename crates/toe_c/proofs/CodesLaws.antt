@@ -1,10 +1,12 @@
 -- A call's record and the code of its answer are the call's at this boundary. A reading's facts fill eight places, or stay; where there are fewer than eight, all stays.
 use Rattle.std.specs.Prelude.{◌≡◌, refl, List, ℕ, ◌^◌, ◌≤◌, ◌<◌, ℤ, length, Result, Ok, Err}
+use Rattle.std.proofs.lemmas.List.Edits.{sets}
 use Rattle.std.proofs.Common.{le-leb}
 use Rattle.std.proofs.lemmas.Bool.{lt-leb}
 use Rattle.refusals.specs.Refusals.{Refusal}
 use Rattle.refusals.specs.Buffers.{over, afterwards}
-use Rattle.refusals.specs.Sent.{said}
+use Rattle.refusals.specs.BuffersLaws.{sets_over}
+use Rattle.refusals.specs.Sent.{sent_back, said}
 use Rattle.refusals.specs.declared.Refused.{Refused}
 use Rattle.refusals.specs.declared.Refused.TheVariants.{Short}
 use Rattle.message.specs.declared.FileFacts.{FileFacts}
@@ -17,7 +19,7 @@ use Rattle.settlement.specs.Calls.{SettleCalled, settled_by}
 use Rattle.settlement.specs.CallsInner.{RowsSent}
 use Rattle.settlement.specs.CallsLaws.{called}
 use Rattle.reports.specs.Calls.{SheetCalled, FileCalled}
-use Rattle.toe_c.specs.Codes.{reply, code_of, bytes_in, SettleCoded, SheetCoded, FileCoded, WriteCoded, fact_numbers, with_facts, rows_by, facts_by, rows_read, ReadCoded}
+use Rattle.toe_c.specs.Codes.{reply, refusal_code, code_of, bytes_in, SettleCoded, SheetCoded, FileCoded, WriteCoded, fact_numbers, with_facts, rows_by, facts_by, rows_read, ReadCoded}
 use Rattle.toe_c.specs.FactsInner.{FactsRead}
 use Rattle.toe_c.specs.SmallInner.{SmallReply}
 use Rattle.toe_c.proofs.SmallLaws.{reply_small, settle-small, sheet-small, file-small, write-small, read_small, facts-small}
@@ -50,6 +52,11 @@ pub file-coded : {bytes : List ℕ} {kind receiver : ℕ} {id moment : List ℕ}
 file-coded r code s e = record { answer = r; called = s; coded = e; told = λ z. told-by bytes_in (said r) code e (file-small s) (file-answer-few s) }
 
 -- ---- reading
+
+-- eight stores
+pub facts-over : (f : FileFacts) (before : List ℕ) → 8 ≤ length before → sets before 0 (fact_numbers f) ≡ over (fact_numbers f) before
+unfolding fact_numbers
+facts-over f before h = sets_over (fact_numbers f) before h
 
 -- room for eight
 enough : (lent : ℕ) (r : Result FileFacts Refusal) → 8 ≤ lent → with_facts lent r ≡ r
@@ -98,3 +105,19 @@ read-coded {file} {rows_before} {facts_before = facts_before} p code fits c e =
     let small = facts-small lent (said c.answer) (read_small file (length rows_before) c.called.answer) in
     let few = facts-few lent (said c.answer) (read-few file (length rows_before) fits c.called.answer) in
     record { answer = c.answer; filled = c.filled; called = c.called; rows = c.rows; facts = c.facts; coded = f; told = told-by rows_read (with_facts lent (said c.answer)) code f small few }
+
+-- ---- a reading, by its own record and what is done with its answer
+
+module _ (file rows_before rows_after facts_before : List ℕ) (fits : length file < 2 ^ 64) (long : 8 ≤ length facts_before) where
+  pub read-accepted : (f : FileFacts) → ReadCalled file rows_before rows_after (Ok f) → ReadCoded file rows_before rows_after facts_before (over (fact_numbers f) facts_before) f.rows
+  read-accepted f c = read-coded (Ok f.rows) f.rows fits (facts-read file rows_before rows_after facts_before f long c) refl
+
+  pub read-refused : (r : Refused) → ReadCalled file rows_before rows_after (Err r) → ReadCoded file rows_before rows_after facts_before facts_before (refusal_code (sent_back r).number (sent_back r).item)
+  read-refused r c = read-coded (said {A = ℕ} (Err r)) _ fits (facts-refused file rows_before rows_after facts_before r long c) refl
+
+-- fewer than eight facts are as good as none
+pub read_short : (file rows facts : List ℕ) (r : Result FileFacts Refused) (code : ℕ) → length file < 2 ^ 64 → length facts < 8 → said r ≡ read_answer file (length rows) → code ≡ code_of (reply rows_read (with_facts 0 (said r)))
+    → ReadCoded file rows rows facts facts code
+unfolding with_facts
+read_short file rows facts (Ok f) code fits h e g = read-coded (said {A = ℕ} (Err (Short 1))) code fits (judged-short file rows facts f h e) g
+read_short file rows facts (Err r) code fits h e g = read-coded (said {A = ℕ} (Err r)) code fits (judged-refused file rows facts r e) g

@@ -8,6 +8,9 @@ use Rattle.refusals.specs.Sent.{said, says}
 use Rattle.refusals.specs.declared.Refused.{Refused}
 use Rattle.volumes.proofs.NumbersLaws.{Listed, settling-listed}
 use Rattle.volumes.specs.Settlement.{settling_refusal}
+use Rattle.settlement.specs.declared.settle.Settled.{Settled}
+use Rattle.settlement.specs.declared.settle.Settled.TheVariants.{Rows as SettledRows, Refused as SettledRefused}
+use Rattle.settlement.specs.Calls.{settle_says, settled_by}
 use Rattle.settlement.specs.CallsInner.{RowsSent}
 use Rattle.moments.specs.Ids.{is_transaction_id}
 use Rattle.message.specs.declared.FileFacts.{FileFacts}
@@ -22,7 +25,7 @@ use Rattle.writer.specs.WriteCalls.{write_refusal, write_answer, WriteCalled}
 use Rattle.reports.proofs.NumbersLaws.{sheet-listed, file-listed}
 use Rattle.reports.specs.Calls.{sheet_refusal, sheet_answer, SheetCalled, file_refusal, file_answer, FileCalled}
 use Rattle.volumes.specs.Series.{Kind}
-use Rattle.toe_c.specs.Codes.{reply, refusal_code, Decoded, with_facts}
+use Rattle.toe_c.specs.Codes.{reply, itself, bytes_in, rows_read, refusal_code, Decoded, with_facts}
 use Rattle.toe_c.specs.SmallInner.{Small, SmallReply}
 
 abbrev pub AllSmall : Option Refusal → Type 0
@@ -30,6 +33,41 @@ AllSmall = Each Small
 
 few : (number item : ℕ) → number ≤ 31 → item ≤ 512 → Small number item
 few number item h k = record { number_few = h; item_few = k }
+
+-- ---- each call's answer is a reply by its refusal
+
+reply-by : {A : Type 0} (count : A → ℕ) (x : Option Refusal) (a : A) → reply count (says x a) ≡ says x (count a)
+reply-by count none a = refl
+reply-by count (some r) a = refl
+
+-- what a settling's answer says to C
+abbrev pub settle_reply : Settled → Result ℕ Refusal
+settle_reply (SettledRows count) = Ok count
+settle_reply (SettledRefused number item) = Err (record { number = number; item = item })
+
+pub settle-by : (x : Option Refusal) (n : ℕ) → settle_reply (settle_says x n) ≡ says x n
+unfolding settle_says
+settle-by none n = refl
+settle-by (some r) n = refl
+
+-- that is what its count or error says
+pub settle-replied : (r : Result ℕ Refused) → settle_reply (settled_by r) ≡ reply itself (said r)
+settle-replied (Ok n) = refl
+settle-replied (Err e) = refl
+
+pub sheet-by : (x : Option Refusal) (n : ℕ) → reply itself (says x n) ≡ says x n
+sheet-by x n = reply-by itself x n
+
+pub file-by : (x : Option Refusal) (row_count n : ℕ) → reply bytes_in (says x (row_count, n)) ≡ says x n
+file-by x row_count n = reply-by bytes_in x (row_count, n)
+
+pub write-by : (x : Option Refusal) (n : ℕ) → reply itself (says x n) ≡ says x n
+write-by x n = reply-by itself x n
+
+pub read_by : (x : Option Refusal) (f : FileFacts) → reply rows_read (says x f) ≡ says x f.rows
+read_by x f = reply-by rows_read x f
+
+-- ---- small numbers
 
 -- two refusals of one code are the same
 pub told-apart : (m n i j : ℕ) → Small m i → Small n j → refusal_code m i ≡ refusal_code n j → (m ≡ n) × (i ≡ j)

@@ -2,7 +2,6 @@
 // feed behind a file.
 #![tactic(auto)]
 
-use cases::words::Words;
 use std::io;
 
 // A file has no line feed at its end, a refusal has one.
@@ -21,14 +20,6 @@ fn answer(rt: &impl Print, input: &[u8]) -> io::Result<()> {
     print(rt, &out[..count])
 }
 
-fn run_case(rt: &impl Print, line: &[u8], input: &mut [u8]) -> io::Result<()> {
-    match Words::new(line).load(input) {
-        Some(n) => answer(rt, &input[..n]),
-        None => cases::answers::no_case(rt),
-    }
-}
-
 fn main(rt: HostRuntime) -> io::Result<()> {
-    let mut input = vec![in rt.alloc(); 0; cases::BOOK_ROOM]?;
-    cases::input::each_line(&rt, |line| run_case(&rt, line, &mut input))
+    cases::input::each_case(&rt, cases::BOOK_ROOM, |(), input| answer(&rt, input))
 }

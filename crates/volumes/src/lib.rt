@@ -14,6 +14,7 @@ pub struct Series {
 }
 
 // P1 to P10 of document 01, together.
+#[tactic(auto, using(crate::proofs::ExamplesLaws::checked))]
 pub fn examples_hold()
     ensures { Checked }
 {}

@@ -1,5 +1,5 @@
 -- A reading raised by 2^31 watts, which has no sign; a missing one is 0.
-use Rattle.std.specs.Prelude.{◌≡◌, ℕ, List, pos, ◌+ℤ◌, Some, None}
+use Rattle.std.specs.Prelude.{◌≡◌, ℕ, ◌≤◌, List, pos, ◌+ℤ◌, Option, Some, None}
 use Rattle.integers.proofs.ZLaws.{up, Within}
 use Rattle.wire.specs.Readings.{Reading, watts_at, reading_at}
 
@@ -16,3 +16,8 @@ raised None = 0
 pub record Raised (xs : List ℕ) (i r : ℕ) : Type 0 where
   pub is : r ≡ raised (reading_at xs i)
   pub range : Within (watts_at xs i) raise
+
+-- the same of one that is there, which isn't 0, or of none
+abbrev pub RaisedIf : List ℕ → ℕ → Option ℕ → Type 0
+RaisedIf xs i (Some r) = Raised xs i r × (1 ≤ r)
+RaisedIf xs i None = Raised xs i 0

@@ -1,11 +1,11 @@
 -- What 4 bytes say as a reading, and what the raised reading tells of it: its watts plus 2^31, and 0 only where it is missing.
-use Rattle.std.specs.Prelude.{◌≡◌, ℕ, suc, ◌+◌, ◌%◌, ◌^◌, ◌<◌, Bool, true, false, ℤ, pos, negsuc, ◌==◌, nat_lt, refl, Some, None}
+use Rattle.std.specs.Prelude.{◌≡◌, ℕ, suc, ◌+◌, ◌%◌, ◌^◌, ◌<◌, Bool, true, false, ℤ, pos, negsuc, ◌==◌, nat_lt, refl, List, Option, Some, None, unwrap_or}
 use Rattle.std.proofs.Common.{arith, to_z, eqb-true, ltb-true, ltb-false}
 use Rattle.std.specs.Int.{w32}
 use Rattle.std.proofs.lemmas.Bool.{eqb-false}
 use Rattle.integers.proofs.ZLaws.{sum, Over, Within, low, high}
 use Rattle.wire.specs.Readings.{reading_of, missing_if}
-use Rattle.wire.specs.ReadingsInner.{raised, raise}
+use Rattle.wire.specs.ReadingsInner.{raised, raise, Raised, RaisedIf}
 
 -- the raised reading of z is z + 2^31
 pub raised-over : (z : ℤ) → Within z raise → Over raise z (raised (reading_of z))
@@ -42,3 +42,8 @@ missing-raised (negsuc w) h e = go (suc w == 2147483648) refl e
     go : (b : Bool) → (suc w == 2147483648) ≡ b → raised (missing_if b (Some (negsuc w))) ≡ 0 → missing_if b (Some (negsuc w)) ≡ None
     go true q e = refl
     go false q e = absurd (eqb-false (suc w) 2147483648 q (omega (arith, h.below, sum (negsuc w) (pos raise))))
+
+-- of a reading that is there or none, its raised number: 0 where there is none
+pub or-none : (xs : List ℕ) (i : ℕ) (o : Option ℕ) → RaisedIf xs i o → Raised xs i (unwrap_or o 0)
+or-none xs i (Some r) h = h.0
+or-none xs i None h = h

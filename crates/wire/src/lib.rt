@@ -3,7 +3,7 @@
 
 ghost use Rattle.std.specs.Prelude.{◌≡◌, ◌+◌, ◌*◌, ◌≤◌, ◌==◌, length, take, drop};
 ghost use Rattle.wire.specs.Numbers.{little, number_at};
-ghost use Rattle.wire.specs.ReadingsInner.{Raised};
+ghost use Rattle.wire.specs.ReadingsInner.{RaisedIf};
 
 // The N bytes from `at` on.
 fn bytes_at<const N: usize>(s: &[u8], at: usize) -> [u8; N]
@@ -43,7 +43,7 @@ pub fn u64_at(s: &[u8], at: usize) -> u64
     u64::from_le_bytes(bytes_at(s, at))
 }
 
-// All bytes are zero, and so is their number.
+// Whether all bytes are zero. The contract says that their number is 0, which is the same.
 pub fn are_zero(bytes: &[u8]) -> bool
     ensures { result ≡ (little bytes.now == 0) }
 {
@@ -53,12 +53,14 @@ pub fn are_zero(bytes: &[u8]) -> bool
 // What a raised reading has more than the reading, in watts.
 pub const RAISE: u32 = 2147483648;
 
-// Reading `i` of the readings that `s` holds, without a sign: its watts and the raise, and 0 where it is missing. No Option of it: tallies add it as it is, and
-// the loops over readings test several at once.
+// Reading `i` of the readings that `s` holds, without a sign: its watts and the raise; none where it is missing.
 #[tactic(auto, using(crate::proofs::RaisedLaws::raised_bytes))]
-pub fn raised_at(s: &[u8], i: usize) -> u32
+pub fn raised_at(s: &[u8], i: usize) -> Option<u32>
     requires { 4 * i + 4 ≤ length s.now }
-    ensures { Raised s.now i result }
+    ensures { RaisedIf s.now i result }
 {
-    u32_at(s, 4 * i).wrapping_add(RAISE)
+    match u32_at(s, 4 * i).wrapping_add(RAISE) {
+        0 => None,
+        raised => Some(raised),
+    }
 }

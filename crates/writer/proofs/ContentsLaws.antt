@@ -1,7 +1,7 @@
 -- What rows hold, run by run: the bytes of the first, and those of the rest.
-use Rattle.std.specs.Prelude.{◌≡◌, refl, true, ◌&&◌, List, [], ◌∷◌, ◌++◌, map, ℕ, zero, suc, ◌+◌, ◌/◌, ◌^◌, ◌≤◌, ◌<◌, ltb, length, get_or, take, drop}
+use Rattle.std.specs.Prelude.{◌≡◌, refl, true, ◌&&◌, List, [], ◌∷◌, ◌++◌, map, ℕ, suc, ◌+◌, ◌/◌, ◌^◌, ◌≤◌, ◌<◌, ltb, length, get_or, drop}
 use Rattle.std.proofs.Common.{sym, ap, ap₂, ◌∙◌, arith, drop-cons, drop_of_length-le}
-use Rattle.std.proofs.lemmas.List.{get_or-take, length-map}
+use Rattle.std.proofs.lemmas.List.{length-map}
 use Rattle.std.specs.Simd.{first_chunks}
 use mathlib.Core.List.{flat_map, map-map}
 use Rattle.integers.proofs.TestsLaws.{and_left, and_right}
@@ -17,19 +17,18 @@ use Rattle.message.specs.Rows.{Row, rows_in, in_sixes, series_of, partner_of, pa
 use Rattle.message.specs.Messages.{message_bytes}
 use Rattle.message.proofs.GroupLaws.{first_group}
 use Rattle.emitter.specs.declared.Title.{Title}
-use Rattle.emitter.specs.PartsInner.{file_head, file_end}
-use Rattle.emitter.proofs.PartsLaws.{file-parts}
+use Rattle.emitter.specs.PartsInner.{series_head, series_end, partner_head, partner_end, file_head, file_end}
+use Rattle.emitter.proofs.PartsLaws.{series-parts, partner-parts, file-parts}
 use Rattle.writer.specs.Order.{every, ordered}
 use Rattle.writer.specs.Rows.{is_row, row_before, of_month, is_rows, rows_message}
 use Rattle.writer.specs.RowsInner.{row_in}
-use Rattle.writer.specs.RunsInner.{partner_run, directions_run}
+use Rattle.writer.specs.RunsInner.{directed_in, FirstRun}
 use Rattle.writer.specs.ContentsInner.{observations_in, series_at, series_in, partner_at, partners_in, message_by}
-use Rattle.writer.proofs.RunsLaws.{FirstRun, directed_in, partner-first, directions-first}
 use Rattle.writer.proofs.SixesLaws.{rows-chunks}
 
 -- ---- observations
 
-pub observations-length : (rows : List (List ℕ)) → length (observations_in rows) ≡ length rows
+observations-length : (rows : List (List ℕ)) → length (observations_in rows) ≡ length rows
 observations-length rows = length-map (map row_in rows) (λ r. r.1.1) ∙ length-map rows row_in
 
 pub observations-step : (rows : List (List ℕ)) (i : ℕ) → i < length rows
@@ -60,92 +59,63 @@ partners-none k q (x ∷ rows) e = absurd (omega (arith, e))
 directed-is : (rows : List (List ℕ)) → map (λ r. r.1) (map row_in rows) ≡ map directed_in rows
 directed-is rows = map-map (λ r. r.1) row_in rows
 
-first-series : (q : ℕ × ℕ) (rows : List (List ℕ)) (n : ℕ) → 0 < n
-    → series_of q ((directed_in (get_or rows 0 [])).0, map (λ x. x.1) (map directed_in (take n rows))) ≡ series_at q (take n rows)
-first-series q rows n h =
-    let t = take n rows in
-    let held : map (λ x. x.1) (map directed_in t) ≡ observations_in t = map-map (λ x. x.1) directed_in t ∙ sym (map-map (λ r. r.1.1) row_in t) in
-    ap₂ (λ (x : List ℕ) (o : List Observation). record { supply = get_or x 1 0; delivery = get_or x 2 0; year = q.0; month = q.1; observations = o }) (sym (get_or-take n rows 0 [] h)) held
+first-series : (q : ℕ × ℕ) (rows : List (List ℕ)) → series_of q ((directed_in (get_or rows 0 [])).0, map (λ x. x.1) (map directed_in rows)) ≡ series_at q rows
+first-series q rows =
+    ap (λ (o : List Observation). record { supply = get_or (get_or rows 0 []) 1 0; delivery = get_or (get_or rows 0 []) 2 0; year = q.0; month = q.1; observations = o })
+    (map-map (λ x. x.1) directed_in rows ∙ sym (map-map (λ r. r.1.1) row_in rows))
 
-module _ (k : Kind) (q : ℕ × ℕ) (rows : List (List ℕ)) where
-  series-step : 1 ≤ length rows
-      → flat_map (series_bytes k) (series_in q rows) ≡ series_bytes k (series_at q (take (directions_run rows) rows)) ++ flat_map (series_bytes k) (series_in q (drop (directions_run rows) rows))
+-- of rows that were cut behind their first run
+module _ (k : Kind) (q : ℕ × ℕ) {rows a b : List (List ℕ)} where
+  pub series-cut : FirstRun directions_keys directed_in rows a b
+      → flat_map (series_bytes k) (series_in q rows) ≡ series_bytes k (series_at q a) ++ flat_map (series_bytes k) (series_in q b)
   unfolding flat_map
-  series-step h =
-      let r = directions-first rows h in
-      let n = directions_run rows in
+  series-cut r =
       let bytes = flat_map (series_bytes k) in
       ap (λ (g : List ((ℕ × ℕ) × Observation)). bytes (map (series_of q) (group directions_keys g))) (directed-is rows)
       ∙ ap (λ (gs : List ((ℕ × ℕ) × List Observation)). bytes (map (series_of q) gs)) r.first
-      ∙ ap₂ (λ (s : TimeSeries) (g : List ((ℕ × ℕ) × Observation)). series_bytes k s ++ bytes (map (series_of q) (group directions_keys g)))
-      (first-series q rows n r.some) (sym (directed-is (drop n rows)))
+      ∙ ap₂ (λ (s : TimeSeries) (g : List ((ℕ × ℕ) × Observation)). series_bytes k s ++ bytes (map (series_of q) (group directions_keys g))) (first-series q a) (sym (directed-is b))
 
-  partners-step : 1 ≤ length rows
-      → flat_map (partner_bytes k) (partners_in q rows) ≡ partner_bytes k (partner_at q (take (partner_run rows) rows)) ++ flat_map (partner_bytes k) (partners_in q (drop (partner_run rows) rows))
-  unfolding partners_of flat_map
-  partners-step h =
-      let r = partner-first rows h in
-      let n = partner_run rows in
-      let bytes = flat_map (partner_bytes k) in
-      ap (λ (gs : List (ℕ × List ((ℕ × ℕ) × Observation))). bytes (map (partner_of q) gs)) r.first
-      ∙ ap (λ (x : List ℕ). partner_bytes k (record { number = get_or x 0 0; series = series_in q (take n rows) }) ++ bytes (partners_in q (drop n rows))) (sym (get_or-take n rows 0 [] r.some))
-
-  -- the same of the two parts that rows were cut into
-  pub series-cut : {n : ℕ} {a b : List (List ℕ)} → 1 ≤ length rows → n ≡ directions_run rows → a ≡ take n rows → b ≡ drop n rows
-      → flat_map (series_bytes k) (series_in q rows) ≡ series_bytes k (series_at q a) ++ flat_map (series_bytes k) (series_in q b)
-  series-cut h e f g = rw (f, g, e) (series-step h)
-
-  pub partners-cut : {n : ℕ} {a b : List (List ℕ)} → 1 ≤ length rows → n ≡ partner_run rows → a ≡ take n rows → b ≡ drop n rows
+  pub partners-cut : FirstRun number_keys row_in rows a b
       → flat_map (partner_bytes k) (partners_in q rows) ≡ partner_bytes k (partner_at q a) ++ flat_map (partner_bytes k) (partners_in q b)
-  partners-cut h e f g = rw (f, g, e) (partners-step h)
-
-module _ (q : ℕ × ℕ) (rows : List (List ℕ)) where
-  pub series-count : length (series_in q rows) ≡ length (group directions_keys (map (λ r. r.1) (map row_in rows)))
-  series-count = length-map (group directions_keys (map (λ r. r.1) (map row_in rows))) (series_of q)
-
-  pub partners-count : length (partners_in q rows) ≡ length (group number_keys (map row_in rows))
-  unfolding partners_of
-  partners-count = length-map (group number_keys (map row_in rows)) (partner_of q)
-
--- ---- how many
-
-pub partners-left : {n : ℕ} {b : List (List ℕ)} (rows : List (List ℕ)) → 1 ≤ length rows → n ≡ partner_run rows → b ≡ drop n rows
-    → length (group number_keys (map row_in rows)) ≡ suc (length (group number_keys (map row_in b)))
-partners-left rows h e f = rw (f, e) (ap length (partner-first rows h).first)
-
-pub series-left : {n : ℕ} {b : List (List ℕ)} (rows : List (List ℕ)) → 1 ≤ length rows → n ≡ directions_run rows → b ≡ drop n rows
-    → length (group directions_keys (map (λ r. r.1) (map row_in rows))) ≡ suc (length (group directions_keys (map (λ r. r.1) (map row_in b))))
-series-left rows h e f =
-    let r = directions-first rows h in
-    rw (f, e)
-    (ap (λ (g : List ((ℕ × ℕ) × Observation)). length (group directions_keys g)) (directed-is rows) ∙ ap length r.first
-    ∙ ap (λ (g : List ((ℕ × ℕ) × Observation)). suc (length (group directions_keys g))) (sym (directed-is (drop (directions_run rows) rows))))
-
-pub no-partners : (rows : List (List ℕ)) → length rows ≡ 0 → length (group number_keys (map row_in rows)) ≡ 0
-unfolding group
-no-partners [] e = refl
-no-partners (x ∷ rows) e = absurd (omega (arith, e))
-
-pub no-series : (rows : List (List ℕ)) → length rows ≡ 0 → length (group directions_keys (map (λ r. r.1) (map row_in rows))) ≡ 0
-unfolding group
-no-series [] e = refl
-no-series (x ∷ rows) e = absurd (omega (arith, e))
+  unfolding partners_of flat_map
+  partners-cut r = ap (λ (gs : List (ℕ × List ((ℕ × ℕ) × Observation))). flat_map (partner_bytes k) (map (partner_of q) gs)) r.first
 
 -- the first row's supply direction is the first series'
-pub series-supply : (q : ℕ × ℕ) (rows : List (List ℕ)) → 1 ≤ length rows → supply_of (series_in q rows) ≡ get_or (get_or rows 0 []) 1 0
+series-supply : (q : ℕ × ℕ) (rows : List (List ℕ)) → 1 ≤ length rows → supply_of (series_in q rows) ≡ get_or (get_or rows 0 []) 1 0
 unfolding supply_of
 series-supply q [] h = absurd (omega arith)
 series-supply q (x ∷ rows) h =
     let f = first_group directions_keys (row_in x).1 (map (λ r. r.1) (map row_in rows)) in
     ap (λ (g : List ((ℕ × ℕ) × List Observation)). supply_of (map (series_of q) g)) f.is
 
--- ---- a file by its rows
+-- ---- head, what is held, end, of rows
 
-pub message-parts : (t : Title) (id moment : List ℕ) (rows : List (List ℕ))
-    → file_head t.kind id moment t.receiver (length (partners_in (t.year, t.month) rows)) ++ (flat_map (partner_bytes t.kind) (partners_in (t.year, t.month) rows) ++ file_end t.kind)
+pub series-laid : (k : Kind) (q : ℕ × ℕ) (rows : List (List ℕ))
+    → series_head k (get_or (get_or rows 0 []) 1 0) (get_or (get_or rows 0 []) 2 0) (length rows) q.0 q.1 ++ (flat_map observation_bytes (observations_in rows) ++ series_end)
+    ≡ series_bytes k (series_at q rows)
+series-laid k q rows =
+    let s = series_at q rows in
+    ap (λ (n : ℕ). series_head k s.supply s.delivery n q.0 q.1 ++ (flat_map observation_bytes s.observations ++ series_end)) (sym (observations-length rows)) ∙ series-parts k s
+
+pub partner-laid : (k : Kind) (q : ℕ × ℕ) (rows : List (List ℕ)) {n : ℕ} → 1 ≤ length rows → n ≡ length (group directions_keys (map (λ r. r.1) (map row_in rows)))
+    → partner_head k (get_or (get_or rows 0 []) 0 0) (get_or (get_or rows 0 []) 1 0) n ++ (flat_map (series_bytes k) (series_in q rows) ++ partner_end k)
+    ≡ partner_bytes k (partner_at q rows)
+partner-laid k q rows h e =
+    let p = partner_at q rows in
+    let count = length-map (group directions_keys (map (λ r. r.1) (map row_in rows))) (series_of q) in
+    ap₂ (λ (d n : ℕ). partner_head k p.number d n ++ (flat_map (series_bytes k) p.series ++ partner_end k)) (sym (series-supply q rows h)) (e ∙ sym count) ∙ partner-parts k p
+
+pub message-laid : (t : Title) (id moment : List ℕ) (rows : List (List ℕ)) {n : ℕ} → n ≡ length (group number_keys (map row_in rows))
+    → file_head t.kind id moment t.receiver n ++ (flat_map (partner_bytes t.kind) (partners_in (t.year, t.month) rows) ++ file_end t.kind)
     ≡ message_bytes (message_by t id moment rows)
-unfolding contents
-message-parts t id moment rows = file-parts (contents (message_by t id moment rows))
+unfolding contents partners_of
+message-laid t id moment rows e =
+    let q : ℕ × ℕ = (t.year, t.month) in
+    let count = length-map (group number_keys (map row_in rows)) (partner_of q) in
+    ap (λ (n : ℕ). file_head t.kind id moment t.receiver n ++ (flat_map (partner_bytes t.kind) (partners_in q rows) ++ file_end t.kind)) (e ∙ sym count)
+    ∙ file-parts (contents (message_by t id moment rows))
+
+-- ---- a file by its rows
 
 -- the file of rows that stand as numbers
 pub message-is : (t : Title) (id moment l : List ℕ) {rows : List (List ℕ)} → rows ≡ first_chunks 6 (length l / 6) l

@@ -1,10 +1,9 @@
 -- Rows that are judged row by row to be a file's are the rows of a valid file, and no others are.
-use Rattle.std.specs.Prelude.{◌≡◌, Bool, true, false, ◌&&◌, leb, length, get_or}
+use Rattle.std.specs.Prelude.{◌≡◌, Bool, true, ◌&&◌, leb, length}
 use Rattle.std.proofs.Math.Path.{refl, sym, ap, subst}
 use Rattle.std.proofs.Common.{◌∙◌, arith}
-use Rattle.std.proofs.Math.Bool.{and-true}
 use mathlib.Core.List.{List, [], ◌∷◌, map, map-map, flat_map}
-use Prim.Native.Nat.{ℕ, zero, suc, ◌+◌, ◌*◌, ◌^◌, ◌≤◌, ◌<◌}
+use Prim.Native.Nat.{ℕ, suc, ◌+◌, ◌*◌, ◌^◌, ◌≤◌, ◌<◌}
 use Rattle.std.proofs.Math.Dec.{eqb, ltb}
 use Rattle.std.proofs.Math.ListN.{length-map}
 use borrow.Author.Tests.{leb-true, le-leb, ltb-true, lt-ltb, eqb-true, eq-eqb}
@@ -21,7 +20,7 @@ use Rattle.message.specs.Reading.{is_period}
 use Rattle.message.proofs.ObservationForm.{to-period, from-period}
 use Rattle.message.specs.Keys.{number_keys, directions_keys}
 use Rattle.message.specs.Group.{Keys, group}
-use Rattle.message.specs.Rows.{Row, rows_from, rows_in, zeros, in_sixes, series_of, partner_of, partners_of, Message, contents, IsMessage}
+use Rattle.message.specs.Rows.{Row, rows_in, in_sixes, series_of, partner_of, partners_of, Message, contents, IsMessage}
 use Rattle.message.proofs.RowsLaws.{first-month}
 use Rattle.moments.specs.Ids.{is_transaction_id}
 use Rattle.writer.specs.Order.{every, follow, ordered, by, both}

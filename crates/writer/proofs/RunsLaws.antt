@@ -1,86 +1,95 @@
--- A run from the first row on is the first group of the rows; the rows behind it are grouped by themselves.
-use Rattle.std.specs.Prelude.{◌≡◌, refl, Bool, true, false, cond, ◌&&◌, List, [], ◌∷◌, map, ℕ, zero, suc, ◌+◌, ◌≤◌, ◌<◌, eqb, length, get_or, take, drop}
-use Rattle.std.proofs.Common.{sym, ap, ap₂, ◌∙◌, subst, arith}
-use Rattle.std.specs.List.{take_while, prefix_len}
-use Rattle.std.proofs.lemmas.List.Folds.{length-prefix_len}
-use Rattle.std.proofs.lemmas.List.Sums.{prefix_len-le-length}
-use Rattle.std.proofs.lemmas.Bool.Decides.{nat_tests}
-use Rattle.message.specs.Contents.{Observation}
-use Rattle.message.specs.Keys.{number_keys, directions_keys}
+-- A front of rows in which each goes with the next is the first group of the rows; the rows behind it are grouped by themselves.
+use Rattle.std.specs.Prelude.{◌≡◌, refl, Bool, false, cond, List, [], ◌∷◌, ◌++◌, map, ℕ, suc, ◌+◌, ◌-◌, ◌<◌, length, get_or, take, drop, Option, Some, None, MatchOption}
+use Rattle.std.proofs.Common.{sym, ap, ◌∙◌, subst, arith, length-append}
+use Rattle.std.proofs.Math.Seq.{take-append_seam, drop-append_seam}
+use denote.Ref.{Bor}
+use denote.Param.Members.{Mut}
+use Rattle.std.specs.declared.slice.ChunkBy.{ChunkBy}
+use Rattle.std.specs.Fn.{ComputesOnPairs}
+use Rattle.std.specs.List.{IsChunkByPrefix}
+use Rattle.std.specs.Iterator.{YieldsThen}
+use Rattle.std.specs.Slice.Iter.{chunk_by_rest, chunk_by_callee, chunk_by_steps}
 use Rattle.message.specs.Group.{Keys, push, group}
 use Rattle.message.proofs.GroupLaws.{first_group}
-use Rattle.message.specs.Rows.{Row}
-use Rattle.writer.specs.RowsInner.{row_in}
-use Rattle.writer.specs.RunsInner.{partner_run, directions_run}
+use Rattle.writer.specs.RunsInner.{goes_with, IsRun, FirstRun}
 
--- the first r of some rows are the first group's, and those behind it the others'
-pub record FirstRun {K A : Type 0} (E : Keys K) (f : List ℕ → K × A) (rows : List (List ℕ)) (r : ℕ) : Type 0 where
-  pub some : 1 ≤ r
-  pub within : r ≤ length rows
-  pub first : group E (map f rows) ≡ ((f (get_or rows 0 [])).0, map (λ x. x.1) (map f (take r rows))) ∷ group E (map f (drop r rows))
-
-module _ {K A : Type 0} (E : Keys K) (f : List ℕ → K × A) (k : K) where
-  other : (v : A) (x : List ℕ) (l : List (List ℕ)) → E.same k (f x).0 ≡ false → group E ((k, v) ∷ map f (x ∷ l)) ≡ (k, v ∷ []) ∷ group E (map f (x ∷ l))
+module _ {K A : Type 0} (E : Keys K) (f : List ℕ → K × A) where
+  -- a row before those of another key
+  other : (x y : List ℕ) (l : List (List ℕ)) → goes_with E f x y ≡ false → group E (map f (x ∷ y ∷ l)) ≡ ((f x).0, (f x).1 ∷ []) ∷ group E (map f (y ∷ l))
   unfolding group push
-  other v x l h =
-      let g = first_group E (f x) (map f l) in
-      let first : K × List A = ((f x).0, (f x).1 ∷ g.more) in
-      ap (push E k v) g.is
-      ∙ ap (λ (b : Bool). cond b ((k, v ∷ first.1) ∷ g.rest) ((k, v ∷ []) ∷ first ∷ g.rest)) h
-      ∙ ap (λ (gs : List (K × List A)). (k, v ∷ []) ∷ gs) (sym g.is)
+  other x y l h =
+      let g = first_group E (f y) (map f l) in
+      let first : K × List A = ((f y).0, (f y).1 ∷ g.more) in
+      ap (push E (f x).0 (f x).1) g.is
+      ∙ ap (λ (b : Bool). cond b (((f x).0, (f x).1 ∷ first.1) ∷ g.rest) (((f x).0, (f x).1 ∷ []) ∷ first ∷ g.rest)) h
+      ∙ ap (λ (gs : List (K × List A)). ((f x).0, (f x).1 ∷ []) ∷ gs) (sym g.is)
 
-  module _ (p : List ℕ → Bool) (is : (a : List ℕ) → p a ≡ E.same k (f a).0) where
-    -- a row of that key before others
-    runs : (v : A) (l : List (List ℕ)) → group E ((k, v) ∷ map f l) ≡ (k, v ∷ map (λ x. x.1) (map f (take (prefix_len p l) l))) ∷ group E (map f (drop (prefix_len p l) l))
-    unfolding group push
-    runs v [] = refl
-    runs v (x ∷ l) = go (p x) refl (runs (f x).1 l)
+  -- a run without its first row
+  shorter : (x : List ℕ) (l : List (List ℕ)) (n : ℕ) → 0 < n → IsChunkByPrefix (goes_with E f) (x ∷ l) (suc n) → IsChunkByPrefix (goes_with E f) l n
+  shorter x l n h p = (
+    λ k d g. let e : suc (k + 1) ≡ suc k + 1 = omega arith in
+        ap (λ (j : ℕ). goes_with E f (get_or l k d) (get_or (x ∷ l) j d)) e ∙ p.0 (suc k) d (omega (arith, g)),
+    λ g d. let e : suc (n - 1) ≡ suc n - 1 = omega (arith, h) in
+        ap (λ (j : ℕ). goes_with E f (get_or (x ∷ l) j d) (get_or l n d)) e ∙ p.1 (omega (arith, g)) d,
+  )
+
+  first-group : (a b : List (List ℕ)) → 0 < length a → IsChunkByPrefix (goes_with E f) (a ++ b) (length a)
+      → group E (map f (a ++ b)) ≡ ((f (get_or a 0 [])).0, map (λ x. x.1) (map f a)) ∷ group E (map f b)
+  unfolding group push
+  first-group [] b h p = absurd (omega (arith, h))
+  first-group (x ∷ []) [] h p = refl
+  first-group (x ∷ []) (y ∷ b) h p = other x y b (p.1 (omega arith) x)
+  first-group (x ∷ y ∷ a) b h p =
+      let more : List A = (f y).1 ∷ map (λ z. z.1) (map f a) in
+      let rest = group E (map f b) in
+      ap (push E (f x).0 (f x).1) (first-group (y ∷ a) b (omega arith) (shorter x (y ∷ a ++ b) (suc (length a)) (omega arith) p))
+      ∙ ap (λ (t : Bool). cond t (((f x).0, (f x).1 ∷ more) ∷ rest) (((f x).0, (f x).1 ∷ []) ∷ ((f y).0, more) ∷ rest)) (p.0 0 x (omega arith))
+
+  -- the first run is the first group
+  pub run-first : {rows a b : List (List ℕ)} → IsRun (goes_with E f) rows a b → FirstRun E f rows a b
+  run-first {rows} {a} {b} r =
+      let P : List (List ℕ) → Type 0 = λ l. group E (map f l) ≡ ((f (get_or a 0 [])).0, map (λ y. y.1) (map f a)) ∷ group E (map f b) in
+      record {
+        some = r.0;
+        all = r.1.0;
+        first = subst P (sym r.1.0) (first-group a b r.0 (subst (λ (l : List (List ℕ)). IsChunkByPrefix (goes_with E f) l (length a)) r.1.0 r.1.1));
+      }
+
+  pub split-first : (rows : List (List ℕ)) (P : Type 0) (r : Option (Bor (List (List ℕ)) × Bor (List (List ℕ)))) → MatchOption r P (λ x. IsRun (goes_with E f) rows x.0.now x.1.now)
+      → MatchOption r P (λ x. FirstRun E f rows x.0.now x.1.now)
+  split-first rows P None v = v
+  split-first rows P (Some x) v = run-first v
+
+  -- what stands behind a run is less
+  pub behind-less : {rows a b : List (List ℕ)} → FirstRun E f rows a b → length b < length rows
+  behind-less {rows} {a} {b} r = omega (arith, r.some, ap length r.all, length-append a b)
+
+  module _ {F : Type 0} (g : Mut F (Bor (List ℕ) × (Bor (List ℕ) × Unit {0})) Bool) where
+    -- a run that comes off rows
+    pub first-run : (s t : ChunkBy (List ℕ) F) (x : Bor (List (List ℕ))) → ComputesOnPairs g (goes_with E f) (chunk_by_callee s) → chunk_by_steps g s (Some x) t
+        → FirstRun E f (chunk_by_rest s) x.now (chunk_by_rest t)
+    first-run s t x k p =
+        run-first (p.1, (p.0, (p.2 (goes_with E f) k).1))
+
+    -- as many runs as groups
+    pub count-runs : (xs : List (Bor (List (List ℕ)))) (s u : ChunkBy (List ℕ) F) → ComputesOnPairs g (goes_with E f) (chunk_by_callee s) → YieldsThen (chunk_by_steps g) s xs None u
+        → length xs ≡ length (group E (map f (chunk_by_rest s)))
+    unfolding group
+    count-runs [] s u k v = sym (ap (λ (l : ChunkBy (List ℕ) F). length (group E (map f (chunk_by_rest l)))) v.1 ∙ no-groups (chunk_by_rest v.0) v.2.0)
       where
-        n : ℕ
-        n = prefix_len p l
+        no-groups : (l : List (List ℕ)) → length l ≡ 0 → length (group E (map f l)) ≡ 0
+        no-groups [] e = refl
+        no-groups (x ∷ l) e = absurd (omega (arith, e))
+    count-runs (x ∷ xs) s u k v =
+        let next = v.1.1 in
+        ap suc (count-runs xs v.1.0 u (next.2 (goes_with E f) k).0 (v.0, v.1.2, v.2)) ∙ sym (ap length (first-run s v.1.0 x k next).first)
 
-        left : ℕ → List (K × List A)
-        left m = (k, v ∷ map (λ y. y.1) (map f (take m (x ∷ l)))) ∷ group E (map f (drop m (x ∷ l)))
-
-        go : (b : Bool) → p x ≡ b
-            → group E ((k, (f x).1) ∷ map f l) ≡ (k, (f x).1 ∷ map (λ y. y.1) (map f (take n l))) ∷ group E (map f (drop n l))
-            → group E ((k, v) ∷ f x ∷ map f l) ≡ left (cond b (1 + n) 0)
-        go true e rec =
-            let key : k ≡ (f x).0 = E.alike k (f x).0 (sym (is x) ∙ e) in
-            let m : suc n ≡ 1 + n = omega arith in
-            let rest = group E (map f (drop n l)) in
-            let more : List A = (f x).1 ∷ map (λ y. y.1) (map f (take n l)) in
-            ap (λ (j : K). push E k v (group E ((j, (f x).1) ∷ map f l))) (sym key)
-            ∙ ap (push E k v) rec
-            ∙ ap (λ (b : Bool). cond b ((k, v ∷ more) ∷ rest) ((k, v ∷ []) ∷ (k, more) ∷ rest)) (E.itself k)
-            ∙ ap left m
-        go false e rec = other v x l (sym (is x) ∙ e)
-
-    pub first-run : (x : List ℕ) (l : List (List ℕ)) → (f x).0 ≡ k → FirstRun E f (x ∷ l) (length (take_while p (x ∷ l)))
-    first-run x l e =
-        let yes : p x ≡ true = is x ∙ ap (E.same k) e ∙ E.itself k in
-        let n = prefix_len p l in
-        let long : length (take_while p (x ∷ l)) ≡ suc n = length-prefix_len p (x ∷ l) ∙ ap (λ (b : Bool). cond b (1 + n) 0) yes ∙ omega arith in
-        let P : ℕ → Type 0 = FirstRun E f (x ∷ l) in
-        subst P (sym long)
-        (record {
-          some = omega arith;
-          within = omega (arith, prefix_len-le-length p l);
-          first = ap (λ (j : K). group E ((j, (f x).1) ∷ map f l)) e ∙ runs (f x).1 l ∙ ap (λ (j : K). (j, (f x).1 ∷ map (λ y. y.1) (map f (take n l))) ∷ group E (map f (drop n l))) (sym e);
-        })
-
-eqb-swap : (a b : ℕ) → eqb a b ≡ eqb b a
-eqb-swap a b = grind (arith, nat_tests)
-
-pub partner-first : (rows : List (List ℕ)) → 1 ≤ length rows → FirstRun number_keys row_in rows (partner_run rows)
-partner-first [] h = absurd (omega arith)
-partner-first (x ∷ l) h = first-run number_keys row_in (get_or x 0 0) (λ a. eqb (get_or a 0 0) (get_or x 0 0)) (λ a. eqb-swap (get_or a 0 0) (get_or x 0 0)) x l refl
-
-abbrev pub directed_in : List ℕ → (ℕ × ℕ) × Observation
-directed_in a = (row_in a).1
-
-pub directions-first : (rows : List (List ℕ)) → 1 ≤ length rows → FirstRun directions_keys directed_in rows (directions_run rows)
-directions-first [] h = absurd (omega arith)
-directions-first (x ∷ l) h =
-    first-run directions_keys directed_in (get_or x 1 0, get_or x 2 0) (λ a. eqb (get_or a 1 0) (get_or x 1 0) && eqb (get_or a 2 0) (get_or x 2 0))
-    (λ a. ap₂ (λ (b c : Bool). b && c) (eqb-swap (get_or a 1 0) (get_or x 1 0)) (eqb-swap (get_or a 2 0) (get_or x 2 0))) x l refl
+-- a run that comes off rows, which were cut behind it
+pub split-run : {F : Type 0} (g : Mut F (Bor (List ℕ) × (Bor (List ℕ) × Unit {0})) Bool) (e : List ℕ → List ℕ → Bool) (s t : ChunkBy (List ℕ) F) (x : Bor (List (List ℕ))) {rows a b : List (List ℕ)} → ComputesOnPairs g e (chunk_by_callee s) → chunk_by_steps g s (Some x) t
+    → chunk_by_rest s ≡ rows → a ≡ take (length x.now) rows → b ≡ drop (length x.now) rows → IsRun e rows a b
+split-run g e s t x {rows} {a} {b} k p h i j =
+    let whole : rows ≡ x.now ++ chunk_by_rest t = sym h ∙ p.0 in
+    let front : x.now ≡ a = sym (i ∙ ap (take (length x.now)) whole ∙ take-append_seam x.now (chunk_by_rest t)) in
+    let back : chunk_by_rest t ≡ b = sym (j ∙ ap (drop (length x.now)) whole ∙ drop-append_seam x.now (chunk_by_rest t)) in
+    let run : IsRun e (chunk_by_rest s) x.now (chunk_by_rest t) = (p.1, (p.0, (p.2 e k).1)) in
+    rw (h, front, back) at run

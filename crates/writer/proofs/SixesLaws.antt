@@ -1,19 +1,18 @@
 -- Rows as arrays of six numbers are the rows of the numbers; judged so, they are judged.
-use Rattle.std.specs.Prelude.{◌≡◌, refl, Bool, true, false, cond, ◌&&◌, ◌||◌, List, [], ◌∷◌, map, ℕ, zero, suc, ◌+◌, ◌*◌, ◌/◌, ◌%◌, ◌^◌, ◌<◌, ◌≤◌, eqb, ltb, length, get_or, take, drop}
-use Rattle.std.proofs.Common.{sym, ap, ap₂, ◌∙◌, arith, add-zero, zero-add, ltb-true, lt-ltb, le-ltb, eqb-true, eq-eqb, ne_eqb}
+use Rattle.std.specs.Prelude.{◌≡◌, refl, Bool, true, false, ◌&&◌, ◌||◌, List, [], ◌∷◌, map, ℕ, zero, suc, ◌+◌, ◌*◌, ◌/◌, ◌%◌, ◌^◌, ◌<◌, ◌≤◌, eqb, ltb, length, get_or, take, drop}
+use Rattle.std.proofs.Common.{sym, ap, ap₂, ◌∙◌, arith, add-zero, ltb-true, lt-ltb, le-ltb, eq-eqb, ne_eqb}
 use Rattle.std.proofs.lemmas.List.{get_or-take, get_or-drop, drop-drop, length-map}
 use Rattle.std.proofs.lemmas.Bool.Decides.{nat_tests}
 use Rattle.std.specs.List.{list_all}
 use Rattle.std.specs.Simd.{first_chunks}
 use Rattle.integers.proofs.TestsLaws.{and_left, and_right}
 use Rattle.kinds.specs.declared.Kind.{Kind}
-use Rattle.message.specs.Contents.{Observation}
 use Rattle.message.specs.Valid.{last_position}
 use Rattle.message.specs.Reading.{is_period}
 use Rattle.message.specs.Rows.{Row, rows_from, rows_in, zeros, in_sixes}
 use Rattle.writer.specs.Order.{every, follow, ordered}
-use Rattle.writer.specs.Rows.{is_observation, is_directions, is_number, is_row, one_supply, later_directions, directions_before, row_before, of_month, is_rows}
-use Rattle.writer.specs.RowsInner.{row_in, is_six, pair_before, directions_earlier, row_earlier}
+use Rattle.writer.specs.Rows.{is_observation, is_directions, is_number, is_row, later_directions, row_before, of_month, is_rows}
+use Rattle.writer.specs.RowsInner.{row_in, is_six, row_earlier}
 
 -- ---- six by six
 

@@ -1,9 +1,25 @@
--- Runs: how many rows are the first one's partner's, or have its directions.
-use Rattle.std.specs.Prelude.{◌&&◌, List, [], ℕ, eqb, length, get_or}
-use Rattle.std.specs.List.{take_while}
+-- Runs: neighbouring rows of one key, as one partner's or of the same directions.
+use Rattle.std.specs.Prelude.{◌≡◌, Bool, List, [], ◌∷◌, ◌++◌, map, ℕ, ◌<◌, length, get_or}
+use Rattle.std.specs.List.{IsChunkByPrefix}
+use Rattle.message.specs.Contents.{Observation}
+use Rattle.message.specs.Group.{Keys, group}
+use Rattle.writer.specs.RowsInner.{row_in}
 
-abbrev pub partner_run : List (List ℕ) → ℕ
-partner_run rows = length (take_while (λ a. eqb (get_or a 0 0) (get_or (get_or rows 0 []) 0 0)) rows)
+-- a row by its directions, and what stands under them
+abbrev pub directed_in : List ℕ → (ℕ × ℕ) × Observation
+directed_in a = (row_in a).1
 
-abbrev pub directions_run : List (List ℕ) → ℕ
-directions_run rows = length (take_while (λ a. eqb (get_or a 1 0) (get_or (get_or rows 0 []) 1 0) && eqb (get_or a 2 0) (get_or (get_or rows 0 []) 2 0)) rows)
+-- the rows a are the first run of some rows, by a test of two that follow each other, and b those behind them
+abbrev pub IsRun : (List ℕ → List ℕ → Bool) → List (List ℕ) → List (List ℕ) → List (List ℕ) → Type 0
+IsRun e rows a b = (0 < length a) × ((rows ≡ a ++ b) × IsChunkByPrefix e rows (length a))
+
+module _ {K A : Type 0} (E : Keys K) (f : List ℕ → K × A) where
+  -- two rows of one key
+  abbrev pub goes_with : List ℕ → List ℕ → Bool
+  goes_with a b = E.same (f a).0 (f b).0
+
+  -- the rows a are the first group of some rows, and those behind them, b, the others
+  pub record FirstRun (rows a b : List (List ℕ)) : Type 0 where
+    pub some : 0 < length a
+    pub all : rows ≡ a ++ b
+    pub first : group E (map f rows) ≡ ((f (get_or a 0 [])).0, map (λ x. x.1) (map f a)) ∷ group E (map f b)

@@ -7,19 +7,19 @@ ghost use Rattle.writer.specs.Rows.{one_supply, is_rows};
 ghost use Rattle.writer.specs.RowsInner.{row_in, is_six, row_earlier};
 
 use crate::FileRow;
+use emitter::parts::digits;
 use kinds::Kind;
 
-// One more than the greatest number of a partner. Two numbers: `10u64.pow` of the digits would be a call for each row, and no plainer.
+// One more than the greatest number of a partner.
+#[tactic(auto, unfolding(message::specs::Bytes::digits))]
 fn number_limit(kind: Kind) -> u64
     ensures { result ≡ 10 ^ digits kind }
 {
-    match kind {
-        Kind::Toe01 | Kind::Toe02 => 10000000000,
-        Kind::Toe03 => 1000000000000000000,
-    }
+    10u64.pow(digits(kind) as u32)
 }
 
 // Whether a partner may have series of both supply directions.
+#[tactic(auto, unfolding(crate::specs::Rows::one_supply))]
 fn one_supply(kind: Kind, a: u64, b: u64) -> bool
     ensures { result ≡ one_supply kind a b }
 {
@@ -30,6 +30,7 @@ fn one_supply(kind: Kind, a: u64, b: u64) -> bool
 }
 
 // Whether six numbers are a row.
+#[tactic(auto, unfolding(crate::specs::Rows::is_number, crate::specs::Rows::is_directions, crate::specs::Rows::is_observation))]
 fn is_row(kind: Kind, last: u64, row: &FileRow) -> bool
     ensures { result ≡ is_six kind last row.now }
 {
@@ -42,6 +43,8 @@ fn is_row(kind: Kind, last: u64, row: &FileRow) -> bool
 }
 
 // Whether a row may stand before the next: partners rise, then directions, then positions.
+// The definition (`row_earlier`) has these cases; tried as one comparison of tuples, neither `search` nor `grind` found its last case within their limits.
+#[tactic(auto, unfolding(crate::specs::Rows::later))]
 fn row_before(kind: Kind, row: &FileRow, next: &FileRow) -> bool
     ensures { result ≡ row_earlier kind (row_in row.now) (row_in next.now) }
 {

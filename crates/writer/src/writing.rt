@@ -13,7 +13,7 @@ ghost use Rattle.writer.specs.ContentsInner.{observations_in, series_at, series_
 
 use crate::FileRow;
 use crate::judging::judge_rows;
-use crate::runs::{count_partners, count_series, directions_run, partner_run};
+use crate::runs::{count_partners, count_series, split_partner, split_series};
 use emitter::measure::Measure;
 use emitter::parts::{
     emit_file_end, emit_file_head, emit_observation, emit_partner_end, emit_partner_head,
@@ -21,7 +21,7 @@ use emitter::parts::{
 };
 use emitter::sink::Sink;
 use emitter::write::Write;
-use emitter::{Stamp, Title};
+use emitter::{SeriesTitle, Stamp, Title};
 use kinds::Kind;
 use refusals::Refused;
 
@@ -36,8 +36,8 @@ fn emit_observations<S: Sink>(sink: &mut S, rows: &[FileRow]) -> Option<()>
 }
 
 // The series of rows, at least one, of the same directions.
-fn emit_series<S: Sink>(sink: &mut S, title: Title, rows: &[FileRow]) -> Option<()>
-    requires { (1 ≤ length rows.now) × IsPeriod title.year title.month }
+fn emit_series<S: Sink>(sink: &mut S, title: SeriesTitle, rows: &[FileRow]) -> Option<()>
+    requires { 1 ≤ length rows.now }
     ensures { S.lays sink.old (series_bytes title.kind (series_at (title.year, title.month) rows.now)) result sink.new }
 {
     let supply = rows[0][1];
@@ -47,14 +47,14 @@ fn emit_series<S: Sink>(sink: &mut S, title: Title, rows: &[FileRow]) -> Option<
     emit_series_end(sink)
 }
 
-// The series of rows of one partner. Not a `for` over `chunk_by`: tried, and in a generic function the check's own fact of that loop doesn't type.
-fn emit_series_list<S: Sink>(sink: &mut S, title: Title, rows: &[FileRow]) -> Option<()>
-    requires { IsPeriod title.year title.month }
+// The series of rows of one partner.
+// Not a `for` over `chunk_by`: in a generic function the check's own fact of that loop doesn't type, neither of a closure nor of a function's name.
+// Nor one function with `emit_partners`: its contract would have to take the runs, their bytes and their fact for both.
+fn emit_series_list<S: Sink>(sink: &mut S, title: SeriesTitle, rows: &[FileRow]) -> Option<()>
     ensures { S.lays sink.old (flat_map (series_bytes title.kind) (series_in (title.year, title.month) rows.now)) result sink.new }
 {
     let mut rest = rows;
-    while !rest.is_empty() {
-        let (series, behind) = rest.split_at(directions_run(rest));
+    while let Some((series, behind)) = split_series(rest) {
         emit_series(sink, title, series)?;
         rest = behind;
     }
@@ -62,8 +62,8 @@ fn emit_series_list<S: Sink>(sink: &mut S, title: Title, rows: &[FileRow]) -> Op
 }
 
 // The partner of rows, at least one.
-fn emit_partner<S: Sink>(sink: &mut S, title: Title, rows: &[FileRow]) -> Option<()>
-    requires { (1 ≤ length rows.now) × IsPeriod title.year title.month }
+fn emit_partner<S: Sink>(sink: &mut S, title: SeriesTitle, rows: &[FileRow]) -> Option<()>
+    requires { 1 ≤ length rows.now }
     ensures { S.lays sink.old (partner_bytes title.kind (partner_at (title.year, title.month) rows.now)) result sink.new }
 {
     let number = rows[0][0];
@@ -74,15 +74,20 @@ fn emit_partner<S: Sink>(sink: &mut S, title: Title, rows: &[FileRow]) -> Option
     emit_partner_end(sink, title.kind)
 }
 
-// The partners of rows. A `while` for the same reason.
+// The partners of rows. A `while`, as in `emit_series_list`.
 pub fn emit_partners<S: Sink>(sink: &mut S, title: Title, rows: &[FileRow]) -> Option<()>
     requires { 1 ≤ length rows.now → IsPeriod title.year title.month }
     ensures { S.lays sink.old (flat_map (partner_bytes title.kind) (partners_in (title.year, title.month) rows.now)) result sink.new }
 {
+    let Title {
+        kind,
+        year,
+        month,
+        ..
+    } = title;
     let mut rest = rows;
-    while !rest.is_empty() {
-        let (partner, behind) = rest.split_at(partner_run(rest));
-        emit_partner(sink, title, partner)?;
+    while let Some((partner, behind)) = split_partner(rest) {
+        emit_partner(sink, SeriesTitle { kind, year, month }, partner)?;
         rest = behind;
     }
     Some(())
@@ -143,6 +148,7 @@ fn write_kind(
 }
 
 // Writes a file from rows: kind 1 to 3, receiver, year, month, six numbers a row, ID and moment.
+// Its parameters are those of the C call (include/toe.h); `kind` is a number, as C gives it.
 pub fn write(
     kind: u8,
     receiver: u64,

@@ -1,4 +1,5 @@
 -- What is answered stands in the parts that were lent, and so in the whole.
+-- By name, since the law's conclusion doesn't show the call that it is about.
 use Rattle.std.proofs.Common.{take, drop, length-append, arith}
 use Rattle.file_vectors.proofs.FitsLaws.{fits}
 use Rattle.file_vectors.proofs.file_case.Goals as goal

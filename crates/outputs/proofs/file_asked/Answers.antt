@@ -1,25 +1,7 @@
 -- The parts of the input are lent to the file call.
-use Rattle.outputs.proofs.OutputLaws.{inside, filed}
-use Rattle.std.proofs.Common.{◌≡◌, Ok, Err, rules, arith}
+use Rattle.outputs.proofs.OutputLaws.{filed}
+use Rattle.std.proofs.Common.{◌≡◌, Ok, Err, rules}
 use Rattle.outputs.proofs.file_asked.Goals as goal
-
-pub overflow_add-asked : goal.overflow_add-asked
-overflow_add-asked c = omega (arith, inside c.args.input.now c.args.asked c.requires.0)
-
-pub overflow_add-asked-2 : goal.overflow_add-asked-2
-overflow_add-asked-2 c = omega (arith, inside c.args.input.now c.args.asked c.requires.0)
-
-pub slice_bounds-file-count : goal.slice_bounds-file-count
-slice_bounds-file-count c = omega (arith, inside c.args.input.now c.args.asked c.requires.0)
-
-pub slice_bounds-file-start : goal.slice_bounds-file-start
-slice_bounds-file-start c = omega (arith, inside c.args.input.now c.args.asked c.requires.0)
-
-pub slice_bounds-file-end-2 : goal.slice_bounds-file-end-2
-slice_bounds-file-end-2 c = omega (arith, inside c.args.input.now c.args.asked c.requires.0)
-
-pub slice_bounds-file-end-3 : goal.slice_bounds-file-end-3
-slice_bounds-file-end-3 c = omega (arith, inside c.args.input.now c.args.asked c.requires.0)
 
 pub returns-in_err-count : goal.returns-in_err-count
 returns-in_err-count c =

@@ -9,14 +9,14 @@ pub returns-in_err-tag : goal.returns-in_err-tag
 returns-in_err-tag c =
     let m = c.args.month in
     let s = from-eighth m.year m.month c.moment_text-start.result (c.moment_text-start.ensures ∙ ap moment_bytes c.period_start.ensures) in
-    rw c.from_residual.ensures (no-start (m.year, m.month) (rw s at c.in_err-tag.ensures))
+    rw c.from_residual.ensures (no-start (m.year, m.month) (rw s at c.in_err-tag.ensures.reads))
 
 pub returns-in_err-tag-2 : goal.returns-in_err-tag-2
 unfolding bytes
 returns-in_err-tag-2 c =
     let m = c.args.month in
     let s = from-eighth m.year m.month c.moment_text-start.result (c.moment_text-start.ensures ∙ ap moment_bytes c.period_start.ensures) in
-    rw c.from_residual-in_err-tag-2.ensures (no-between (m.year, m.month) (rw s at c.in_ok-tag.ensures) c.in_err-tag-2.ensures)
+    rw c.from_residual-in_err-tag-2.ensures (no-between (m.year, m.month) (rw s at c.in_ok-tag.ensures.reads) c.in_err-tag-2.ensures.reads)
 
 pub returns-in_err-tag-3 : goal.returns-in_err-tag-3
 unfolding bytes
@@ -24,7 +24,7 @@ returns-in_err-tag-3 c =
     let m = c.args.month in
     let s = from-eighth m.year m.month c.moment_text-start.result (c.moment_text-start.ensures ∙ ap moment_bytes c.period_start.ensures) in
     let e = c.moment_text-end.ensures ∙ ap moment_bytes c.period_end.ensures in
-    rw c.from_residual-in_err-tag-3.ensures (no-end (m.year, m.month) (rw s at c.in_ok-tag.ensures) c.in_ok-tag-2.ensures (rw e at c.in_err-tag-3.ensures))
+    rw c.from_residual-in_err-tag-3.ensures (no-end (m.year, m.month) (rw s at c.in_ok-tag.ensures.reads) c.in_ok-tag-2.ensures.reads (rw e at c.in_err-tag-3.ensures.reads))
 
 pub returns : goal.returns
 unfolding bytes
@@ -32,4 +32,4 @@ returns c =
     let m = c.args.month in
     let s = from-eighth m.year m.month c.moment_text-start.result (c.moment_text-start.ensures ∙ ap moment_bytes c.period_start.ensures) in
     let e = c.moment_text-end.ensures ∙ ap moment_bytes c.period_end.ensures in
-    to-last (m.year, m.month) (rw s at c.in_ok-tag.ensures) c.in_ok-tag-2.ensures (rw e at c.in_ok-tag-3.ensures) c.tag-4.ensures
+    to-last (m.year, m.month) (rw s at c.in_ok-tag.ensures.reads) c.in_ok-tag-2.ensures.reads (rw e at c.in_ok-tag-3.ensures.reads) c.tag-4.ensures.reads

@@ -1,6 +1,6 @@
--- The parts one after the other: one that isn't there ends the line, and the places behind them are those of the words.
+-- The places behind the parts are those of the words.
 use Rattle.std.specs.Prelude.{◌≡◌, List, [], ◌∷◌, ℕ, ◌+◌, ◌≤◌, length, drop}
-use Rattle.std.proofs.Common.{refl, ◌∙◌, arith, length-append}
+use Rattle.std.proofs.Common.{refl, arith, length-append}
 use Rattle.text.specs.Ascii.{bytes}
 use Rattle.text.proofs.DecimalLaws.{length-fixed}
 use Rattle.formats.specs.Exactly.{exactly, fixed_digits}
@@ -9,54 +9,8 @@ use Rattle.formats.specs.FormatLaws.{sound-of}
 use Rattle.formats.specs.Name.{name_byte, name_parse, name}
 use Rattle.formats.proofs.PlaceLaws.{moved, tag-moved}
 use Rattle.message.specs.Valid.{is_moment}
-use Rattle.requests.proofs.LineLaws.{no-kind, other-kind, no-space, no-receiver, no-second-space, no-id, no-moment, no-end, line-is, request-none, request-some, kind-off, kind-on}
+use Rattle.requests.proofs.LineLaws.{line-is, request-some, kind-on}
 use Rattle.requests.proofs.read_request.Goals as goal
-
-pub returns-in_err-kind : goal.returns-in_err-kind
-returns-in_err-kind c =
-    let s = c.args.input.now in
-    c.from_residual.ensures ∙ request-none s (no-kind s c.in_err-kind.ensures)
-
-pub returns-in_err-ok : goal.returns-in_err-ok
-returns-in_err-ok c =
-    let s = c.args.input.now in
-    c.from_residual-in_err-ok.ensures ∙ request-none s (other-kind s c.in_ok-kind.ensures.0 (kind-off _ _ c.try_from.ensures c.in_err-ok.ensures.value))
-
-pub returns-in_err-at : goal.returns-in_err-at
-unfolding bytes
-returns-in_err-at c =
-    let s = c.args.input.now in
-    c.from_residual-in_err-at.ensures ∙ request-none s (no-space s c.in_ok-kind.ensures.0 (kind-on _ _ _ c.try_from.ensures c.in_ok-ok.ensures.value) c.in_err-at.ensures)
-
-pub returns-in_err-receiver : goal.returns-in_err-receiver
-unfolding bytes
-returns-in_err-receiver c =
-    let s = c.args.input.now in
-    c.from_residual-in_err-receiver.ensures ∙ request-none s (no-receiver s c.in_ok-kind.ensures.0 (kind-on _ _ _ c.try_from.ensures c.in_ok-ok.ensures.value) c.in_ok-at.ensures.0 c.in_err-receiver.ensures)
-
-pub returns-in_err-id : goal.returns-in_err-id
-unfolding bytes
-returns-in_err-id c =
-    let s = c.args.input.now in
-    c.from_residual-in_err-id.ensures ∙ request-none s (no-second-space s c.in_ok-kind.ensures.0 (kind-on _ _ _ c.try_from.ensures c.in_ok-ok.ensures.value) c.in_ok-at.ensures.0 c.in_ok-receiver.ensures.0 c.in_err-id.ensures)
-
-pub returns-in_err-moment : goal.returns-in_err-moment
-unfolding bytes
-returns-in_err-moment c =
-    let s = c.args.input.now in
-    c.from_residual-in_err-moment.ensures ∙ request-none s (no-id s c.in_ok-kind.ensures.0 (kind-on _ _ _ c.try_from.ensures c.in_ok-ok.ensures.value) c.in_ok-at.ensures.0 c.in_ok-receiver.ensures.0 c.in_ok-id.ensures.0 c.in_err-moment.ensures)
-
-pub returns-in_err-end : goal.returns-in_err-end
-unfolding bytes
-returns-in_err-end c =
-    let s = c.args.input.now in
-    c.from_residual-in_err-end.ensures ∙ request-none s (no-moment s c.in_ok-kind.ensures.0 (kind-on _ _ _ c.try_from.ensures c.in_ok-ok.ensures.value) c.in_ok-at.ensures.0 c.in_ok-receiver.ensures.0 c.in_ok-id.ensures.0 c.in_ok-moment.ensures.0 c.in_err-end.ensures)
-
-pub returns-in_err-book : goal.returns-in_err-book
-unfolding bytes
-returns-in_err-book c =
-    let s = c.args.input.now in
-    c.from_residual-in_err-book.ensures ∙ request-none s (no-end s c.in_ok-kind.ensures.0 (kind-on _ _ _ c.try_from.ensures c.in_ok-ok.ensures.value) c.in_ok-at.ensures.0 c.in_ok-receiver.ensures.0 c.in_ok-id.ensures.0 c.in_ok-moment.ensures.0 c.in_ok-end.ensures.0 c.in_err-book.ensures)
 
 -- the name is followed by a byte
 behind-name : (s : List ℕ) {p q : ℕ} {l : List ℕ} → p ≤ length s → q ≤ length s → name_parse name_byte 1 36 32 (drop p s) ≡ got l (drop q s) → q ≡ p + length l + 1

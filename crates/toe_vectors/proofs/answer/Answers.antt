@@ -1,4 +1,5 @@
 -- The output lies in the buffer that it was written to.
+-- By name, since the law's conclusion doesn't show the input that it is about: `using` a ruleset of it was tried in `program`.
 use Rattle.std.proofs.Common.{sym, length-take-le, arith}
 use Rattle.outputs.proofs.OutputLaws.{printed-fits}
 use Rattle.toe_vectors.proofs.answer.Goals as goal

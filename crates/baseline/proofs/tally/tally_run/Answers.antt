@@ -1,12 +1,23 @@
 -- Of the readings passed it is known whether one is missing, and their sum.
-use Rattle.std.proofs.Common.{arith, ap, sym, ◌∙◌, Bool, not, ◌&&◌, nat_eq}
-use Rattle.baseline.proofs.CaseLaws.{sum-next, whole-next}
+use Rattle.std.proofs.Common.{arith, ◌∙◌}
+use Rattle.baseline.proofs.CaseLaws.{sum-next, sum-none-next, whole-there, whole-none}
 use Rattle.baseline.proofs.tally.tally_run.Goals as goal
+use Rattle.baseline.proofs.tally.tally_run.Goals.{in-Some, in-None}
 
 pub loop-i-preserved : goal.loop-i-preserved
 loop-i-preserved c =
     let readings = c.args.readings.now in
-    let r = c.raised_at-raised in (
-      ap (λ (whole : Bool). whole && not (nat_eq r.result 0)) c.loop-i.invariant.0 ∙ sym (whole-next readings c.args.at c.loop-i.i r.result r.ensures),
-      sum-next readings c.args.at c.loop-i.i c.loop-i.sum r.result c.loop-i.invariant.1 r.ensures (omega arith),
-    )
+    let at = c.args.at in
+    let i = c.loop-i.i in
+    elim c.match-raised_at.branch [
+      | in-Some w ↦
+          let told = w.in-Some.ensures in (
+            w.whole-is ∙ c.loop-i.invariant.0 ∙ whole-there readings at i w.in-Some.raised told.0 told.1,
+            rw (w.sum-is, w.from-sum.ensures) (sum-next readings at i c.loop-i.sum w.in-Some.raised c.loop-i.invariant.1 told.0 (omega arith)),
+          )
+      | in-None w ↦
+          let told = w.in-None.ensures in (
+            w.whole-is ∙ whole-none readings at i told,
+            rw (w.sum-is) (sum-none-next readings at i c.loop-i.sum c.loop-i.invariant.1 told),
+          )
+    ]

@@ -24,4 +24,4 @@ pub returns-clause-count : goal.returns-clause-count
 returns-clause-count g c =
     let a = c.args in
     let f = c.fill_partner-end in
-    filled-count a.delivered.now a.role.kind a.role.receiver a.partner c.requires.1 a.rows.now f.new.rows f.result f.ensures c.requires.0 c.min.result c.min.ensures
+    filled-count a.delivered.now a.role.kind a.role.receiver a.partner c.requires.1 a.rows.now f.new.rows f.result f.ensures c.requires.0 c.from.result c.from.ensures

@@ -1,6 +1,9 @@
--- One store is a row's numbers.
-use Rattle.partners.specs.PartnerRowsLaws.{filled_row}
+-- One store is a row's numbers; a direction's number is its place among its enum's variants.
+use Rattle.std.proofs.Common.{rules}
+use Rattle.message.specs.Rows.{row_numbers}
+use Rattle.reports.specs.FileRows.{supply_number, delivery_number}
 use Rattle.partners.proofs.rows.push_row.Goals as goal
 
 pub returns : goal.returns
-returns c = let a = c.args in filled_row a.rows.now a.at a.s _ _ a.position a.watts c.supply_number-supply.ensures c.delivery_number-delivery.ensures
+unfolding row_numbers supply_number delivery_number
+returns c = search rules

@@ -5,12 +5,12 @@ use Rattle.reader.proofs.file.behind_counter.Goals as goal
 
 pub returns-in-Toe01 : goal.returns-in-Toe01
 unfolding ending counter bytes
-returns-in-Toe01 c = rw c.in-Toe01.is c.tag.ensures
+returns-in-Toe01 c = rw c.in-Toe01.is c.tag.ensures.reads
 
 pub returns-in-Toe02 : goal.returns-in-Toe02
 unfolding ending counter bytes
-returns-in-Toe02 c = rw c.in-Toe02.is c.tag-in-Toe02.ensures
+returns-in-Toe02 c = rw c.in-Toe02.is c.tag-in-Toe02.ensures.reads
 
 pub returns-in-Toe03 : goal.returns-in-Toe03
 unfolding ending counter bytes
-returns-in-Toe03 c = rw c.in-Toe03.is c.tag-in-Toe03.ensures
+returns-in-Toe03 c = rw c.in-Toe03.is c.tag-in-Toe03.ensures.reads

@@ -13,4 +13,4 @@ pub returns : goal.returns
 unfolding partner_parse shared_partner_parse counted_parse plain_parse fixed_parse group partner digits opening ending closing bytes
 returns c =
     let g = filled-got c.in_ok-seen.ensures in
-    got-filled (reads-map _ (reads-pre _ c.in_ok-tag.ensures (reads-seq _ (reads-post _ c.in_ok-number.ensures c.in_ok-tag-2.ensures) (reads-seq _ (reads-post _ c.in_ok-injection.ensures c.in_ok-tag-3.ensures) (reads-seq _ (reads-post _ c.in_ok-count.ensures c.in_ok-tag-4.ensures) (reads-post _ g.read c.in_ok-tag-5.ensures)))))) (ap (λ (m : ℕ × ℕ). (c.in_ok-number.number, m)) g.is) g.rows g.lent
+    got-filled (reads-map _ (reads-pre _ c.in_ok-tag.ensures.reads (reads-seq _ (reads-post _ c.in_ok-number.ensures.reads c.in_ok-tag-2.ensures.reads) (reads-seq _ (reads-post _ c.in_ok-injection.ensures c.in_ok-tag-3.ensures.reads) (reads-seq _ (reads-post _ c.in_ok-count.ensures.reads c.in_ok-tag-4.ensures.reads) (reads-post _ g.read c.in_ok-tag-5.ensures.reads)))))) (ap (λ (m : ℕ × ℕ). (c.in_ok-number.number, m)) g.is) g.rows g.lent

@@ -14,11 +14,11 @@ pub returns-in_err-tag-4 : goal.returns-in_err-tag-4
 unfolding company_parse counted_parse plain_parse fixed_parse ending bytes
 returns-in_err-tag-4 c =
     let g = filled-got c.in_ok-seen.ensures in
-    rw c.from_residual-in_err-tag-4.ensures (none-filled (reads-map-stop _ (reads-pre _ c.in_ok-tag.ensures (reads-seq-stop₂ _ (reads-post _ c.in_ok-number.ensures c.in_ok-tag-2.ensures)
-    (reads-seq-stop₂ _ (reads-post _ c.in_ok-count.ensures c.in_ok-tag-3.ensures) (reads-post-stop₂ _ g.read c.in_err-tag-4.ensures))))) g.lent)
+    rw c.from_residual-in_err-tag-4.ensures (none-filled (reads-map-stop _ (reads-pre _ c.in_ok-tag.ensures.reads (reads-seq-stop₂ _ (reads-post _ c.in_ok-number.ensures.reads c.in_ok-tag-2.ensures.reads)
+    (reads-seq-stop₂ _ (reads-post _ c.in_ok-count.ensures.reads c.in_ok-tag-3.ensures.reads) (reads-post-stop₂ _ g.read c.in_err-tag-4.ensures.reads))))) g.lent)
 
 pub returns : goal.returns
 unfolding company_parse counted_parse plain_parse fixed_parse ending bytes
 returns c =
     let g = filled-got c.in_ok-seen.ensures in
-    got-filled (reads-map _ (reads-pre _ c.in_ok-tag.ensures (reads-seq _ (reads-post _ c.in_ok-number.ensures c.in_ok-tag-2.ensures) (reads-seq _ (reads-post _ c.in_ok-count.ensures c.in_ok-tag-3.ensures) (reads-post _ g.read c.in_ok-tag-4.ensures))))) (ap (λ (m : ℕ × ℕ). (c.in_ok-number.number, m)) g.is) g.rows g.lent
+    got-filled (reads-map _ (reads-pre _ c.in_ok-tag.ensures.reads (reads-seq _ (reads-post _ c.in_ok-number.ensures.reads c.in_ok-tag-2.ensures.reads) (reads-seq _ (reads-post _ c.in_ok-count.ensures.reads c.in_ok-tag-3.ensures.reads) (reads-post _ g.read c.in_ok-tag-4.ensures.reads))))) (ap (λ (m : ℕ × ℕ). (c.in_ok-number.number, m)) g.is) g.rows g.lent

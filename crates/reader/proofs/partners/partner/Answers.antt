@@ -12,6 +12,3 @@ returns-in-Toe01 c = rw c.in-Toe01.is c.company.ensures
 pub returns-in-Toe02 : goal.returns-in-Toe02
 unfolding partner_parse own_partner_parse company_parse group partner digits opening ending closing bytes
 returns-in-Toe02 c = rw c.in-Toe02.is c.company-in-Toe02.ensures
-
-pub returns-in-Toe03 : goal.returns-in-Toe03
-returns-in-Toe03 c = rw c.in-Toe03.is c.access.ensures

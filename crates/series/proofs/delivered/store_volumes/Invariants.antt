@@ -1,4 +1,4 @@
--- A turn stores the volume of row k behind those of the rows before it.
+-- A turn stores the volume of row k in cell k, behind those of the rows before it.
 use mathlib.Core.Path.{◌≡◌}
 use mathlib.Core.List.{map}
 use lib.Seq.{sets}
@@ -8,4 +8,4 @@ use Rattle.series.specs.VolumesInner.{volume_in}
 use Rattle.series.proofs.delivered.store_volumes.Given as goal
 
 abbrev pub invariant-loop-k : goal.invariant-loop-k
-invariant-loop-k l = (l.volumes ≡ sets l.initial.volumes l.at (map (λ j. up (volume_in l.rows j)) (range 0 l.k)))
+invariant-loop-k l = (l.volumes ≡ sets l.initial.volumes 0 (map (λ j. up (volume_in l.rows j)) (range 0 l.k)))

@@ -14,5 +14,5 @@ unfolding volume_parse counted_parse plain_parse of_volume opening ending closin
 returns c =
     let g = filled-got c.in_ok-observations.ensures in
     let l = subst (λ (last : ℕ). Reads (observations_parse last c.in_ok-count.count) c.period.new.c c.observations.new.c (Some g.value)) c.last_position-last.ensures g.read in
-    got-filled (reads-pre _ c.in_ok-tag.ensures (reads-seq _ (reads-post _ c.in_ok-down.ensures c.in_ok-tag-2.ensures)
-    (reads-seq _ (reads-post _ c.in_ok-count.ensures c.in_ok-tag-3.ensures) (reads-seq _ c.in_ok-month.ensures (reads-post _ l c.in_ok-tag-4.ensures))))) refl g.rows g.lent
+    got-filled (reads-pre _ c.in_ok-tag.ensures.reads (reads-seq _ (reads-post _ c.in_ok-down.ensures c.in_ok-tag-2.ensures.reads)
+    (reads-seq _ (reads-post _ c.in_ok-count.ensures.reads c.in_ok-tag-3.ensures.reads) (reads-seq _ c.in_ok-month.ensures (reads-post _ l c.in_ok-tag-4.ensures.reads))))) refl g.rows g.lent

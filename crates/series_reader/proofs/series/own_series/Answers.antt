@@ -14,5 +14,5 @@ unfolding own_series_parse of_volume opening ending closing bytes
 returns c =
     let g = filled-got c.in_ok-v.ensures in
     let x = bit c.in_ok-injection.injection in
-    got-filled (reads-map _ (reads-pre _ c.in_ok-tag.ensures (reads-seq _ (reads-post _ c.in_ok-injection.ensures c.in_ok-tag-2.ensures) (reads-post _ g.read c.in_ok-tag-3.ensures))))
+    got-filled (reads-map _ (reads-pre _ c.in_ok-tag.ensures.reads (reads-seq _ (reads-post _ c.in_ok-injection.ensures c.in_ok-tag-2.ensures.reads) (reads-post _ g.read c.in_ok-tag-3.ensures.reads))))
     (ap (λ (k : ℕ × (ℕ × ℕ)). ((x, k.0), (k.1.0, k.1.1))) g.is) g.rows g.lent

@@ -14,4 +14,4 @@ unfolding shared_series_parse of_volume opening ending closing bytes
 returns c =
     let g = filled-got c.in_ok-v.ensures in
     let x = bit c.args.injection in
-    got-filled (reads-map _ (reads-pre _ c.in_ok-tag.ensures (reads-post _ g.read c.in_ok-tag-2.ensures))) (ap (λ (k : ℕ × (ℕ × ℕ)). ((x, k.0), (k.1.0, k.1.1))) g.is) g.rows g.lent
+    got-filled (reads-map _ (reads-pre _ c.in_ok-tag.ensures.reads (reads-post _ g.read c.in_ok-tag-2.ensures.reads))) (ap (λ (k : ℕ × (ℕ × ℕ)). ((x, k.0), (k.1.0, k.1.1))) g.is) g.rows g.lent

@@ -1,6 +1,5 @@
 -- The rows are those of the raised baselines and of the engagement's own readings.
 use mathlib.Core.Path.{sym, ap, ◌∙◌}
-use Prim.Native.Nat.{◌+◌}
 use lib.Seq.{sets}
 use Rattle.volumes.specs.Quarters.{start}
 use Rattle.baseline.specs.ShownLaws.{stands}

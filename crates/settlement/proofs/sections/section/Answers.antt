@@ -1,5 +1,4 @@
 -- A book that passes refusals 1 and 2 has the part that the extent names.
-use Rattle.book.specs.SectionsInner.{extent_of}
 use Rattle.settlement.specs.SectionsLaws.{bytes-long, section-inside}
 use Rattle.settlement.proofs.sections.section.Goals as goal
 

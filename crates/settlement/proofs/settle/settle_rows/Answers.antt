@@ -1,21 +1,19 @@
 -- Refused, the rows are as they were; accepted and with room, they are filled.
-use mathlib.Core.Path.{◌≡◌, subst, sym, ap, ◌∙◌}
+use mathlib.Core.Path.{◌≡◌, sym, ap, ◌∙◌}
 use mathlib.Core.List.{List}
-use mathlib.Core.Option.{Option, none}
+use mathlib.Core.Option.{none}
 use lib.IntN.{ℤ}
 use lib.Seq.{sets}
-use lib.ListN.{length}
-use Prim.Native.Nat.{ℕ, ◌*◌, ◌≤◌}
+use Prim.Native.Nat.{ℕ}
 use borrow.Author.Rules.{rules}
 use native.Mathlib.Omega.{arith}
 use Rattle.std.specs.Prelude.{Result, Ok, Err}
-use Rattle.refusals.specs.Refusals.{Refusal}
 use Rattle.refusals.specs.declared.Refused.{Refused}
-use Rattle.refusals.specs.Sent.{sent_back, said}
+use Rattle.refusals.specs.Sent.{sent_back}
 use Rattle.refusals.specs.SentInner.{refusal_in}
 use Rattle.book.specs.Book.{Book, book_of}
 use Rattle.book.specs.Judged.{refusal_of}
-use Rattle.volumes.specs.Settlement.{row_width, row_count, rows, settlement_refusal, book_refusal}
+use Rattle.volumes.specs.Settlement.{row_count, rows, settlement_refusal, book_refusal}
 use Rattle.settlement.specs.CallsInner.{RowsSent}
 use Rattle.settlement.specs.CallsLaws.{sent-refused, sent-short, sent-filled}
 use Rattle.settlement.specs.VerdictsLaws.{book-refused, book-passed}

@@ -1,5 +1,5 @@
 -- The receiver, whole rows, the month, and each row.
-use Rattle.std.proofs.Common.{◌≡◌, ◌≤◌, length, true, false, rules, sym, ap, ◌∙◌, arith}
+use Rattle.std.proofs.Common.{◌≤◌, length, sym, ◌∙◌, arith}
 use Rattle.std.proofs.lemmas.Grind.{common_steps}
 use Rattle.writer.proofs.SixesLaws.{rows-far, rows-odd, rows_none, rows-some}
 use Rattle.writer.proofs.judging.judge_rows.Goals as goal

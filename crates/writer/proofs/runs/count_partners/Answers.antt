@@ -1,30 +1,14 @@
--- Each run is one group: those counted and those of the rows left are all.
-use Rattle.std.proofs.Common.{◌≡◌, ◌≤◌, length, arith}
-use Rattle.std.proofs.lemmas.Grind.{common_steps}
-use Rattle.writer.proofs.RunsLaws.{partner-first}
-use Rattle.writer.proofs.ContentsLaws.{partners-left, no-partners}
+-- Each run is one group.
+use Rattle.std.proofs.Common.{◌∙◌, ap, length, map, rules, ℕ, List}
+use Rattle.std.proofs.lemmas.Fn.{always_returns_same}
+use Rattle.message.specs.Keys.{number_keys}
+use Rattle.message.specs.Group.{group}
+use Rattle.writer.specs.RowsInner.{row_in}
+use Rattle.writer.proofs.RunsLaws.{count-runs}
 use Rattle.writer.proofs.runs.count_partners.Goals as goal
-
-pub loop-rest-preserved : goal.loop-rest-preserved
-loop-rest-preserved c =
-    let l = c.loop-rest in
-    let some : 1 ≤ length l.rest.now = grind (arith, common_steps) in
-    let r = partner-first l.rest.now some in
-    let left = partners-left l.rest.now some c.partner_run.ensures c.split_at.ensures.back in
-    record {
-      few = omega (arith, l.invariant.few, r.some, c.partner_run.ensures, c.split_at.ensures.back_len);
-      all = omega (arith, l.invariant.all, left);
-    }
-
-pub loop-rest-smaller : goal.loop-rest-smaller
-loop-rest-smaller c =
-    let l = c.loop-rest in
-    let some : 1 ≤ length l.rest.now = grind (arith, common_steps) in
-    let r = partner-first l.rest.now some in
-    omega (arith, r.some, c.partner_run.ensures, c.split_at.ensures.back_len)
 
 pub returns : goal.returns
 returns c =
-    let l = c.loop-rest in
-    let none : ◌≡◌ (length l.rest.now) 0 = grind (arith, common_steps) in
-    omega (arith, l.invariant.all, no-partners l.rest.now none)
+    let ran = c.count.ensures.ran in
+    ran.2 ∙ count-runs number_keys row_in _ ran.0 _ ran.1.0 (always_returns_same _ _ _ (λ a r f' k. search rules)) ran.1.1
+    ∙ ap (λ (l : List (List ℕ)). length (group number_keys (map row_in l))) c.chunk_by.ensures.rest

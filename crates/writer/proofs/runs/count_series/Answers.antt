@@ -1,30 +1,18 @@
--- Each run is one group: those counted and those of the rows left are all.
-use Rattle.std.proofs.Common.{◌≡◌, ◌≤◌, length, arith}
-use Rattle.std.proofs.lemmas.Grind.{common_steps}
-use Rattle.writer.proofs.RunsLaws.{directions-first}
-use Rattle.writer.proofs.ContentsLaws.{series-left, no-series}
+-- Each run is one group.
+use Rattle.std.proofs.Common.{◌∙◌, sym, ap, length, map, rules, ℕ, List}
+use Rattle.std.proofs.lemmas.Fn.{always_returns_same}
+use mathlib.Core.List.{map-map}
+use Rattle.message.specs.Contents.{Observation}
+use Rattle.message.specs.Keys.{directions_keys}
+use Rattle.message.specs.Group.{group}
+use Rattle.writer.specs.RowsInner.{row_in}
+use Rattle.writer.specs.RunsInner.{directed_in}
+use Rattle.writer.proofs.RunsLaws.{count-runs}
 use Rattle.writer.proofs.runs.count_series.Goals as goal
-
-pub loop-rest-preserved : goal.loop-rest-preserved
-loop-rest-preserved c =
-    let l = c.loop-rest in
-    let some : 1 ≤ length l.rest.now = grind (arith, common_steps) in
-    let r = directions-first l.rest.now some in
-    let left = series-left l.rest.now some c.directions_run.ensures c.split_at.ensures.back in
-    record {
-      few = omega (arith, l.invariant.few, r.some, c.directions_run.ensures, c.split_at.ensures.back_len);
-      all = omega (arith, l.invariant.all, left);
-    }
-
-pub loop-rest-smaller : goal.loop-rest-smaller
-loop-rest-smaller c =
-    let l = c.loop-rest in
-    let some : 1 ≤ length l.rest.now = grind (arith, common_steps) in
-    let r = directions-first l.rest.now some in
-    omega (arith, r.some, c.directions_run.ensures, c.split_at.ensures.back_len)
 
 pub returns : goal.returns
 returns c =
-    let l = c.loop-rest in
-    let none : ◌≡◌ (length l.rest.now) 0 = grind (arith, common_steps) in
-    omega (arith, l.invariant.all, no-series l.rest.now none)
+    let ran = c.count.ensures.ran in
+    ran.2 ∙ count-runs directions_keys directed_in _ ran.0 _ ran.1.0 (always_returns_same _ _ _ (λ a r f' k. search rules)) ran.1.1
+    ∙ ap (λ (l : List (List ℕ)). length (group directions_keys (map directed_in l))) c.chunk_by.ensures.rest
+    ∙ ap (λ (l : List ((ℕ × ℕ) × Observation)). length (group directions_keys l)) (sym (map-map (λ r. r.1) row_in c.args.rows.now))

@@ -1,11 +1,8 @@
 -- Row by row: what is laid so far and the observations of the rows left are the whole.
 use Rattle.std.proofs.Common.{arith}
-use Rattle.emitter.proofs.Laying.{laying-none, laying-then, laying-stops, laying-all}
+use Rattle.emitter.proofs.Laying.{laying-then, laying-stops, laying-all}
 use Rattle.writer.proofs.ContentsLaws.{observations-step, observations-none}
 use Rattle.writer.proofs.writing.emit_observations.Goals as goal
-
-pub loop-row-init : goal.loop-row-init
-loop-row-init g c = laying-none g.met.S.Sink.laws _ _
 
 pub loop-row-preserved : goal.loop-row-preserved
 loop-row-preserved g c =

@@ -6,12 +6,12 @@ use Rattle.emitter.proofs.Laying.{Laying}
 use Rattle.writer.specs.ContentsInner.{partners_in}
 use Rattle.writer.proofs.writing.emit_partners.Given as goal
 
-abbrev pub invariant-loop-rest : goal.invariant-loop-rest
-invariant-loop-rest g l =
+abbrev pub invariant-loop-partner : goal.invariant-loop-partner
+invariant-loop-partner g l =
     record {
       within : length l.rest ≤ length l.rows;
-      laying : Laying g.S.Sink.lays l.initial.sink (flat_map (partner_bytes l.title.kind) (partners_in (l.title.year, l.title.month) l.rows)) (flat_map (partner_bytes l.title.kind) (partners_in (l.title.year, l.title.month) l.rest)) l.sink;
+      laying : Laying g.S.Sink.lays l.initial.sink (flat_map (partner_bytes l.kind) (partners_in (l.year, l.month) l.rows)) (flat_map (partner_bytes l.kind) (partners_in (l.year, l.month) l.rest)) l.sink;
     }
 
-abbrev pub decreases-loop-rest : goal.decreases-loop-rest
-decreases-loop-rest g l = length l.rest
+abbrev pub decreases-loop-partner : goal.decreases-loop-partner
+decreases-loop-partner g l = length l.rest

@@ -1,46 +1,25 @@
 -- Run by run: what is laid so far and the bytes of the rows left are the whole.
-use Rattle.std.proofs.Common.{◌≡◌, ◌≤◌, length, ℕ, arith}
-use Rattle.std.proofs.lemmas.Grind.{common_steps}
-use Rattle.emitter.proofs.Laying.{laying-none, laying-then, laying-stops, laying-all}
-use Rattle.writer.proofs.RunsLaws.{directions-first}
+use Rattle.emitter.proofs.Laying.{laying-then, laying-stops, laying-all}
+use Rattle.message.specs.Keys.{directions_keys}
+use Rattle.writer.specs.RunsInner.{directed_in}
+use Rattle.writer.proofs.RunsLaws.{behind-less}
 use Rattle.writer.proofs.ContentsLaws.{series-cut, series-none}
 use Rattle.writer.proofs.writing.emit_series_list.Goals as goal
 
-pub loop-rest-init : goal.loop-rest-init
-loop-rest-init g c = laying-none g.met.S.Sink.laws _ _
+pub loop-series-preserved : goal.loop-series-preserved
+loop-series-preserved g c =
+    let t = c.args.title in
+    laying-then g.met.S.Sink.laws _ c.loop-series.invariant c.in_ok-emit_series.ensures (series-cut t.kind (t.year, t.month) c.in-Some.ensures)
 
-pub emit_series-requires : goal.emit_series-requires
-emit_series-requires g c =
-    let l = c.loop-rest in
-    let some : 1 ≤ length l.rest.now = grind (arith, common_steps) in
-    let r = directions-first l.rest.now some in
-    (omega (arith, r.some, c.directions_run.ensures, c.split_at.ensures.front_len), c.requires)
-
-pub loop-rest-preserved : goal.loop-rest-preserved
-loop-rest-preserved g c =
-    let l = c.loop-rest in
-    let q : ℕ × ℕ = (c.args.title.year, c.args.title.month) in
-    let some : 1 ≤ length l.rest.now = grind (arith, common_steps) in
-    let cut = series-cut c.args.title.kind q l.rest.now some c.directions_run.ensures c.split_at.ensures.front c.split_at.ensures.back in
-    laying-then g.met.S.Sink.laws _ l.invariant c.in_ok-emit_series.ensures cut
-
-pub loop-rest-smaller : goal.loop-rest-smaller
-loop-rest-smaller g c =
-    let l = c.loop-rest in
-    let some : 1 ≤ length l.rest.now = grind (arith, common_steps) in
-    let r = directions-first l.rest.now some in
-    omega (arith, r.some, r.within, c.directions_run.ensures, c.split_at.ensures.back_len)
+pub loop-series-smaller : goal.loop-series-smaller
+loop-series-smaller g c = behind-less directions_keys directed_in c.in-Some.ensures
 
 pub returns-in_err-emit_series : goal.returns-in_err-emit_series
 returns-in_err-emit_series g c =
-    let l = c.loop-rest in
-    let q : ℕ × ℕ = (c.args.title.year, c.args.title.month) in
-    let some : 1 ≤ length l.rest.now = grind (arith, common_steps) in
-    let cut = series-cut c.args.title.kind q l.rest.now some c.directions_run.ensures c.split_at.ensures.front c.split_at.ensures.back in
-    laying-stops g.met.S.Sink.laws _ l.invariant c.in_err-emit_series.ensures cut c.from_residual.ensures
+    let t = c.args.title in
+    laying-stops g.met.S.Sink.laws _ c.loop-series.invariant c.in_err-emit_series.ensures (series-cut t.kind (t.year, t.month) c.in-Some.ensures) c.from_residual.ensures
 
 pub returns : goal.returns
 returns g c =
-    let l = c.loop-rest in
-    let none : ◌≡◌ (length l.rest.now) 0 = grind (arith, common_steps) in
-    laying-all g.met.S.Sink.laws l.invariant (series-none c.args.title.kind (c.args.title.year, c.args.title.month) l.rest.now none)
+    let t = c.args.title in
+    laying-all g.met.S.Sink.laws c.loop-series.invariant (series-none t.kind (t.year, t.month) c.loop-series.rest.now c.in_default.ensures)

@@ -1,10 +1,9 @@
 -- A number that is no kind's is refused; else the file is written of its kind.
-use Rattle.std.proofs.Common.{◌≡◌, ℕ, Result, Ok, Err, sym, ap, ◌∙◌, subst, arith}
+use Rattle.std.proofs.Common.{◌≡◌, Err, sym, ap, ◌∙◌, subst, arith}
 use Rattle.std.proofs.lemmas.Grind.{common_steps}
 use Rattle.refusals.specs.declared.Refused.TheVariants.{Malformed}
 use Rattle.kinds.specs.Numbers.{kind_numbered}
 use Rattle.kinds.specs.NumbersInner.{kind_in}
-use Rattle.kinds.specs.NumbersLaws.{number-kind}
 use Rattle.writer.specs.WriteCalls.{WriteCalled}
 use Rattle.writer.proofs.WriteCallsLaws.{wrote-no-kind}
 use Rattle.writer.proofs.writing.write.Goals as goal
@@ -16,9 +15,3 @@ returns-in_err-try_from c =
     subst (WriteCalled a.kind a.receiver a.year a.month a.rows.now a.id.now a.moment.now a.file.now a.file.now) (sym sent)
     (wrote-no-kind a.kind a.receiver a.year a.month a.rows.now a.id.now a.moment.now a.file.now
     (sym (ap kind_numbered c.from.ensures) ∙ sym c.try_from.ensures ∙ ap kind_in c.in_err-try_from.was))
-
-pub returns : goal.returns
-returns c =
-    let a = c.args in
-    let number = number-kind c.from.result c.in_ok-try_from.field-0 (sym c.try_from.ensures ∙ ap kind_in c.in_ok-try_from.was) ∙ c.from.ensures in
-    subst (λ (n : ℕ). WriteCalled n a.receiver a.year a.month a.rows.now a.id.now a.moment.now a.file.now c.write_kind.new.file c.write_kind.result) number c.write_kind.ensures

@@ -1,10 +1,8 @@
 -- What was measured has room, or not; what was measured is written.
-use Rattle.std.proofs.Common.{◌≡◌, List, ℕ, Option, Some, None, Result, Ok, Err, sym, ap, ◌∙◌, rules, subst, arith}
+use Rattle.std.proofs.Common.{◌≡◌, Err, sym, ◌∙◌, rules, subst, arith}
 use Rattle.std.proofs.lemmas.Grind.{common_steps}
-use Rattle.refusals.specs.declared.Refused.{Refused}
 use Rattle.refusals.specs.declared.Refused.TheVariants.{Short}
 use Rattle.kinds.specs.Numbers.{kind_number}
-use Rattle.message.specs.Messages.{message_bytes}
 use Rattle.writer.specs.WriteCalls.{WriteCalled}
 use Rattle.writer.proofs.CalledLaws.{called-short, called-file, same-buffer, was-some, was-none, measured-at, written-at}
 use Rattle.writer.proofs.ContentsLaws.{rows-period, message-is}

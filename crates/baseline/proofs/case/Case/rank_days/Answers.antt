@@ -14,9 +14,6 @@ returns-then-ranking-y-clause-ranked c = λ b shows.
     scan-full b case.shown.e c.loop-day.day case.shown.y (take r.found r.keys) (c.loop-day.invariant.3 b shows) c.loop-day.auto.day
     (length-take-le r.found r.keys (omega (arith, c.loop-day.invariant.2, case.fits.x_of_y.twenty, c.if-ranking-y.true)) ∙ c.if-ranking-y.true)
 
-pub put-requires : goal.put-requires
-put-requires c = omega (arith, c.loop-day.invariant.1, c.loop-day.invariant.0, c.if-ranking-y.false, c.args.self.now.fits.x_of_y.twenty)
-
 pub loop-day-preserved-in-Some : goal.loop-day-preserved-in-Some
 loop-day-preserved-in-Some c =
     let case = c.args.self.now in

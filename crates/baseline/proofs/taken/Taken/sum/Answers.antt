@@ -4,7 +4,7 @@ use mathlib.Core.List.{flat_map}
 use Rattle.baseline.specs.TallyInner.{Summed}
 use Rattle.baseline.specs.TallyLaws.{sum-none, sum-of}
 use Rattle.baseline.specs.RunsInner.{start_runs}
-use Rattle.baseline.specs.RunsLaws.{runs-more}
+use Rattle.baseline.specs.RunsLaws.{sums-more}
 use Rattle.baseline.proofs.taken.Taken.sum.Goals as goal
 
 pub loop-start-init : goal.loop-start-init
@@ -21,7 +21,7 @@ overflow_add-sum c =
 pub loop-start-preserved : goal.loop-start-preserved
 loop-start-preserved c =
     let run = sum-of _ c.args.n c.tally_run.result c.tally_run.ensures in
-    runs-more c.args.self.now.readings.now c.args.self.now.starts.now c.args.place c.args.back c.args.n c.loop-start.start-index c.loop-start.sum c.unwrap_or-sum.result c.loop-start-test.true c.loop-start.invariant (rw c.unwrap_or-sum.ensures run)
+    sums-more c.args.self.now.readings.now c.args.self.now.starts.now c.args.place c.args.back c.args.n c.loop-start.start-index c.loop-start.sum c.unwrap_or-sum.result c.loop-start-test.true c.loop-start.invariant (rw c.unwrap_or-sum.ensures run)
 
 pub returns : goal.returns
 returns c =

@@ -29,7 +29,7 @@ mean-less-requires c = let x = length c.args.self.now.starts.now in
 
 pub overflow_sub-result : goal.overflow_sub-result
 overflow_sub-result c = let self = c.args.self.now in
-    omega (arith, c.mean-less.ensures, less-small (length self.starts.now) c.sum.result self.some self.few c.sum.ensures.small, c.lift.ensures)
+    omega (arith, c.mean-less.ensures, less-small (length self.starts.now) c.sum.result self.some self.few c.sum.ensures.small, c.raises.ensures)
 
 pub returns : goal.returns
 returns c =
@@ -40,7 +40,7 @@ returns c =
     let days = start_runs self.readings.now c.args.place 24 12 self.starts.now in
     let summed : Summed window 12 own = rw c.unwrap_or-own.ensures (sum-of window 12 c.window.result c.window.ensures) in
     let less = less-small x c.sum.result self.some self.few c.sum.ensures.small in
-    let answer : c.mean-mean.result.count + c.lift.result - c.mean-less.result.count ≡ own * share 12 + grains (2 * raise) - c.sum.result * share (12 * x) = ap₂ ◌-◌ (ap₂ ◌+◌ c.mean-mean.ensures c.lift.ensures) c.mean-less.ensures in
+    let answer : c.mean-mean.result.count + c.raises.result - c.mean-less.result.count ≡ own * share 12 + grains (2 * raise) - c.sum.result * share (12 * x) = ap₂ ◌-◌ (ap₂ ◌+◌ c.mean-mean.ensures c.raises.ensures) c.mean-less.ensures in
     rw answer
     (record {
       level = λ h k. difference (grains raise) (grains (2 * raise)) (sum_z watts window *ℤ pos (share 12)) (sum_z watts days *ℤ pos (share (12 * x))) (own * share 12) (c.sum.result * share (12 * x))

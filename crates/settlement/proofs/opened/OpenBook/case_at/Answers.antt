@@ -13,7 +13,7 @@ use Rattle.quarters.proofs.QuartersLaws.{origin-few}
 use Rattle.baseline.specs.declared.shown.Shown.{Shown}
 use Rattle.std.proofs.lemmas.Slice.{between_to_end}
 use Rattle.settlement.specs.SectionsInner.{engagement_count_in, shown_in, Opened}
-use Rattle.settlement.specs.DrawnLaws.{drawn, readings-start, Placing, engagement-placed}
+use Rattle.settlement.specs.DrawnLaws.{drawn, readings-start, engagement-placed}
 use Rattle.settlement.proofs.opened.OpenBook.case_at.Goals as goal
 
 -- the engagement that is shown

@@ -1,5 +1,5 @@
 -- What is shown of the engagement is the book's, so what it lacks is what the definitions say.
-use mathlib.Core.Path.{◌≡◌, refl, ap, ◌∙◌}
+use mathlib.Core.Path.{◌≡◌, ap, ◌∙◌}
 use mathlib.Core.Option.{Option, none, some}
 use Prim.Native.Nat.{ℕ}
 use borrow.Author.Rules.{rules}

@@ -5,12 +5,11 @@ use Prim.Native.Nat.{ℕ, ◌+◌, ◌-◌, ◌*◌, ◌≤◌, ◌<◌}
 use lib.IntN.{ℤ}
 use lib.ListN.{length, drop, length-take, length-drop}
 use lib.Seq.{sets, length-sets}
-use Rattle.book.specs.Book.{Book}
 use Rattle.book.specs.Engagements.{engagement_at}
 use Rattle.volumes.specs.Settlement.{row_width, rows_of, row_count}
 use Rattle.volumes.proofs.SettlementLaws.{rows_of-length}
 use Rattle.settlement.specs.OpenedInner.{book_in}
-use Rattle.settlement.specs.SectionsInner.{engagement_count_in, book_with, row_count_in}
+use Rattle.settlement.specs.SectionsInner.{engagement_count_in, book_with}
 use Rattle.settlement.specs.SectionsLaws.{count-with}
 use Rattle.settlement.specs.PartsLaws.{row_count_to, count_none, count-more, count_most, parts_to, parts_none, parts_more}
 use Rattle.settlement.specs.SettlingLaws.{rows-all, not-refused}

@@ -1,10 +1,8 @@
 -- What is shown of the engagement is the book's, so the rows filled are its rows.
-use mathlib.Core.Path.{◌≡◌, sym, ap, ◌∙◌}
-use mathlib.Core.Option.{none}
+use mathlib.Core.Path.{sym, ap, ◌∙◌}
 use lib.Seq.{sets}
 use Prim.Native.Nat.{◌*◌}
 use Rattle.book.specs.declared.Engagement.{Engagement}
-use Rattle.book.specs.Engagements.{engagement_at}
 use Rattle.volumes.specs.Settlement.{refusal_number, row_width, rows_of}
 use Rattle.baseline.specs.FilledInner.{Unrefused}
 use Rattle.settlement.specs.SectionsInner.{book_with}

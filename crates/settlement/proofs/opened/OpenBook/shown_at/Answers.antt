@@ -23,7 +23,7 @@ pub bounds-self-e : goal.bounds-self-e
 bounds-self-e c =
     let o = c.args.self.now in
     let p : Placing (calendar_of o.book.now) c.engagement-e.result = rw c.engagement-e.ensures (engagement-placed o.opened c.args.i c.requires) in
-    p.point
+    omega (arith, p.point, o.gathered.long)
 
 pub category-category-requires : goal.category-category-requires
 category-category-requires c =
@@ -47,7 +47,7 @@ returns c =
     let e = c.engagement-e.ensures in
     let category = c.category-category.ensures ∙ ap₂ (λ (l : List ℕ) (f : Engagement). category_at l f.day) o.spread.calendar e in
     let point = c.point_at-point.ensures ∙ ap₂ (λ (l : List ℕ) (f : Engagement). point_at l f.point) o.spread.register e in
-    let closed = ap₂ bit_or (ap (λ (p : Point). p.mask) point) (ap (λ (f : Engagement). get_or o.engaged f.point 0) e) in
+    let closed = ap₂ bit_or (ap (λ (p : Point). p.mask) point) (ap (λ (f : Engagement). get_or o.engaged.now f.point 0) e) in
     let x = c.x_of.ensures ∙ ap₂ x_at o.spread.table category in
     let y = c.y_of.ensures ∙ ap₂ y_at o.spread.table category in
     λ i. record { c = o.spread.when i; e = e i; point = point i; closed = closed i; x = x i; y = y i }

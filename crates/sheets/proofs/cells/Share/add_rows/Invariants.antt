@@ -5,4 +5,4 @@ use Rattle.sheets.specs.SharesInner.{gets_of}
 use Rattle.sheets.proofs.cells.Share.add_rows.Given as goal
 
 abbrev pub invariant-loop-k : goal.invariant-loop-k
-invariant-loop-k l = l.sums ≡ adds l.initial.sums l.at (gets_of l.self.version l.self.party l.self.point l.rows l.k)
+invariant-loop-k l = l.sums ≡ adds l.initial.sums 0 (gets_of l.self.version l.self.party l.self.point l.fn.rows l.k)

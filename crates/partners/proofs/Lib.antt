@@ -1,0 +1,3 @@
+pub mod RolesLaws
+pub mod DirectionsLaws
+pub mod NextLaws
