@@ -1,7 +1,7 @@
 -- Laws of dates: the closed forms that the code computes are the definitions, and the definitions mean what they say.
 use Rattle.std.specs.Prelude.{◌≡◌, refl, Bool, true, false, cond, not, ◌&&◌, ◌||◌, ℕ, zero, suc, pred, ◌+◌, ◌-◌, ◌*◌, ◌/◌, ◌%◌, ◌≤◌, ◌<◌, T, eqb, leb, ltb, get_or}
-use Rattle.std.proofs.Common.{sym, ap, ◌∙◌, arith, add-zero, add-suc, le_refl, div-add-mod', mod-lt, suc-mul, add-one, sub-one, lit<, lit≤, eqb→eq, ltb-true, ltb-false, leb-true, leb-false, eqb-true, ne_eqb, lt-ltb, le-ltb, le-leb}
-use Rattle.std.proofs.Math.Bool.{and-false}
+use Rattle.std.proofs.Common.{sym, ap, ◌∙◌, arith, add-zero, add-suc, le_refl, div-add-mod', mod-lt, suc-mul, add-one, sub-one, lit<, lit≤, eqb→eq, ltb-true, ltb-false, leb-true, leb-false, eqb-true, eq-eqb, ne_eqb, lt-ltb, le-ltb, le-leb}
+use Rattle.std.proofs.Math.Bool.{and-true, and-false}
 use Rattle.std.proofs.Math.Arith.{digits_div}
 use Rattle.std.proofs.Math.Dec.{eqb-suc-zero}
 use Rattle.std.proofs.lemmas.Bool.{eqb-false, lt-leb}
@@ -11,6 +11,15 @@ use Rattle.integers.proofs.RunningLaws.{up_to-cong}
 use Rattle.integers.proofs.TestsLaws.{all_below, all-below}
 use Rattle.calendar.specs.Dates.{leap, month_length, MonthLengths, year_length, day_number, weekday, sunday_up_to, last_sunday, march_sunday, october_sunday, offset_hours, lengths, days_before_year, days_before_month, calendar_days, next_year, next_month}
 use Rattle.calendar.specs.DatesInner.{IsMonth}
+
+-- the test by 400 decides for a century's year, that by 4 for any other
+pub leap-century : (y : ℕ) → y % 100 ≡ 0 → leap y ≡ eqb (y % 400) 0
+unfolding leap
+leap-century y e = rw (eq-eqb (y % 4) 0 (omega arith), eq-eqb (y % 100) 0 e)
+
+pub leap-other : (y : ℕ) → (y % 100 ≡ 0 → ⊥) → leap y ≡ eqb (y % 4) 0
+unfolding leap
+leap-other y e = rw (ne_eqb (y % 100) 0 e) (and-true _)
 
 -- whether a month's length is the listed one
 abbrev as_listed : ℕ → ℕ → Bool
@@ -364,3 +373,6 @@ pub ruleset last_sundays = (last-sunday, sunday-most, weekday-most)
 pub ruleset clock_bounds = (number-most, calendar-most, march-most, october-most)
 
 pub ruleset later_months = (next-is-month)
+
+-- the offset of a month's first, as the check cites it
+pub ruleset first_offsets = (first-offset)

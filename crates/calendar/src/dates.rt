@@ -104,15 +104,23 @@ impl Month {
         self.day_number(self.last_sunday())
     }
 
-    // The numbers of the days on which the clocks of its year change.
-    #[tactic(auto, unfolding(crate::specs::Dates::march_sunday, crate::specs::Dates::october_sunday))]
-    fn clock_changes(self) -> (u64, u64)
-        ensures { (result.0 ≡ march_sunday self.year) × (result.1 ≡ october_sunday self.year) }
+    // The numbers of the days on which the clocks of its year change: the last Sunday of March, and that of October.
+    #[tactic(auto, unfolding(crate::specs::Dates::march_sunday))]
+    pub fn march_sunday(self) -> u64
+        ensures { result ≡ march_sunday self.year }
     {
         let year = self.year;
         let march = Month { year, month: 3 };
+        march.sunday_number()
+    }
+
+    #[tactic(auto, unfolding(crate::specs::Dates::october_sunday))]
+    pub fn october_sunday(self) -> u64
+        ensures { result ≡ october_sunday self.year }
+    {
+        let year = self.year;
         let october = Month { year, month: 10 };
-        (march.sunday_number(), october.sunday_number())
+        october.sunday_number()
     }
 
     // The offset at a day's noon, in hours.
@@ -121,12 +129,19 @@ impl Month {
         requires { day ≤ 31 }
         ensures { result ≡ offset_hours self.year self.month day }
     {
-        let (march, october) = self.clock_changes();
-        if (march..october).contains(&self.day_number(day)) {
+        if (self.march_sunday()..self.october_sunday()).contains(&self.day_number(day)) {
             2
         } else {
             1
         }
+    }
+
+    // The offset on its first, in hours: the clocks change on the last Sundays of March and October, so summer time is that of April to October.
+    #[tactic(auto, using(crate::proofs::DatesLaws::first_offsets))]
+    pub fn first_offset(self) -> u64
+        ensures { result ≡ offset_hours self.year self.month 1 }
+    {
+        if (4..=10).contains(&self.month) { 2 } else { 1 }
     }
 
     // The days of a calendar that starts `lead` days before the month.
@@ -146,12 +161,13 @@ impl Month {
     {
         let first = self.day_number(1);
         let days = first..first + self.calendar_days(lead);
-        let (march, october) = self.clock_changes();
-        if days.contains(&(march + lead)) {
-            return Clock::Shorter(march + lead - first);
+        let march = self.march_sunday() + lead;
+        if days.contains(&march) {
+            return Clock::Shorter(march - first);
         }
-        if days.contains(&(october + lead)) {
-            return Clock::Longer(october + lead - first);
+        let october = self.october_sunday() + lead;
+        if days.contains(&october) {
+            return Clock::Longer(october - first);
         }
         Clock::Same
     }

@@ -20,6 +20,7 @@ pub struct Val {
 
 // A tag.
 #[tactic(auto, using(crate::proofs::PlaceLaws::tags))]
+#[inline(always)]
 pub fn tag(s: &[u8], at: usize, t: &[u8]) -> Option<usize>
     requires { at ≤ length s.now }
     ensures { Parsed (strip t.now) s.now at tt result }
@@ -33,6 +34,7 @@ pub fn tag(s: &[u8], at: usize, t: &[u8]) -> Option<usize>
 
 // One of two words, as 0 or 1: a number, since the form, `words_parse`, gives the word's place in its list.
 #[tactic(auto, unfolding(crate::specs::Words::words_parse))]
+#[inline(always)]
 pub fn word(s: &[u8], at: usize, v: &[u8], w: &[u8]) -> Option<Val>
     requires { at ≤ length s.now }
     ensures { Valued (words_parse (v.now ∷ w.now ∷ [])) s.now at result }

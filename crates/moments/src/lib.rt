@@ -158,10 +158,16 @@ impl Moment {
 pub fn read_moment(s: &[u8]) -> Option<Moment>
     ensures { result ≡ moment_of s.now }
 {
+    if s.len() != 29 {
+        return None;
+    }
     let m = parts_of(s);
+    if !m.is_real() {
+        return None;
+    }
     let mut form = [0u8; 29];
     m.write(&mut form, 0);
-    (s.len() == 29 && m.is_real() && text::matches(s, 0, &form)).then_some(m)
+    text::matches(s, 0, &form).then_some(m)
 }
 
 // The first of a month.
@@ -177,7 +183,7 @@ pub fn period_start(month: Month) -> Moment
         minute: 0,
         second: 0,
         milli: 0,
-        offset: month.offset_hours(1),
+        offset: month.first_offset(),
     }
 }
 

@@ -53,6 +53,10 @@ no_change c d e = go (eqb (quarters c d) 96) refl e
 
 -- ---- where days start
 
+pub day-start-zero : (c : Calendar) → day_start c 0 ≡ 0
+unfolding day_start
+day-start-zero c = refl
+
 pub day-start-next : (c : Calendar) (d : ℕ) → day_start c (suc d) ≡ day_start c d + quarters c d
 unfolding day_start
 day-start-next c d = refl

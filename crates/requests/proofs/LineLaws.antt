@@ -1,7 +1,7 @@
 -- A line's words stand where the code says.
 use Rattle.std.specs.Prelude.{◌≡◌, refl, true, List, ◌++◌, ℕ, ◌+◌, ◌-◌, ◌≤◌, drop}
 use Rattle.std.proofs.Math.Path.{sym}
-use Rattle.std.proofs.Common.{ap, ◌∙◌, append_assoc, length-append, take_at, drop_at}
+use Rattle.std.proofs.Common.{ap, ◌∙◌, append_assoc, length-append, length-drop, take_at, drop_at}
 use Rattle.std.specs.Prelude.{Some, None, Result, Ok, Err}
 use Rattle.std.proofs.Math.ListN.{length, take}
 use native.Mathlib.Omega.{arith}
@@ -21,6 +21,7 @@ use Rattle.kinds.specs.declared.UnknownKind.{UnknownKind}
 use Rattle.std.proofs.Math.Option.{none}
 use Rattle.kinds.specs.Numbers.{kind_numbered, is_there, is_kind}
 use Rattle.kinds.specs.NumbersInner.{kind_in}
+use Rattle.kinds.specs.NumbersLaws.{kind-most}
 use Rattle.requests.specs.Line.{Words, line}
 use Rattle.requests.specs.LineInner.{asked, request_by, request_of}
 
@@ -68,6 +69,27 @@ line-there s w rest q e f =
 pub line-length : (w : Words) → line.Ok w → length (line.render w) ≡ 45 + length w.1.1.0
 unfolding line bytes
 line-length w ok = simp (length-append, length-fixed) (omega (arith, ok.1.1.1.0))
+
+kind-small : (w : Words) → line.Ok w → w.0 ≤ 3
+unfolding line
+kind-small w ok = kind-most w.0 ok.0.1
+
+-- where the line at the front of s ends, if q is the place behind it
+pub record Ended (s : List ℕ) (q : ℕ) (w : Words) : Type 0 where
+  pub form : s ≡ line.render w ++ drop q s
+  pub ok : line.Ok w
+  pub behind : q ≡ 45 + length w.1.1.0
+  pub kind : w.0 ≤ 3
+
+pub line-ended : (s : List ℕ) (q : ℕ) (w : Words) → q ≤ length s → line.parse s ≡ got w (drop q s) → Ended s q w
+line-ended s q w h e =
+    let f = sound-of line s w (drop q s) e in
+    record {
+      form = f.0;
+      ok = f.1;
+      behind = omega (arith, simp length-append at (ap length f.0), length-drop q s, line-length w f.1);
+      kind = kind-small w f.1;
+    }
 
 -- ---- the words of a line, as parts of the input
 

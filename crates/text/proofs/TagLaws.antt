@@ -54,14 +54,22 @@ unfolding begins
 begins-no-room s [] p h = refl
 begins-no-room s (x ∷ t) p h = begins-short (x ∷ t) (drop p s) (omega (arith, length-drop p s)) ∙ sym (ne_eqb (length (x ∷ t)) 0 (λ e. omega arith))
 
-module _ (s t : List ℕ) (i : ℕ) where
-  pub begins-end : length t ≤ i → begins (drop i t) (drop i s) ≡ true
+module _ (s t : List ℕ) (p i : ℕ) where
+  pub begins-end : length t ≤ i → begins (drop i t) (drop p s) ≡ true
   unfolding begins
   begins-end h = rw (drop_of_length-le t {i = i} h)
 
-  pub begins-step : i < length t → i < length s → begins (drop i t) (drop i s) ≡ (eqb (get_or s i 0) (get_or t i 0) && begins (drop (i + 1) t) (drop (i + 1) s))
+  pub begins-step : i < length t → p < length s → begins (drop i t) (drop p s) ≡ (eqb (get_or s p 0) (get_or t i 0) && begins (drop (i + 1) t) (drop (p + 1) s))
   unfolding begins
-  begins-step h k = rw (add-one, drop-cons t i 0 h, drop-cons s i 0 k)
+  begins-step h k = rw (add-one, add-one, drop-cons t i 0 h, drop-cons s p 0 k)
+
+-- the same where list and tag are looked at from the same place on
+module _ (s t : List ℕ) (i : ℕ) where
+  pub aligned-end : length t ≤ i → begins (drop i t) (drop i s) ≡ true
+  aligned-end h = begins-end s t i i h
+
+  pub aligned-step : i < length t → i < length s → begins (drop i t) (drop i s) ≡ (eqb (get_or s i 0) (get_or t i 0) && begins (drop (i + 1) t) (drop (i + 1) s))
+  aligned-step h k = begins-step s t i i h k
 
 -- the same, as the check cites them
-pub ruleset tags = (to_end, begins-outside, begins-short, begins-end, begins-step, and_assoc)
+pub ruleset tags = (to_end, begins-outside, begins-short, aligned-end, aligned-step, and_assoc)

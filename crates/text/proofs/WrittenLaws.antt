@@ -1,6 +1,6 @@
--- Writes one behind the other are one write; a write begins one element before; a part that is replaced is a write.
-use Rattle.std.specs.Prelude.{◌≡◌, List, [], ◌∷◌, ◌++◌, ℕ, suc, ◌+◌, ◌≤◌, length, take, drop, set, get_or}
-use Rattle.std.proofs.Common.{sym, ap, ◌∙◌, append_assoc, append-nil, arith, add-zero, add_assoc, add-suc, suc-add, length-append, length-drop, take-append-drop, drop_of_length-le, length-take-le, take_at, take-suc, drop-drop}
+-- Writes one behind the other are one write; a write moves by one element; a write in a part of a list is a write in the list; a part that is replaced is a write.
+use Rattle.std.specs.Prelude.{◌≡◌, List, [], ◌∷◌, ◌++◌, ℕ, suc, ◌+◌, ◌≤◌, ◌<◌, length, take, drop, set, get_or}
+use Rattle.std.proofs.Common.{sym, ap, ◌∙◌, append_assoc, append-nil, arith, add-zero, add-one, add_assoc, add-suc, suc-add, length-append, length-drop, take-append-drop, drop_of_length-le, length-take-le, take_at, take-suc, take-add, drop-drop, drop-cons}
 use Rattle.std.proofs.lemmas.List.{set_at}
 use Rattle.std.proofs.Math.Seq.{drop-append-add}
 use borrow.Rule.Slice.PartMut.{put_mid}
@@ -60,6 +60,38 @@ written-cons d at x bs h =
     ∙ sym (append_assoc q (x ∷ bs) r)
     ∙ ap (λ (k : ℕ). q ++ (x ∷ bs) ++ drop k d) (suc-add at (length bs) ∙ sym (add-suc at (length bs)))
 
+-- an element behind what is written
+pub written-snoc : (d : List ℕ) (at : ℕ) (bs : List ℕ) (x : ℕ) → at + length bs < length d
+    → set (written d at bs) (at + length bs) x ≡ written d at (bs ++ (x ∷ []))
+unfolding written
+written-snoc d at bs x h =
+    let p = take at d ++ bs in
+    let n = at + length bs in
+    let e : suc n ≡ at + length (bs ++ (x ∷ [])) = simp length-append (omega arith) in
+    ap (λ (l : List ℕ). set (p ++ l) n x) (drop-cons d n 0 h)
+    ∙ set_at p (get_or d n 0) (drop (suc n) d) x n (length-head d at bs (omega arith))
+    ∙ sym (append_assoc p (x ∷ []) (drop (suc n) d))
+    ∙ ap (λ (l : List ℕ). l ++ drop (suc n) d) (append_assoc (take at d) bs (x ∷ []))
+    ∙ ap (λ (k : ℕ). take at d ++ (bs ++ (x ∷ [])) ++ drop k d) e
+
+-- the same by place: the next byte of a list that is written byte by byte
+pub written-step : (d t : List ℕ) (at i : ℕ) → i < length t → at + length t ≤ length d
+    → set (written d at (take i t)) (at + i) (get_or t i 0) ≡ written d at (take (i + 1) t)
+written-step d t at i h k =
+    let l : length (take i t) ≡ i = length-take-le i t (omega arith) in
+    ap (λ (j : ℕ). set (written d at (take i t)) (at + j) (get_or t i 0)) (sym l)
+    ∙ written-snoc d at (take i t) (get_or t i 0) (omega arith)
+    ∙ ap (written d at) (sym (take-suc t i 0 h) ∙ ap (λ (j : ℕ). take j t) (sym (add-one i)))
+
+-- a write in the part from k on is a write in the list
+pub written-part : (d : List ℕ) (k at : ℕ) (bs : List ℕ) → take k d ++ written (drop k d) at bs ≡ written d (k + at) bs
+unfolding written
+written-part d k at bs =
+    let e : k + (at + length bs) ≡ k + at + length bs = sym (add_assoc k at (length bs)) in
+    ap (λ (l : List ℕ). take k d ++ (take at (drop k d) ++ bs ++ l)) (drop-drop (at + length bs) k d ∙ ap (λ (n : ℕ). drop n d) e)
+    ∙ sym (append_assoc (take k d) (take at (drop k d) ++ bs) (drop (k + at + length bs) d))
+    ∙ ap (λ (l : List ℕ). l ++ drop (k + at + length bs) d) (sym (append_assoc (take k d) (take at (drop k d)) bs) ∙ ap (λ (l : List ℕ). l ++ bs) (sym (take-add k at d)))
+
 pub wrote-length : {d : List ℕ} {at : ℕ} {bs out : List ℕ} {p : ℕ} → Wrote d at bs out p → length out ≡ length d
 wrote-length {d} {at} {bs} w = ap length w.list ∙ length-written d at bs w.room
 
@@ -79,7 +111,21 @@ and_then {d} {at} {a} {b} {out} {out'} {p} {p'} v w =
 pub wrote_none : (d : List ℕ) (at : ℕ) → at ≤ length d → Wrote d at [] d at
 wrote_none d at h = record { room = omega arith; behind = omega arith; list = sym (written-nil d at) }
 
+-- a write in the part from k on
+pub wrote-part : {d : List ℕ} (k : ℕ) {at : ℕ} {bs out : List ℕ} {p : ℕ} → k ≤ length d → Wrote (drop k d) at bs out p → Wrote d (k + at) bs (take k d ++ out) (k + p)
+wrote-part {d} k {at} {bs} {out} {p} h w =
+    let l = length-drop k d in
+    let n = w.behind in
+    let r = w.room in
+    record {
+      room = omega arith;
+      behind = omega arith;
+      list = ap (λ (o : List ℕ). take k d ++ o) w.list ∙ written-part d k at bs;
+    }
+
 -- the same, as the check cites it
 pub ruleset copies = (written-copied)
+
+pub ruleset bytes_written = (written-nil, written-step, length-written)
 
 pub ruleset writes = (written_both, length-written)
