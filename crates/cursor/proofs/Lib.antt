@@ -1,3 +1,5 @@
 pub mod ReadsLaws
 pub mod SoundLaws
 pub mod MarkedReadsLaws
+pub mod ParsedLaws
+pub mod StepsLaws

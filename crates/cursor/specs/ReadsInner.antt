@@ -7,6 +7,10 @@ use Rattle.formats.specs.Numbers.{number_parse}
 use Rattle.formats.specs.Name.{name_byte, name_parse}
 use Rattle.cursor.specs.declared.Cursor.{Cursor}
 
+-- where a cursor stands
+abbrev pub text_and_place : Cursor → List ℕ × ℕ
+text_and_place c = (c.text.now, c.at)
+
 -- what was read is the answer, and what is left of it begins where the cursor stands; nothing is answered where nothing was read
 abbrev pub Found : {A : Type 0} → Res A → Cursor → Option A → Type 0
 Found x c (Some v) = x ≡ got v (drop c.at c.text.now)

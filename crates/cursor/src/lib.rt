@@ -1,7 +1,7 @@
 // A small cursor that reads the tags, numbers and words of a text. It is lent by `&mut`; each method moves it past what it reads, or gives None and leaves it as it was.
 #![tactic(auto)]
 
-ghost use Rattle.std.specs.Prelude.{◌≡◌, ◌≤◌, length, IfNone};
+ghost use Rattle.std.specs.Prelude.{◌≡◌, ◌<◌, ◌≤◌, length, option_map, IfNone};
 ghost use Rattle.formats.specs.Combine.{strip};
 ghost use Rattle.formats.specs.Words.{words_parse};
 
@@ -17,7 +17,7 @@ pub struct Cursor<'a> {
 
 impl<'a> Cursor<'a> {
     ghost use Rattle.std.specs.Prelude.{[], ◌∷◌};
-    ghost use Rattle.cursor.specs.ReadsInner.{Reads, number_of, counter_parse, fixed_of, name_of};
+    ghost use Rattle.cursor.specs.ReadsInner.{Reads, text_and_place, number_of, counter_parse, fixed_of, name_of};
 
     // At the text's first byte.
     pub fn new(text: &'a [u8]) -> Cursor<'a>
@@ -25,6 +25,17 @@ impl<'a> Cursor<'a> {
         ensures of { result.text.now ≡ text.now }
     {
         Cursor { text, at: 0 }
+    }
+
+    // At a place of the text, which may be its end; None where the text ends before it.
+    pub fn at(text: &'a [u8], at: usize) -> Option<Cursor<'a>>
+        ensures there { at ≤ length text.now → option_map text_and_place result ≡ Some (text.now, at) }
+        ensures outside { length text.now < at → result ≡ None }
+    {
+        if text.len() < at {
+            return None;
+        }
+        Some(Cursor { text, at })
     }
 
     // Past what was read; answers its value.
@@ -39,6 +50,7 @@ impl<'a> Cursor<'a> {
     }
 
     // Past a tag.
+    #[inline(always)]
     pub fn tag(&mut self, t: &[u8]) -> Option<()>
         ensures reads { Reads (strip t.now) self.old self.new result }
         ensures stays { IfNone result (self.new ≡ self.old) }
@@ -84,6 +96,7 @@ impl<'a> Cursor<'a> {
     }
 
     // Past one of two words, as 0 or 1.
+    #[inline(always)]
     pub fn word(&mut self, v: &[u8], w: &[u8]) -> Option<u64>
         ensures reads { Reads (words_parse (v.now ∷ w.now ∷ [])) self.old self.new result }
         ensures stays { IfNone result (self.new ≡ self.old) }

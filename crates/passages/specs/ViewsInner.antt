@@ -1,6 +1,11 @@
 -- What the code's values say: an observation, and the year and month of a period.
-use Rattle.std.specs.Prelude.{ℕ, Option, Some, None, Bool, true, false}
+use Rattle.std.specs.Prelude.{List, ℕ, Option, Some, None, Bool, true, false}
+use Rattle.text.specs.Ascii.{bytes}
+use Rattle.formats.specs.Format.{Res}
+use Rattle.formats.specs.Combine.{pre_parse, post_parse, seq_parse}
+use Rattle.formats.specs.Exactly.{fixed_parse}
 use Rattle.calendar.specs.declared.dates.Month.{Month}
+use Rattle.message.specs.Bytes.{opening}
 use Rattle.message.specs.Contents.{Observation}
 use Rattle.message.specs.Reading.{is_period}
 use Rattle.passages.specs.declared.ReadObservation.{ReadObservation}
@@ -26,3 +31,7 @@ kept_if false q = None
 
 abbrev pub month_in : ℕ × ℕ → Option (ℕ × ℕ)
 month_in q = kept_if (is_period q) q
+
+-- any year and month, where a period's first moment has them
+abbrev pub any_month_parse : List ℕ → Res (ℕ × ℕ)
+any_month_parse = pre_parse (opening "PeriodStart") (seq_parse (post_parse (fixed_parse 4) (λ y. bytes "-")) (λ y. fixed_parse 2))

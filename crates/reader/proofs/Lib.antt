@@ -1,3 +1,4 @@
+mod Cited
 pub mod RootLaws
 pub mod PartnersLaws
 pub mod PlacesLaws
@@ -12,3 +13,5 @@ pub mod MarkedFileLaws
 pub mod MarkedPlacesLaws
 pub mod MarkedJudgedLaws
 pub mod MarkedFactsLaws
+pub mod MarkedPassagesLaws
+pub mod MarkedFilledLaws

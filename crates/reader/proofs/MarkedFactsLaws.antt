@@ -1,5 +1,5 @@
 -- Laws about a reading of a file that keeps marks: what it tells is what the call answers, and a file that was judged one has its rows filled by the second reading.
--- They stand for whoever reads so; the reader itself goes by FactsLaws, and nothing above needs them.
+-- They stand for whoever reads so; the reader itself goes by FactsLaws; MarkedFilledLaws leads from what its contracts say to these.
 use Rattle.std.specs.Prelude.{◌≡◌, List, ℕ, ◌+◌, ◌-◌, ◌*◌, ◌/◌, ◌≤◌, ◌<◌, length, take, Option, Some, None, Ok, Err}
 use Rattle.std.proofs.Math.Path.{refl}
 use Rattle.std.proofs.Common.{sym, ap, ◌∙◌, arith}

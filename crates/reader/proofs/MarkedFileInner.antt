@@ -1,5 +1,5 @@
 -- Definitions for a reading of a file that keeps marks: its kind, its receiver, where ID and moment stand, its month and its rows.
--- They stand for whoever reads so; the reader itself goes by `Reads` and `Filled`.
+-- They stand for whoever reads so; the reader itself goes by `Reads` and `Filled`; MarkedFilledLaws leads from what its contracts say to these.
 use Rattle.std.specs.Prelude.{◌≡◌, List, ◌++◌, ℕ, ◌+◌, length, take, Option, Some}
 use Rattle.formats.specs.Name.{name_byte, span}
 use Rattle.formats.proofs.MarksLaws.{Parsed, left}

@@ -1,5 +1,5 @@
 -- Laws about a reading of a file that keeps marks: its root and moment, and what month and rows its partners give.
--- They stand for whoever reads so; the reader itself goes by `Reads` and `Filled`, and nothing above needs them.
+-- They stand for whoever reads so; the reader itself goes by `Reads` and `Filled`; MarkedFilledLaws leads from what its contracts say to these.
 use Rattle.std.specs.Prelude.{◌≡◌, refl, ℕ, zero, suc, ◌+◌, length, take, Option, Some, None}
 use Rattle.std.proofs.Common.{sym, ap, ◌∙◌, length-append, arith}
 use mathlib.Core.List.{List, [], ◌∷◌, ◌++◌, map, flat_map}
@@ -131,7 +131,7 @@ unfolding folded after
 series-month t [] r = refl
 series-month t (s ∷ l) r = series-month (counting t s) l r
 
-partners-after : (t : (ℕ × ℕ) × ℕ) (l : List Partner) → (folded adding t l).0 ≡ after t.0 (periods l)
+pub partners-after : (t : (ℕ × ℕ) × ℕ) (l : List Partner) → (folded adding t l).0 ≡ after t.0 (periods l)
 unfolding folded after periods flat_map
 partners-after t [] = refl
 partners-after t (p ∷ l) = partners-after (adding t p) l ∙ series-month t p.series (periods l)

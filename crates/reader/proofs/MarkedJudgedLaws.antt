@@ -1,5 +1,5 @@
 -- Laws about a reading of a file that keeps marks: from its parts, with its places, month and rows, to what the call answers, 13, 10 or the file.
--- They stand for whoever reads so; the reader itself goes by FactsLaws, and nothing above needs them.
+-- They stand for whoever reads so; the reader itself goes by FactsLaws; MarkedFilledLaws leads from what its contracts say to these.
 use Rattle.std.specs.Prelude.{◌≡◌, refl, ℕ, suc, ◌+◌, ◌*◌, ◌≤◌, ◌<◌, length, drop, get_or, Some, None, Ok, Err}
 use Rattle.std.proofs.Math.Path.{sym, ap}
 use Rattle.std.proofs.Common.{◌∙◌, length-append, drop_of_length-le, drop-cons, arith}

@@ -1,5 +1,5 @@
 -- Laws about a reading of a partner that keeps a mark: its head, its series and its end, one behind the other, are the partner's form.
--- They stand for whoever reads so; the reader itself goes by `Reads` and `Filled`, and nothing above needs them.
+-- They stand for whoever reads so; the reader itself goes by `Reads` and `Filled`; MarkedFilledLaws leads from what its contracts say to these.
 use Rattle.std.specs.Prelude.{◌≡◌, refl, Bool, true, false, List, [], ◌++◌, ℕ, drop, Option, Some, None}
 use Rattle.std.proofs.Common.{sym, arith}
 use Rattle.formats.specs.Format.{Res, got, bad, Format}

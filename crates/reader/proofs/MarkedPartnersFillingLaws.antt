@@ -1,5 +1,5 @@
 -- Laws about a reading of partners that keeps a mark and fills rows: partners, each behind the other, fill them, and these are the file's.
--- They stand for whoever reads so; the reader itself goes by `Filled`, and nothing above needs them.
+-- They stand for whoever reads so; the reader itself goes by `Filled`; MarkedFilledLaws leads from what its contracts say to these.
 use Rattle.std.specs.Prelude.{◌≡◌, refl, leb, length, drop, Option, Some}
 use Rattle.std.proofs.Common.{sym, ap, ap₂, ◌∙◌, length-append, add-one, arith}
 use Rattle.std.proofs.Math.Path.{subst}

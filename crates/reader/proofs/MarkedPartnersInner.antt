@@ -1,5 +1,5 @@
 -- Definitions for a reading of a file's partners that keeps a mark: each behind the one before it, and what is kept of them.
--- They stand for whoever reads so; the reader itself goes by `Reads` and `Filled`.
+-- They stand for whoever reads so; the reader itself goes by `Reads` and `Filled`; MarkedFilledLaws leads from what its contracts say to these.
 use Rattle.std.specs.Prelude.{List, ℕ}
 use Rattle.formats.specs.Format.{Format}
 use Rattle.formats.specs.Rising.{from_low}

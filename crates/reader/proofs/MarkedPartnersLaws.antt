@@ -1,5 +1,5 @@
 -- Laws about a reading of partners that keeps a mark: the turns, one partner after the other, give what their form gives.
--- They stand for whoever reads so; the reader itself goes by `Filled` and `Turned`, and nothing above needs them.
+-- They stand for whoever reads so; the reader itself goes by `Filled` and `Turned`; MarkedFilledLaws leads from what its contracts say to these.
 use Rattle.std.specs.Prelude.{◌≡◌, Bool, true, false, List, [], ◌∷◌, map, leb, Option}
 use Rattle.std.proofs.Math.Path.{refl, ap}
 use Rattle.std.proofs.Common.{sym, ◌∙◌, add-one}

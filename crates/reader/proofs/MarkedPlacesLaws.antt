@@ -1,5 +1,5 @@
 -- Laws about a reading of a file that keeps marks: ID and moment stand behind the tags before them.
--- They stand for whoever reads so; the reader itself goes by `Reads` (PlacesLaws), and nothing above needs them.
+-- They stand for whoever reads so; the reader itself goes by `Reads` (PlacesLaws); MarkedFilledLaws leads from what its contracts say to these.
 use Rattle.std.specs.Prelude.{◌≡◌, refl, List, [], ◌∷◌, ◌++◌, ℕ, ◌+◌, length, take, Option, Some, None}
 use Rattle.std.proofs.Common.{sym, ap, ◌∙◌, length-append, arith}
 use Rattle.formats.specs.Format.{Res, Format}

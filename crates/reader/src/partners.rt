@@ -1,5 +1,5 @@
 // The partners of a file.
-ghost use Rattle.std.specs.Prelude.{◌≡◌, option_map};
+ghost use Rattle.std.specs.Prelude.{◌≡◌, option_map, IfNone};
 ghost use Rattle.message.specs.Reading.{partner_parse, partners_parse};
 ghost use Rattle.series_reader.specs.RowsInner.{Filled, rows_of_partner};
 ghost use Rattle.series_reader.specs.ViewsInner.{low_of, month_seen};
@@ -27,38 +27,45 @@ fn company(
     behind: &[u8],
     end: &[u8],
 ) -> Option<ReadPartner>
-    ensures { Filled (company_parse before.now behind.now end.now (month_seen seen.month)) (kept_of_partner (month_seen seen.month)) rows_of_partner c.old c.new rows.old rows.new (option_map partner_told result) }
+    ensures filled { Filled (company_parse before.now behind.now end.now (month_seen seen.month)) (kept_of_partner (month_seen seen.month)) rows_of_partner c.old c.new rows.old rows.new (option_map partner_told result) }
+    ensures stays { IfNone result (c.new ≡ c.old) }
 {
-    c.tag(before)?;
-    let number = c.fixed(10)?;
-    c.tag(behind)?;
-    let count = c.counter()?;
-    c.tag(b"/DirectionCounter>")?;
-    let seen = series_list(c, rows, number, None, count, seen)?;
-    c.tag(end)?;
+    let mut d = *c;
+    d.tag(before)?;
+    let number = d.fixed(10)?;
+    d.tag(behind)?;
+    let count = d.counter()?;
+    d.tag(b"/DirectionCounter>")?;
+    let seen = series_list(&mut d, rows, number, None, count, seen)?;
+    d.tag(end)?;
+    *c = d;
     Some(ReadPartner { number, seen })
 }
 
 // An access point.
 #[tactic(auto, unfolding(text::specs::Ascii::bytes, message::specs::Bytes::opening, message::specs::Bytes::ending, message::specs::Bytes::closing, message::specs::Bytes::group, message::specs::Bytes::partner, message::specs::Bytes::digits, message::specs::Reading::partner_parse, message::specs::Reading::shared_partner_parse, message::specs::Reading::counted_parse, message::specs::Reading::plain_parse, formats::specs::Exactly::fixed_parse, formats::specs::Combine::map_parse, formats::specs::Combine::pre_parse, formats::specs::Combine::post_parse, formats::specs::Combine::seq_parse))]
 fn access(c: &mut Cursor, rows: &mut Rows, seen: Seen) -> Option<ReadPartner>
-    ensures { Filled (partner_parse Kind.Toe03 (month_seen seen.month)) (kept_of_partner (month_seen seen.month)) rows_of_partner c.old c.new rows.old rows.new (option_map partner_told result) }
+    ensures filled { Filled (partner_parse Kind.Toe03 (month_seen seen.month)) (kept_of_partner (month_seen seen.month)) rows_of_partner c.old c.new rows.old rows.new (option_map partner_told result) }
+    ensures stays { IfNone result (c.new ≡ c.old) }
 {
-    c.tag(b"<SDPSupplySeries><SDPSupply>")?;
-    let number = c.fixed(18)?;
-    c.tag(b"</SDPSupply><SupplyDirection>")?;
-    let injection = supply(c)?;
-    c.tag(b"</SupplyDirection><DirectionCounter>")?;
-    let count = c.counter()?;
-    c.tag(b"/DirectionCounter>")?;
-    let seen = series_list(c, rows, number, Some(injection), count, seen)?;
-    c.tag(b"</SDPSupplySeries>")?;
+    let mut d = *c;
+    d.tag(b"<SDPSupplySeries><SDPSupply>")?;
+    let number = d.fixed(18)?;
+    d.tag(b"</SDPSupply><SupplyDirection>")?;
+    let injection = supply(&mut d)?;
+    d.tag(b"</SupplyDirection><DirectionCounter>")?;
+    let count = d.counter()?;
+    d.tag(b"/DirectionCounter>")?;
+    let seen = series_list(&mut d, rows, number, Some(injection), count, seen)?;
+    d.tag(b"</SDPSupplySeries>")?;
+    *c = d;
     Some(ReadPartner { number, seen })
 }
 
 // A partner of a file of a kind: what a file is of stands in its root, so the kind is a value.
 fn partner(c: &mut Cursor, rows: &mut Rows, kind: Kind, seen: Seen) -> Option<ReadPartner>
-    ensures { Filled (partner_parse kind (month_seen seen.month)) (kept_of_partner (month_seen seen.month)) rows_of_partner c.old c.new rows.old rows.new (option_map partner_told result) }
+    ensures filled { Filled (partner_parse kind (month_seen seen.month)) (kept_of_partner (month_seen seen.month)) rows_of_partner c.old c.new rows.old rows.new (option_map partner_told result) }
+    ensures stays { IfNone result (c.new ≡ c.old) }
 {
     match kind {
         Kind::Toe01 => company(
@@ -100,14 +107,17 @@ fn next_partner(
 
 // So many partners of a file; the month that was seen last.
 pub fn partners(c: &mut Cursor, rows: &mut Rows, kind: Kind, count: u64) -> Option<Seen>
-    ensures { Filled (partners_parse kind count) month_behind rows_of_partners c.old c.new rows.old rows.new (option_map (λ s. month_seen s.month) result) }
+    ensures filled { Filled (partners_parse kind count) month_behind rows_of_partners c.old c.new rows.old rows.new (option_map (λ s. month_seen s.month) result) }
+    ensures stays { IfNone result (c.new ≡ c.old) }
 {
+    let mut d = *c;
     let mut behind = None;
     let mut seen = Seen { month: None };
     for _i in 0..count {
-        let p = next_partner(c, rows, kind, behind, seen)?;
+        let p = next_partner(&mut d, rows, kind, behind, seen)?;
         behind = Some(p.number);
         seen = p.seen;
     }
+    *c = d;
     Some(seen)
 }

@@ -56,6 +56,10 @@ module _ {A B : Type 0} {f : List ℕ → Res A} {kept : A → B} {rows_of : A �
   pub none-filled : Reads f c d None → Lent before after → Filled f kept rows_of c d before after None
   none-filled r l = record { reads = record { text = r.text; found = ap (λ (x : Res A). bind {B = B × (List ℕ × ℕ)} x (λ a q. got (kept a, with_rows (rows_of a) (held before)) q)) r.found }; lent = l }
 
+  -- where it isn't there, the cursor that was lent may as well be as it was
+  pub filled-stays : Filled f kept rows_of c d before after None → Filled f kept rows_of c c before after None
+  filled-stays h = record { reads = record { text = refl; found = h.reads.found }; lent = h.lent }
+
 -- the same reading by another name
 pub filled-same : {A B : Type 0} {f g : List ℕ → Res A} {kept : A → B} {rows_of : A → List Row} {c d : Cursor} {before after : Rows} {r : Option B} → ((s : List ℕ) → f s ≡ g s)
     → Filled f kept rows_of c d before after r → Filled g kept rows_of c d before after r

@@ -11,3 +11,4 @@ pub mod MarkedFillingInner
 pub mod MarkedFillingLaws
 pub mod MarkedSeriesFillingLaws
 pub mod MarkedPassagesLaws
+pub mod MarkedFilledLaws

@@ -1,5 +1,5 @@
 -- Definitions for a reading that keeps a mark and fills rows: what it leaves in the lent rows, "and again to fill the rows".
--- They stand for whoever reads so; the reader itself goes by `Filled`.
+-- They stand for whoever reads so; the reader itself goes by `Filled`; MarkedFilledLaws leads from what its contracts say to these.
 use Rattle.std.specs.Prelude.{◌≡◌, ℕ, ◌+◌, ◌*◌, ◌≤◌, length, drop, Option, Some}
 use mathlib.Core.List.{List, flat_map}
 use Rattle.text.specs.WrittenInner.{written}

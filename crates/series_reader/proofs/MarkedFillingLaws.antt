@@ -1,5 +1,5 @@
 -- Laws about a reading that keeps a mark and fills rows: the parts of a file fill them one behind the other, and a part within another.
--- They stand for whoever reads so; the reader itself goes by `Filled`, and nothing above needs them.
+-- They stand for whoever reads so; the reader itself goes by `Filled`; MarkedFilledLaws leads from what its contracts say to these.
 use Rattle.std.specs.Prelude.{◌≡◌, Bool, true, false, ℕ, suc, ◌+◌, ◌-◌, ◌*◌, ◌/◌, ◌≤◌, ◌<◌, drop, set, Option, Some, None}
 use Rattle.std.proofs.Math.Path.{refl, sym, ap, subst}
 use Rattle.std.proofs.Common.{◌∙◌, length-set, add-one}

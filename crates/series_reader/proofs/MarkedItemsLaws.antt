@@ -1,5 +1,5 @@
 -- Laws about a reading that keeps a mark and of what it reads a part, one item after the other: the turns of a list give what its form gives.
--- They stand for whoever reads so; the reader itself goes by `Reads`, `Filled` and `Turned`, and nothing above needs them.
+-- They stand for whoever reads so; the reader itself goes by `Reads`, `Filled` and `Turned`; MarkedFilledLaws leads from what its contracts say to these.
 use Rattle.std.specs.Prelude.{◌≡◌, Bool, ℕ, ◌+◌, ◌-◌, ◌≤◌, ◌<◌, length, drop, Option, Some, None}
 use Rattle.std.proofs.Math.Path.{refl, ap}
 use Rattle.std.proofs.Common.{sym, ◌∙◌, length-append, length-drop, arith}

@@ -1,5 +1,5 @@
 -- Definitions for a reading that keeps a mark, a place that may be missing: an observation in its order, observations that were passed, a time series and its outline.
--- They stand for whoever reads so; the reader itself goes by `Reads` and `Filled`.
+-- They stand for whoever reads so; the reader itself goes by `Reads` and `Filled`; MarkedFilledLaws leads from what its contracts say to these.
 use Rattle.std.specs.Prelude.{Bool, ◌&&◌, List, [], ◌∷◌, ℕ, leb, length, Option}
 use Rattle.formats.specs.Format.{Res}
 use Rattle.formats.proofs.RunLaws.{Ran}

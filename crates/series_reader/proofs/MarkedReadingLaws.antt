@@ -1,5 +1,5 @@
 -- Laws about a reading that keeps a mark, a place that may be missing: from a file's tags and numbers up to a series, the parts that end at a mark are the form that ends there.
--- They stand for whoever reads so; the reader itself goes by `Reads` and `Filled`, and nothing above needs them.
+-- They stand for whoever reads so; the reader itself goes by `Reads` and `Filled`; MarkedFilledLaws leads from what its contracts say to these.
 use Rattle.std.specs.Prelude.{◌≡◌, Bool, true, false, ◌&&◌, ℕ, ◌+◌, ◌-◌, ◌*◌, ◌≤◌, ◌<◌, leb, take, Option, Some, None}
 use Rattle.std.proofs.Math.Path.{refl, ap, subst}
 use Rattle.std.proofs.Common.{sym, ◌∙◌, length-drop, take_all, add-one, arith}

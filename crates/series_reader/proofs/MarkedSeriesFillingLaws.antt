@@ -1,5 +1,5 @@
 -- Laws about a reading that keeps a mark and fills rows: observations and series, each behind the other, fill them in turn.
--- They stand for whoever reads so; the reader itself goes by `Filled`, and nothing above needs them.
+-- They stand for whoever reads so; the reader itself goes by `Filled`; MarkedFilledLaws leads from what its contracts say to these.
 use Rattle.std.specs.Prelude.{◌≡◌, refl, ℕ, suc, ◌+◌, ◌-◌, ◌*◌, ◌≤◌, ◌<◌, leb, length, drop, Option, Some}
 use Rattle.std.proofs.Common.{sym, ◌∙◌, add-one, arith}
 use Rattle.std.proofs.Math.Path.{ap, subst}

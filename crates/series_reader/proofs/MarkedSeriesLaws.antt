@@ -1,5 +1,5 @@
 -- Laws about a reading of a partner's series that keeps a mark: one behind the other they are the list, and their rows are no more than their bytes.
--- They stand for whoever reads so; the reader itself goes by `Reads` and `Filled`, and nothing above needs them.
+-- They stand for whoever reads so; the reader itself goes by `Reads` and `Filled`; MarkedFilledLaws leads from what its contracts say to these.
 use Rattle.std.specs.Prelude.{◌≡◌, Bool, true, false, ◌&&◌, ℕ, suc, ◌+◌, ◌-◌, ◌≤◌, ◌<◌, leb, length, drop, Option, Some, None}
 use Rattle.std.proofs.Math.Path.{refl, ap}
 use Rattle.std.proofs.Common.{sym, ◌∙◌, subst, add-one, arith}

@@ -65,11 +65,13 @@ rows-counted (r ∷ rows) h small =
     let n : (h.1 + 1) % 2 ^ 64 ≡ h.1 + 1 = omega arith in
     omega (arith, rows-counted rows (with_row r h) (omega arith), n)
 
--- ---- a row, by the code's copy
+-- ---- a direction, as a row has it
 
-bit_told : (b : Bool) → bool_byte b ≡ bit b
+pub bit_told : (b : Bool) → bool_byte b ≡ bit b
 bit_told true = refl
 bit_told false = refl
+
+-- ---- a row, by the code's copy
 
 no-room : (k n : ℕ) → n ≤ k → ltb k n ≡ false
 no-room k n h = grind (arith, nat_tests)
@@ -82,16 +84,12 @@ added-none k o a b full name numbers count =
       row = rw (no-room a.count (length a.numbers.now / 6) full) (λ i. (numbers i, count i));
     }
 
-pub added-row : (k : Key) (o : ReadObservation) (a b : Rows) (x y : ℕ) (row : List ℕ) → a.count < length a.numbers.now / 6 → x ≡ bool_byte k.injection → y ≡ bool_byte k.down
-    → row ≡ k.partner ∷ x ∷ y ∷ o.position ∷ o.watts ∷ 0 ∷ []
+pub added-row : (k : Key) (o : ReadObservation) (a b : Rows) (row : List ℕ) → a.count < length a.numbers.now / 6 → row ≡ k.partner ∷ k.supply ∷ k.delivery ∷ o.position ∷ o.watts ∷ 0 ∷ []
     → b.numbers.ghost_name ≡ a.numbers.ghost_name → b.numbers.now ≡ put_mid (a.count * 6) (a.count * 6 + 6 - a.count * 6) a.numbers.now row → b.count ≡ (a.count + 1) % 2 ^ 64 → Pushed k o a b
 unfolding with_row row_numbers
-added-row k o a b x y row room injection down is name numbers count =
-    let six : List ℕ = k.partner ∷ bit k.injection ∷ bit k.down ∷ o.position ∷ o.watts ∷ 0 ∷ [] in
-    let e : x ≡ bit k.injection = injection ∙ bit_told k.injection in
-    let f : y ≡ bit k.down = down ∙ bit_told k.down in
-    let told : row ≡ six = is ∙ (λ i. k.partner ∷ e i ∷ f i ∷ o.position ∷ o.watts ∷ 0 ∷ []) in
-    let all : b.numbers.now ≡ written a.numbers.now (a.count * 6) six = numbers ∙ written-copied a.numbers.now six row (a.count * 6) (a.count * 6 + 6 - a.count * 6) (omega arith) told in
+added-row k o a b row room is name numbers count =
+    let six : List ℕ = k.partner ∷ k.supply ∷ k.delivery ∷ o.position ∷ o.watts ∷ 0 ∷ [] in
+    let all : b.numbers.now ≡ written a.numbers.now (a.count * 6) six = numbers ∙ written-copied a.numbers.now six row (a.count * 6) (a.count * 6 + 6 - a.count * 6) (omega arith) is in
     record {
       lent = record { same = name; long = ap length all ∙ length-written a.numbers.now (a.count * 6) six (omega arith) };
       row = rw (lt-ltb a.count (length a.numbers.now / 6) room) (λ i. (all i, count i));

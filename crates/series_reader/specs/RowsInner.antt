@@ -8,12 +8,12 @@ use Rattle.cursor.specs.ReadsInner.{Reads}
 use Rattle.message.specs.Contents.{Observation, TimeSeries, Partner}
 use Rattle.message.specs.Rows.{Row, row_numbers}
 use Rattle.passages.specs.declared.ReadObservation.{ReadObservation}
-use Rattle.passages.specs.ViewsInner.{bit, observation_of}
+use Rattle.passages.specs.ViewsInner.{observation_of}
 use Rattle.series_reader.specs.declared.rows.Key.{Key}
 use Rattle.series_reader.specs.declared.rows.Rows.{Rows}
 
 abbrev pub directions : Key → ℕ × ℕ
-directions k = (bit k.injection, bit k.down)
+directions k = (k.supply, k.delivery)
 
 -- ---- the rows of an observation, a series and a partner
 

@@ -1,5 +1,5 @@
 // A time series, from its observations up.
-ghost use Rattle.std.specs.Prelude.{◌≡◌, option_map, suc};
+ghost use Rattle.std.specs.Prelude.{◌≡◌, option_map, suc, IfNone};
 ghost use Rattle.formats.specs.Words.{words_parse};
 ghost use Rattle.cursor.specs.ReadsInner.{Reads};
 ghost use Rattle.message.specs.Bytes.{deliveries};
@@ -25,15 +25,18 @@ fn observation(c: &mut Cursor, rows: &mut Rows, key: Key, last: u64, behind: u64
     Some(o.position)
 }
 
-// So many observations of a month.
+// So many observations of a month, read by a copy of the cursor: where they aren't there, the cursor stays.
 pub fn observations(c: &mut Cursor, rows: &mut Rows, key: Key, last: u64, count: u64) -> Option<()>
-    ensures { Filled (observations_parse last count) (λ l. tt) (rows_of_observations key.partner (directions key)) c.old c.new rows.old rows.new result }
+    ensures filled { Filled (observations_parse last count) (λ l. tt) (rows_of_observations key.partner (directions key)) c.old c.new rows.old rows.new result }
+    ensures stays { IfNone result (c.new ≡ c.old) }
 {
+    let mut d = *c;
     // (0 is before the first position and is none itself.)
     let mut behind = 0;
     for _i in 0..count {
-        behind = observation(c, rows, key, last, behind)?;
+        behind = observation(&mut d, rows, key, last, behind)?;
     }
+    *c = d;
     Some(())
 }
 
@@ -52,29 +55,27 @@ fn delivery(c: &mut Cursor) -> Option<bool>
     passages::second_word(c, b"DeliveryUp", b"DeliveryDown")
 }
 
-// A time series from its delivery direction on; its rows are stored.
+// A time series from its delivery direction on, of any supply direction's number; its rows are stored.
 #[tactic(auto, unfolding(text::specs::Ascii::bytes, message::specs::Bytes::opening, message::specs::Bytes::ending, message::specs::Bytes::closing, message::specs::Reading::volume_parse, message::specs::Reading::counted_parse, message::specs::Reading::plain_parse, formats::specs::Combine::map_parse, formats::specs::Combine::pre_parse, formats::specs::Combine::post_parse, formats::specs::Combine::seq_parse))]
-pub fn volume(
-    c: &mut Cursor,
-    rows: &mut Rows,
-    partner: u64,
-    injection: bool,
-) -> Option<DeliverySeries>
-    ensures { Filled volume_parse volume_kept (λ v. rows_of_series partner (of_volume (bit injection) v)) c.old c.new rows.old rows.new (option_map volume_told result) }
+pub fn volume(c: &mut Cursor, rows: &mut Rows, partner: u64, supply: u64) -> Option<DeliverySeries>
+    ensures filled { Filled volume_parse volume_kept (λ v. rows_of_series partner (of_volume supply v)) c.old c.new rows.old rows.new (option_map volume_told result) }
+    ensures stays { IfNone result (c.new ≡ c.old) }
 {
-    c.tag(b"<DeliveryDirection>")?;
-    let down = delivery(c)?;
-    c.tag(b"</DeliveryDirection><UnitType>KWT</UnitType><ObservationCounter>")?;
-    let count = c.counter()?;
-    c.tag(b"/ObservationCounter><TimeSeriesPeriod>")?;
-    let month = passages::period(c)?;
+    let mut d = *c;
+    d.tag(b"<DeliveryDirection>")?;
+    let down = delivery(&mut d)?;
+    d.tag(b"</DeliveryDirection><UnitType>KWT</UnitType><ObservationCounter>")?;
+    let count = d.counter()?;
+    d.tag(b"/ObservationCounter><TimeSeriesPeriod>")?;
+    let month = passages::period(&mut d)?;
     let last = message::last_position(month.year, month.month);
     let key = Key {
         partner,
-        injection,
-        down,
+        supply,
+        delivery: u64::from(down),
     };
-    observations(c, rows, key, last, count)?;
-    c.tag(b"</TimeSeriesPeriod>")?;
+    observations(&mut d, rows, key, last, count)?;
+    d.tag(b"</TimeSeriesPeriod>")?;
+    *c = d;
     Some(DeliverySeries { down, month })
 }

@@ -3,13 +3,13 @@ ghost use Rattle.series_reader.specs.RowsInner.{Pushed};
 
 use passages::ReadObservation;
 
-// What the rows of a series say beside its observations. A direction is a bool, here and in what is read of a series: a file has two words for each,
-// and `book`'s enums are the book's, of which the file's crates know nothing. A row holds 0 or 1, which a bool gives by `From`.
+// What the rows of a series say beside its observations: any numbers, as rows hold them. In what is read of a series a direction is a bool: a file has
+// two words for each, and `book`'s enums are the book's, of which the file's crates know nothing. Its row holds 0 or 1, which a bool gives by `From`.
 #[derive(Clone, Copy, Debug, PartialEq, Eq)]
 pub struct Key {
     pub partner: u64,
-    pub injection: bool,
-    pub down: bool,
+    pub supply: u64,
+    pub delivery: u64,
 }
 
 // The lent numbers, and how many rows were read; those that the numbers have no room for are counted too.
@@ -32,8 +32,8 @@ impl<'a> Rows<'a> {
             let numbers = &mut *self.numbers;
             let row = [
                 key.partner,
-                u64::from(key.injection),
-                u64::from(key.down),
+                key.supply,
+                key.delivery,
                 o.position,
                 o.watts,
                 0,

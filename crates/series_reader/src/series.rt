@@ -1,5 +1,5 @@
 // The series of a partner.
-ghost use Rattle.std.specs.Prelude.{◌≡◌, ◌+◌, ◌*◌, option_map, leb};
+ghost use Rattle.std.specs.Prelude.{◌≡◌, ◌+◌, ◌*◌, option_map, leb, IfNone};
 ghost use Rattle.formats.specs.Words.{words_parse};
 ghost use Rattle.cursor.specs.ReadsInner.{Reads};
 ghost use Rattle.message.specs.Bytes.{supplies};
@@ -33,7 +33,8 @@ impl SeriesOutline {
 // A supply direction.
 #[tactic(auto, unfolding(text::specs::Ascii::bytes, message::specs::Bytes::supplies))]
 pub fn supply(c: &mut Cursor) -> Option<bool>
-    ensures { Reads (words_parse supplies) c.old c.new (option_map bit result) }
+    ensures reads { Reads (words_parse supplies) c.old c.new (option_map bit result) }
+    ensures stays { IfNone result (c.new ≡ c.old) }
 {
     passages::second_word(c, b"Off-take", b"Injection")
 }
@@ -41,13 +42,16 @@ pub fn supply(c: &mut Cursor) -> Option<bool>
 // A series with its own supply direction (TOE01, TOE02).
 #[tactic(auto, unfolding(text::specs::Ascii::bytes, message::specs::Bytes::opening, message::specs::Bytes::ending, message::specs::Bytes::closing, message::specs::Reading::own_series_parse, formats::specs::Combine::map_parse, formats::specs::Combine::pre_parse, formats::specs::Combine::post_parse, formats::specs::Combine::seq_parse))]
 fn own_series(c: &mut Cursor, rows: &mut Rows, partner: u64) -> Option<SeriesOutline>
-    ensures { Filled own_series_parse series_outline (rows_of_series partner) c.old c.new rows.old rows.new (option_map outline_of result) }
+    ensures filled { Filled own_series_parse series_outline (rows_of_series partner) c.old c.new rows.old rows.new (option_map outline_of result) }
+    ensures stays { IfNone result (c.new ≡ c.old) }
 {
-    c.tag(b"<ToETimeSeries><SupplyDirection>")?;
-    let injection = supply(c)?;
-    c.tag(b"</SupplyDirection>")?;
-    let v = crate::elements::volume(c, rows, partner, injection)?;
-    c.tag(b"</ToETimeSeries>")?;
+    let mut d = *c;
+    d.tag(b"<ToETimeSeries><SupplyDirection>")?;
+    let injection = supply(&mut d)?;
+    d.tag(b"</SupplyDirection>")?;
+    let v = crate::elements::volume(&mut d, rows, partner, u64::from(injection))?;
+    d.tag(b"</ToETimeSeries>")?;
+    *c = d;
     Some(SeriesOutline {
         injection,
         down: v.down,
@@ -63,11 +67,14 @@ fn shared_series(
     partner: u64,
     injection: bool,
 ) -> Option<SeriesOutline>
-    ensures { Filled (shared_series_parse (bit injection)) series_outline (rows_of_series partner) c.old c.new rows.old rows.new (option_map outline_of result) }
+    ensures filled { Filled (shared_series_parse (bit injection)) series_outline (rows_of_series partner) c.old c.new rows.old rows.new (option_map outline_of result) }
+    ensures stays { IfNone result (c.new ≡ c.old) }
 {
-    c.tag(b"<ToETimeSeries>")?;
-    let v = crate::elements::volume(c, rows, partner, injection)?;
-    c.tag(b"</ToETimeSeries>")?;
+    let mut d = *c;
+    d.tag(b"<ToETimeSeries>")?;
+    let v = crate::elements::volume(&mut d, rows, partner, u64::from(injection))?;
+    d.tag(b"</ToETimeSeries>")?;
+    *c = d;
     Some(SeriesOutline {
         injection,
         down: v.down,
@@ -78,13 +85,14 @@ fn shared_series(
 // A series of a partner, which may have one supply direction for all of them.
 // (Two forms in the definitions, `own_series_parse` and `shared_series_parse`. One function, the tag before a match on `shared`, was tried:
 // the search closed none of its five ends, each of which is of both forms.)
-fn series(
+pub fn series(
     c: &mut Cursor,
     rows: &mut Rows,
     partner: u64,
     shared: Option<bool>,
 ) -> Option<SeriesOutline>
-    ensures { Filled (series_parse (option_map bit shared)) series_outline (rows_of_series partner) c.old c.new rows.old rows.new (option_map outline_of result) }
+    ensures filled { Filled (series_parse (option_map bit shared)) series_outline (rows_of_series partner) c.old c.new rows.old rows.new (option_map outline_of result) }
+    ensures stays { IfNone result (c.new ≡ c.old) }
 {
     match shared {
         Some(injection) => shared_series(c, rows, partner, injection),
@@ -99,14 +107,12 @@ pub fn rises(behind: Option<u64>, key: u64) -> bool
     behind.is_none_or(|k| k < key)
 }
 
-// Whether a month may stand behind the one that was seen. (By `is_none_or` the proof didn't close with the closure's own contract, and a clause on the closure is no plainer.)
-fn follows(seen: Option<Month>, month: Month) -> bool
-    ensures { result ≡ follows (month_seen seen) (year_and_month month) }
+// Whether a month may stand behind the one that was seen, of which year 0 is none.
+#[tactic(auto, unfolding(message::specs::Months::follows))]
+fn follows(seen: (u64, u64), month: Month) -> bool
+    ensures { result ≡ follows seen (year_and_month month) }
 {
-    match seen {
-        Some(m) => month == m,
-        None => true,
-    }
+    seen.0 == 0 || (month.year == seen.0 && month.month == seen.1)
 }
 
 // The next series of a partner: behind a place, and of the month that was seen.
@@ -116,9 +122,9 @@ fn next_series(
     partner: u64,
     shared: Option<bool>,
     behind: Option<u64>,
-    seen: Option<Month>,
+    seen: (u64, u64),
 ) -> Option<SeriesOutline>
-    ensures { Filled (next_series (option_map bit shared) (low_of behind, month_seen seen)) series_outline (rows_of_series partner) c.old c.new rows.old rows.new (option_map outline_of result) }
+    ensures { Filled (next_series (option_map bit shared) (low_of behind, seen)) series_outline (rows_of_series partner) c.old c.new rows.old rows.new (option_map outline_of result) }
 {
     let s = series(c, rows, partner, shared)?;
     if !follows(seen, s.month) {
@@ -157,16 +163,43 @@ pub fn series_list(
     count: u64,
     before: Seen,
 ) -> Option<Seen>
-    ensures { Filled (series_list_parse (series_parse (option_map bit shared)) count (month_seen before.month)) (last_month (month_seen before.month)) (rows_of_all partner) c.old c.new rows.old rows.new (option_map (λ s. month_seen s.month) result) }
+    ensures filled { Filled (series_list_parse (series_parse (option_map bit shared)) count (month_seen before.month)) (last_month (month_seen before.month)) (rows_of_all partner) c.old c.new rows.old rows.new (option_map (λ s. month_seen s.month) result) }
+    ensures stays { IfNone result (c.new ≡ c.old) }
 {
+    let mut d = *c;
     let mut behind = None;
     let mut seen = before;
     for _i in 0..count {
-        let s = next_series(c, rows, partner, shared, behind, seen.month)?;
+        let s = next_series(&mut d, rows, partner, shared, behind, seen.numbers())?;
         behind = Some(s.place());
         seen = Seen {
             month: Some(s.month),
         };
     }
+    *c = d;
+    Some(seen)
+}
+
+// The same behind any two numbers for the month that was seen, of which year 0 is none.
+pub fn series_behind(
+    c: &mut Cursor,
+    rows: &mut Rows,
+    partner: u64,
+    shared: Option<bool>,
+    count: u64,
+    before: (u64, u64),
+) -> Option<(u64, u64)>
+    ensures filled { Filled (series_list_parse (series_parse (option_map bit shared)) count before) (last_month before) (rows_of_all partner) c.old c.new rows.old rows.new result }
+    ensures stays { IfNone result (c.new ≡ c.old) }
+{
+    let mut d = *c;
+    let mut behind = None;
+    let mut seen = before;
+    for _i in 0..count {
+        let s = next_series(&mut d, rows, partner, shared, behind, seen)?;
+        behind = Some(s.place());
+        seen = (s.month.year, s.month.month);
+    }
+    *c = d;
     Some(seen)
 }

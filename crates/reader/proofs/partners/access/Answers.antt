@@ -9,8 +9,8 @@ use Rattle.message.specs.Reading.{partner_parse, shared_partner_parse, counted_p
 use Rattle.series_reader.proofs.FillingLaws.{filled-got, got-filled}
 use Rattle.reader.proofs.partners.access.Goals as goal
 
-pub returns : goal.returns
+pub returns-clause-filled : goal.returns-clause-filled
 unfolding partner_parse shared_partner_parse counted_parse plain_parse fixed_parse group partner digits opening ending closing bytes
-returns c =
-    let g = filled-got c.in_ok-seen.ensures in
-    got-filled (reads-map _ (reads-pre _ c.in_ok-tag.ensures.reads (reads-seq _ (reads-post _ c.in_ok-number.ensures.reads c.in_ok-tag-2.ensures.reads) (reads-seq _ (reads-post _ c.in_ok-injection.ensures c.in_ok-tag-3.ensures.reads) (reads-seq _ (reads-post _ c.in_ok-count.ensures.reads c.in_ok-tag-4.ensures.reads) (reads-post _ g.read c.in_ok-tag-5.ensures.reads)))))) (ap (λ (m : ℕ × ℕ). (c.in_ok-number.number, m)) g.is) g.rows g.lent
+returns-clause-filled c =
+    let g = filled-got c.in_ok-seen.ensures.filled in
+    got-filled (reads-map _ (reads-pre _ c.in_ok-tag.ensures.reads (reads-seq _ (reads-post _ c.in_ok-number.ensures.reads c.in_ok-tag-2.ensures.reads) (reads-seq _ (reads-post _ c.in_ok-injection.ensures.reads c.in_ok-tag-3.ensures.reads) (reads-seq _ (reads-post _ c.in_ok-count.ensures.reads c.in_ok-tag-4.ensures.reads) (reads-post _ g.read c.in_ok-tag-5.ensures.reads)))))) (ap (λ (m : ℕ × ℕ). (c.in_ok-number.number, m)) g.is) g.rows g.lent

@@ -8,4 +8,4 @@ use Rattle.reader.proofs.partners.partners.Given as goal
 
 abbrev pub invariant-loop-i : goal.invariant-loop-i
 invariant-loop-i l =
-    Turned (next_partner l.kind) on rows_of_partner l.count l._i (0, (0, 0)) (low_of l.behind, month_seen l.seen.month) l.initial.c l.c l.initial.rows l.rows
+    Turned (next_partner l.kind) on rows_of_partner l.count l._i (0, (0, 0)) (low_of l.behind, month_seen l.seen.month) l.initial.d l.d l.initial.rows l.rows

@@ -9,4 +9,4 @@ use Rattle.series_reader.proofs.series.series_list.Given as goal
 
 abbrev pub invariant-loop-i : goal.invariant-loop-i
 invariant-loop-i l =
-    Turned (next_series (option_map bit l.shared)) on (rows_of_series l.partner) l.count l._i (0, month_seen l.fn.before.month) (low_of l.behind, month_seen l.seen.month) l.initial.c l.c l.initial.rows l.rows
+    Turned (next_series (option_map bit l.shared)) on (rows_of_series l.partner) l.count l._i (0, month_seen l.fn.before.month) (low_of l.behind, month_seen l.seen.month) l.initial.d l.d l.initial.rows l.rows

@@ -6,6 +6,6 @@ use Rattle.series_reader.proofs.rows.Rows.push.Goals.{then-self, else-self}
 
 pub returns : goal.returns
 returns c = elim c.if-self.branch [
-  | then-self w ↦ rw w.self-is (added-row c.args.key c.args.o c.args.self.now _ _ _ _ w.if-self.true w.from.ensures w.from-then-self.ensures w.copy_from_slice.ensures.after refl refl refl)
+  | then-self w ↦ rw w.self-is (added-row c.args.key c.args.o c.args.self.now _ _ w.if-self.true w.copy_from_slice.ensures.after refl refl refl)
   | else-self w ↦ rw w.self-is (added-none c.args.key c.args.o c.args.self.now _ w.if-self.false refl refl refl)
 ]

@@ -3,7 +3,7 @@ use Rattle.text.specs.Ascii.{bytes}
 use Rattle.cursor.proofs.ReadsLaws.{reads-pre, reads-seq, reads-post}
 use Rattle.message.specs.Bytes.{opening, ending, closing}
 use Rattle.message.specs.Reading.{position_parse, plain_parse}
-use Rattle.passages.proofs.any_observation.Goals as goal
+use Rattle.passages.proofs.position_and_watts.Goals as goal
 
 pub returns : goal.returns
 unfolding position_parse plain_parse opening ending closing bytes
