@@ -1,5 +1,5 @@
 -- Laws about bytes that are laid behind each other into a list, or only measured, with a mark for the place behind them: what has no room ends at no place.
--- They stand for whoever writes so; the writer itself goes by the trait `Sink` and its laws (Laying), and nothing above needs them.
+-- The parts go by the trait `Sink` and its laws (Laying); that its two sinks lay as is said here stands at the end.
 use Rattle.std.specs.Prelude.{◌≡◌, refl, Bool, true, false, cond, List, [], ◌++◌, ℕ, ◌+◌, ◌≤◌, ◌<◌, leb, length, drop, Option, Some, None}
 use Rattle.std.proofs.Common.{sym, ap, ◌∙◌, append_assoc, append-nil, length-append, arith, add_assoc, add-zero, zero-add, leb-true, leb-false, le-leb}
 use Rattle.std.proofs.lemmas.Bool.{lt-leb}
@@ -7,6 +7,10 @@ use Rattle.text.specs.WrittenInner.{written, Wrote}
 use Rattle.text.proofs.WrittenLaws.{written-nil, written_both, wrote-length}
 use Rattle.formats.proofs.MarksLaws.{no-at, same_at}
 use Rattle.refusals.specs.Buffers.{over}
+use Rattle.emitter.specs.declared.measure.Measure.{Measure}
+use Rattle.emitter.specs.declared.write.Write.{Write}
+use Rattle.emitter.specs.MeasuredInner.{Measured}
+use Rattle.emitter.specs.WrittenInner.{Written}
 
 -- the place n further on, in a list of that length
 unfoldable pub ahead : ℕ → Option ℕ → ℕ → Option ℕ
@@ -180,3 +184,28 @@ laid-no-room {d} {bs} {d'} v = record { short = go (leb (length bs) (length d)) 
     go : (b : Bool) → leb (length bs) (length d) ≡ b → length d < length bs
     go true e = absurd (no-at (0 + length bs) (v.behind ∙ ahead-fits (length d) 0 (length bs) (omega (arith, leb-true (length bs) (length d) e))))
     go false e = leb-false (length bs) (length d) e
+
+-- ---- the two sinks
+
+-- the place that a sink has come to, if there was room
+abbrev pub place : Option Unit → ℕ → Option ℕ
+place (Some u) n = Some n
+place None n = None
+
+-- what measures with a list's length as its room only measures
+pub measured-laid : (d : List ℕ) (a b : Measure) (bs : List ℕ) (r : Option Unit) → a.room ≡ length d → Measured a bs r b → Laid false d (Some a.laid) bs d (place r b.laid)
+measured-laid d a b bs (Some u) e v =
+    let fits : a.laid + length bs ≤ length d = omega (arith, v.0, v.1, b.within) in
+    laid-dry false d (Some a.laid) bs (Some b.laid) refl (ap Some v.0 ∙ sym (ahead-fits (length d) a.laid (length bs) fits))
+measured-laid d a b bs None e v = laid-full false d (Some a.laid) bs (ahead-over (length d) a.laid (length bs) (λ h. omega (arith, v.0)))
+
+-- what writes lays into its buffer
+pub written-laid : (a b : Write) (bs : List ℕ) (r : Option Unit) → Written a bs r b → Laid true a.out.now (Some a.at) bs b.out.now (place r b.at)
+written-laid a b bs (Some u) v = laid-live true a.out.now (Some a.at) a.at bs b.out.now b.at refl refl v.1
+written-laid a b bs None v =
+    record {
+      keeps = v.0.long;
+      behind = sym (ahead-over (length a.out.now) a.at (length bs) (λ h. omega (arith, v.1)));
+      dry = λ f. absurd (true-false true refl f);
+      wrote = λ f p q g h. absurd (no-at q h);
+    }

@@ -83,6 +83,7 @@ fn word(which: u64, first: &'static [u8], second: &'static [u8]) -> &'static [u8
 }
 
 // <name>. With `close` two of one shape: one function of both would take the sign at each of its calls.
+#[inline(always)]
 fn open<S: Sink>(sink: &mut S, name: &[u8]) -> Option<()>
     ensures { S.lays sink.old (open_tag name.now) result sink.new }
 {
@@ -92,6 +93,7 @@ fn open<S: Sink>(sink: &mut S, name: &[u8]) -> Option<()>
 }
 
 // </name>
+#[inline(always)]
 fn close<S: Sink>(sink: &mut S, name: &[u8]) -> Option<()>
     ensures { S.lays sink.old (close_tag name.now) result sink.new }
 {
@@ -101,6 +103,7 @@ fn close<S: Sink>(sink: &mut S, name: &[u8]) -> Option<()>
 }
 
 // An element of bytes.
+#[inline(always)]
 fn emit_element<S: Sink>(sink: &mut S, name: &[u8], content: &[u8]) -> Option<()>
     ensures { S.lays sink.old (element_of name.now content.now) result sink.new }
 {
@@ -111,6 +114,7 @@ fn emit_element<S: Sink>(sink: &mut S, name: &[u8], content: &[u8]) -> Option<()
 
 // An element of a number's last n digits.
 // A closure for what stands between the tags would be no plainer: its clause would speak of three states, and this is one call apart from the above.
+#[inline(always)]
 fn emit_fixed<S: Sink>(sink: &mut S, name: &[u8], n: usize, v: u64) -> Option<()>
     ensures { S.lays sink.old (element_of name.now (fixed n v)) result sink.new }
 {
@@ -120,6 +124,7 @@ fn emit_fixed<S: Sink>(sink: &mut S, name: &[u8], n: usize, v: u64) -> Option<()
 }
 
 // An element of a number without leading zeros.
+#[inline(always)]
 fn emit_plain<S: Sink>(sink: &mut S, name: &[u8], v: u64) -> Option<()>
     ensures { S.lays sink.old (element_of name.now (plain v)) result sink.new }
 {

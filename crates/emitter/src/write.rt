@@ -27,6 +27,7 @@ impl Sink for Write<'_> {
 
     ghost laws = { write-laws };
 
+    #[inline(always)]
     fn lay(&mut self, bytes: &[u8]) -> Option<()> {
         let out = &mut *self.out;
         if out.len() - self.at < bytes.len() {

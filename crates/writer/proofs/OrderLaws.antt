@@ -1,6 +1,6 @@
--- Rows in order are those of groups in order, and within each group of its rows.
+-- Rows in order are those of groups in order, and within each group of its rows; judged in one go they are judged each by itself and by the one before it.
 use Rattle.std.specs.Prelude.{◌≡◌, Bool, cond, ◌&&◌, ℕ, zero, suc, ◌+◌, ◌≤◌, ◌<◌, leb, ltb, length, get_or}
-use Rattle.std.specs.List.{IsAllAdjacentAnswer}
+use Rattle.std.specs.List.{list_all, IsAllAdjacentAnswer}
 use Rattle.std.proofs.Math.Path.{refl, ap}
 use Rattle.std.proofs.Common.{◌∙◌, sym, ap₂, arith}
 use Rattle.std.proofs.Math.Bool.{true, false, and_assoc, and-true, and-false}
@@ -167,3 +167,32 @@ module _ {A : Type 0} (e : A → A → Bool) where
   adjacent-ordered [] false h = absurd (omega (arith, h.1))
   adjacent-ordered (a ∷ l) true h = follow-all a l h
   adjacent-ordered (a ∷ l) false h = follow-fails a l h.0 h.1 h.2
+
+-- ---- in one go: the first by itself, then each behind it by itself and by the one before it
+
+one_more : (g h x f L F : Bool) → (h && f) ≡ ((h && L) && F) → (g && ((h && x) && f)) ≡ ((g && (h && L)) && (x && F))
+one_more false h x f L F i = refl
+one_more true false x f L F i = refl
+one_more true true true f L F i = i
+one_more true true false f L F i = sym (and-false L)
+
+module _ {A : Type 0} (good : A → Bool) (e : A → A → Bool) where
+  -- good, and behind the one before it
+  abbrev behind : A → A → Bool
+  behind a b = good b && e a b
+
+  follow-good : (a : A) (l : List A) → (good a && follow behind a l) ≡ ((good a && list_all good l) && follow e a l)
+  unfolding follow
+  follow-good a [] = sym (and-true (good a && true))
+  follow-good a (b ∷ l) = one_more (good a) (good b) (e a b) (follow behind b l) (list_all good l) (follow e b l) (follow-good b l)
+
+  ordered-good : (d : A) (l : List A) → 1 ≤ length l → (good (get_or l 0 d) && ordered behind l) ≡ (list_all good l && ordered e l)
+  unfolding ordered
+  ordered-good d [] h = absurd (omega arith)
+  ordered-good d (a ∷ l) h = follow-good a l
+
+  pub first-bad : (d : A) (l : List A) → 1 ≤ length l → false ≡ good (get_or l 0 d) → false ≡ (list_all good l && ordered e l)
+  first-bad d l h f = ap (λ (b : Bool). b && ordered behind l) f ∙ ordered-good d l h
+
+  pub first-good : (d : A) (l : List A) (r : Bool) → 1 ≤ length l → true ≡ good (get_or l 0 d) → r ≡ ordered behind l → r ≡ (list_all good l && ordered e l)
+  first-good d l r h f g = g ∙ ap (λ (b : Bool). b && ordered behind l) f ∙ ordered-good d l h

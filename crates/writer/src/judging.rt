@@ -1,5 +1,5 @@
 // Whether rows are those of a file.
-ghost use Rattle.std.specs.Prelude.{◌≡◌, ◌&&◌, map, ◌^◌};
+ghost use Rattle.std.specs.Prelude.{◌≡◌, ◌&&◌, map, ◌^◌, ◌≤◌, length};
 ghost use Rattle.std.specs.List.{list_all};
 ghost use Rattle.message.specs.Bytes.{digits};
 ghost use Rattle.writer.specs.Order.{ordered};
@@ -7,7 +7,6 @@ ghost use Rattle.writer.specs.Rows.{one_supply, is_rows};
 ghost use Rattle.writer.specs.RowsInner.{row_in, is_six, row_earlier};
 
 use crate::FileRow;
-use emitter::parts::digits;
 use kinds::Kind;
 
 // One more than the greatest number of a partner.
@@ -15,7 +14,10 @@ use kinds::Kind;
 fn number_limit(kind: Kind) -> u64
     ensures { result ≡ 10 ^ digits kind }
 {
-    10u64.pow(digits(kind) as u32)
+    match kind {
+        Kind::Toe01 | Kind::Toe02 => 10000000000,
+        Kind::Toe03 => 1000000000000000000,
+    }
 }
 
 // Whether a partner may have series of both supply directions.
@@ -59,18 +61,22 @@ fn row_before(kind: Kind, row: &FileRow, next: &FileRow) -> bool
     directions < later && one_supply(kind, row[1], next[1])
 }
 
-// Whether each is a row.
-fn all_rows(kind: Kind, last: u64, rows: &[FileRow]) -> bool
-    ensures { result ≡ list_all (is_six kind last) rows.now }
+// Whether the next is a row, and may stand behind this one.
+fn goes_on(kind: Kind, last: u64, row: &FileRow, next: &FileRow) -> bool
+    ensures { result ≡ (is_six kind last next.now && row_earlier kind (row_in row.now) (row_in next.now)) }
 {
-    rows.iter().all(|row| is_row(kind, last, row))
+    is_row(kind, last, next) && row_before(kind, row, next)
 }
 
-// Whether each may stand before the next.
-fn in_order(kind: Kind, rows: &[FileRow]) -> bool
-    ensures { result ≡ ordered (row_earlier kind) (map row_in rows.now) }
+// Whether each is a row, and each may stand before the next; at least one. It goes over them once, up to the first that isn't or may not.
+fn in_rows(kind: Kind, last: u64, rows: &[FileRow]) -> bool
+    requires { 1 ≤ length rows.now }
+    ensures { result ≡ (list_all (is_six kind last) rows.now && ordered (row_earlier kind) (map row_in rows.now)) }
 {
-    rows.is_sorted_by(|row, next| row_before(kind, row, next))
+    if !is_row(kind, last, &rows[0]) {
+        return false;
+    }
+    rows.is_sorted_by(|row, next| goes_on(kind, last, row, next))
 }
 
 // Whether rows are those of a file of that kind, receiver, year and month.
@@ -90,5 +96,5 @@ pub fn judge_rows(kind: Kind, receiver: u64, year: u64, month: u64, numbers: &[u
     if !message::is_period(year, month) {
         return false;
     }
-    all_rows(kind, message::last_position(year, month), rows) & in_order(kind, rows)
+    in_rows(kind, message::last_position(year, month), rows)
 }

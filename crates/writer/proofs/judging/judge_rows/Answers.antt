@@ -24,4 +24,4 @@ returns c =
     let a = c.args in
     let some : 1 ≤ length c.as_chunks.result.0.now = grind (arith, common_steps) in
     let is = rows-some a.kind a.receiver a.year a.month a.numbers.now c.as_chunks.ensures.front some (omega arith) (grind (arith, common_steps)) in
-    sym (is ∙ rw (sym c.is_period.ensures ∙ c.if-not-is_period.false, ← c.last_position.ensures, ← c.all_rows.ensures, ← c.in_order.ensures))
+    sym (is ∙ rw (sym c.is_period.ensures ∙ c.if-not-is_period.false, ← c.last_position.ensures, ← c.in_rows.ensures))
