@@ -1,10 +1,13 @@
--- One day more, and one start more.
-use Rattle.std.specs.Prelude.{◌≡◌, refl, ℕ, suc, ◌+◌, ◌*◌, ◌%◌, ◌≤◌, ◌<◌, length, take, get_or, set}
-use Rattle.std.proofs.Common.{sym, ap, ◌∙◌, mul-le-mul, arith, take-suc, take-suc-set}
-use mathlib.Core.List.{List, [], ◌∷◌, ◌++◌, map, map-append}
+-- One day more, and one start more; a reading that is missing of the first days is missing of all.
+use Rattle.std.specs.Prelude.{◌≡◌, refl, Bool, false, ◌&&◌, ℕ, suc, ◌+◌, ◌*◌, ◌%◌, ◌≤◌, ◌<◌, length, take, drop, get_or, set}
+use Rattle.std.proofs.Common.{sym, ap, ◌∙◌, mul-le-mul, arith, take-suc, take-suc-set, take-append-drop}
+use mathlib.Core.List.{List, [], ◌∷◌, ◌++◌, map, map-append, flat_map}
+use Rattle.integers.proofs.ListsLaws.{flat_map-append}
+use Rattle.volumes.specs.Baseline.{complete}
+use Rattle.volumes.proofs.BaselineLaws.{complete-append}
 use Rattle.quarters.specs.declared.Calendar.{Calendar}
 use Rattle.quarters.specs.Quarters.{day_start}
-use Rattle.baseline.specs.RunsInner.{days_in}
+use Rattle.baseline.specs.RunsInner.{days_in, start_run, start_runs}
 
 pub days-one-more : (keys : List ℕ) (j : ℕ) → j < length keys → days_in (take (j + 1) keys) ≡ days_in (take j keys) ++ ((get_or keys j 0 % 64) ∷ [])
 days-one-more keys j h =
@@ -27,3 +30,13 @@ starts_more c keys starts j h k e =
 
 pub product-few : (j n : ℕ) → j ≤ 10 → n ≤ 12 → j * n ≤ 120
 product-few j n h k = mul-le-mul {n₁ = j} {m₁ = n} {n₂ = 10} {m₂ = 12} h k
+
+-- readings that are not all there of the first j days are not all there
+pub runs-missed : (readings starts : List ℕ) (place back n j : ℕ) → complete (start_runs readings place back n (take j starts)) ≡ false → complete (start_runs readings place back n starts) ≡ false
+runs-missed readings starts place back n j h =
+    let run = start_run readings place back n in
+    let rest = flat_map run (drop j starts) in
+    ap (λ (l : List ℕ). complete (flat_map run l)) (sym (take-append-drop j starts))
+    ∙ ap complete (flat_map-append run (take j starts) (drop j starts))
+    ∙ complete-append (flat_map run (take j starts)) rest
+    ∙ ap (λ (b : Bool). b && complete rest) h

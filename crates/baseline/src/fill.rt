@@ -11,6 +11,7 @@ ghost use Rattle.wire.specs.ReadingsInner.{raise};
 
 use crate::case::Case;
 use crate::judge::looks_back;
+use crate::ranking::Ranking;
 use crate::shown::Shown;
 use crate::taken::Taken;
 
@@ -32,7 +33,8 @@ impl<'a> Case<'a> {
         requires { Accepts self.now.shown self.now.calendar.now self.now.readings.now × (looks_back self.now.shown.point.method ≡ true) × (length levels.old ≡ self.now.shown.e.count) }
         ensures { Levels self.now.shown self.now.calendar.now self.now.readings.now levels.new }
     {
-        let mut ranking = self.rank_days();
+        let mut ranking = Ranking::new();
+        self.rank_days(&mut ranking);
         let starts = &mut ranking.keys[..self.shown.x];
         crate::taken::start_days(self.shown.c, starts);
         let taken = Taken {

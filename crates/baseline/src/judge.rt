@@ -9,6 +9,7 @@ ghost use Rattle.baseline.specs.CaseInner.{CaseOf};
 ghost use Rattle.baseline.specs.NeedsInner.{needed_in, looks_back, number_of};
 
 use crate::case::Case;
+use crate::ranking::Ranking;
 use book::Method;
 
 // What an engagement lacks: a reading, or reference days.
@@ -71,7 +72,9 @@ impl<'a> Case<'a> {
         if !looks_back(self.shown.point.method) {
             return false;
         }
-        self.rank_days().found < self.shown.y
+        let mut ranking = Ranking::new();
+        self.rank_days(&mut ranking);
+        ranking.found < self.shown.y
     }
 
     // What the engagement lacks: 8 before 9.

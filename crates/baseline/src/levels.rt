@@ -40,7 +40,8 @@ impl<'a> Taken<'a> {
         requires { Lie self.now.readings.now self.now.starts.now place 0 1 }
         ensures { Means (start_runs self.now.readings.now place 0 1 self.now.starts.now) (length self.now.starts.now) result }
     {
-        Grains::mean(self.sum(place, 0, 1), self.starts.len() as u64).count
+        let sum = self.sum(place, 0, 1).unwrap_or(0);
+        Grains::mean(sum, self.starts.len() as u64).count
     }
 
     // The addend of method 2 and two raises: the mean of the window before quarter-hour q less that of the days' windows, which are from 24 before their quarter-hour `place`.
@@ -50,7 +51,8 @@ impl<'a> Taken<'a> {
     {
         let own = crate::days::window(self.readings, q).unwrap_or(0);
         let mean = Grains::mean(own, 12).count;
-        let less = Grains::mean(self.sum(place, 24, 12), 12 * (self.starts.len() as u64)).count;
+        let days = self.sum(place, 24, 12).unwrap_or(0);
+        let less = Grains::mean(days, 12 * (self.starts.len() as u64)).count;
         mean + raises(2) - less
     }
 

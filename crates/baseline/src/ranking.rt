@@ -28,6 +28,18 @@ pub struct Ranking {
 }
 
 impl Ranking {
+    // None is ranked yet.
+    #[inline]
+    pub fn new() -> Ranking
+        ensures found { result.found ≡ 0 }
+        ensures room { length result.keys ≡ 20 }
+    {
+        Ranking {
+            keys: [0; 20],
+            found: 0,
+        }
+    }
+
     // Puts one more key into its place.
     fn put(&mut self, key: u64)
         requires { self.old.found < 20 }
@@ -43,26 +55,23 @@ impl Ranking {
 
 impl<'a> Case<'a> {
     // Ranks the Y latest eligible days before the engagement's. A day's sum and the day are one number, so that among equal sums the later day's is the greater, and
-    // days are put in order as numbers are.
+    // days are put in order as numbers are. The ranking is lent: given back by value its keys would be copied, for which the library would need `memcpy` from outside.
     #[tactic(auto, using(crate::proofs::JudgedLaws::ranks_judged))]
-    pub fn rank_days(&self) -> Ranking
-        ensures few { result.found ≤ self.now.shown.y }
-        ensures room { length result.keys ≡ 20 }
-        ensures ranked { (b : Book) → CaseOf self.now b → RankedTo b self.now.shown.e self.now.shown.y (take result.found result.keys) }
+    pub fn rank_days(&self, ranking: &mut Ranking)
+        requires { length ranking.old.keys ≡ 20 }
+        ensures few { ranking.new.found ≤ self.now.shown.y }
+        ensures room { length ranking.new.keys ≡ 20 }
+        ensures ranked { (b : Book) → CaseOf self.now b → RankedTo b self.now.shown.e self.now.shown.y (take ranking.new.found ranking.new.keys) }
     {
         let y = self.shown.y;
-        let mut ranking = Ranking {
-            keys: [0; 20],
-            found: 0,
-        };
+        ranking.found = 0;
         for day in (0..self.shown.e.day as usize).rev() {
             if ranking.found == y {
-                return ranking;
+                return;
             }
             if let Some(sum) = self.reference_day(day) {
                 ranking.put(sum * 64 + (day as u64));
             }
         }
-        ranking
     }
 }

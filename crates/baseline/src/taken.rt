@@ -24,21 +24,21 @@ pub struct Taken<'a> {
 }
 
 impl<'a> Taken<'a> {
-    ghost use Rattle.baseline.specs.TallyInner.{Summed};
+    ghost use Rattle.baseline.specs.TallyInner.{Tallied};
     ghost use Rattle.baseline.specs.RunsInner.{start_runs, Lie};
 
-    // The sum of n readings of each day, from `back` before its quarter-hour `place`. A day that misses one of them adds nothing: what a level is made of is all there.
+    // The sum of n readings of each day, from `back` before its quarter-hour `place`, where none of them is missing.
     #[inline]
     #[tactic(auto, using(crate::proofs::CaseLaws::lying_days))]
-    pub fn sum(&self, place: usize, back: usize, n: usize) -> u64
+    pub fn sum(&self, place: usize, back: usize, n: usize) -> Option<u64>
         requires { Lie self.now.readings.now self.now.starts.now place back n }
-        ensures { Summed (start_runs self.now.readings.now place back n self.now.starts.now) (length self.now.starts.now * n) result }
+        ensures { Tallied (start_runs self.now.readings.now place back n self.now.starts.now) (length self.now.starts.now * n) result }
     {
         let mut sum: u64 = 0;
         for start in self.starts {
             let q = (*start as usize) + place;
-            sum += tally_run(self.readings, q - back, n).unwrap_or(0);
+            sum += tally_run(self.readings, q - back, n)?;
         }
-        sum
+        Some(sum)
     }
 }

@@ -3,11 +3,18 @@ ghost use Rattle.std.specs.Prelude.{◌≡◌, ◌+◌, ◌*◌, ◌^◌, ◌≤
 ghost use Rattle.integers.specs.First.{first, any_below};
 ghost use Rattle.integers.specs.FoundInner.{found_at};
 ghost use Rattle.book.specs.Register.{access_in, register_row, numbers_good, rest_good, bytes_good, not_above, differs, bad_point};
-ghost use Rattle.searches.specs.RegisterInner.{differs_from, Topped};
+ghost use Rattle.searches.specs.RegisterInner.{is_known, differs_from, Topped};
 
 use book::Takers;
 use book::register::takers_of;
 use book::sections::row_at;
+
+// There is such a situation.
+fn known(takers: Takers) -> bool
+    ensures { result ≡ is_known takers }
+{
+    takers != Takers::Refused
+}
 
 // Bits from `days` up are 0. These are the calendar's days, counted once for all rows: a type of so many would be made for this one test.
 #[tactic(auto, using(crate::proofs::RegisterLaws::bits_above))]
@@ -44,11 +51,11 @@ fn rest_good(version: u16, row: &[u8; 64]) -> bool
     }
 }
 
-#[tactic(auto, unfolding(book::specs::Register::bytes_good))]
+#[tactic(auto, using(crate::proofs::RegisterLaws::known_is), unfolding(book::specs::Register::bytes_good))]
 fn bytes_good(version: u16, row: &[u8; 64]) -> bool
     ensures { result ≡ bytes_good version row.now }
 {
-    takers_of(wire::u8_at(row, 52)) != Takers::Refused
+    known(takers_of(wire::u8_at(row, 52)))
         && wire::u8_at(row, 53) <= 1
         && wire::u8_at(row, 54) <= 2
         && rest_good(version, row)

@@ -6,6 +6,7 @@ use mathlib.Core.List.{List, Memᴰ}
 use Rattle.std.proofs.Math.Option.{none}
 use Rattle.std.proofs.lemmas.List.{length-map}
 use Rattle.std.proofs.Math.ListN.{get_or-eq_default}
+use Rattle.wire.specs.Readings.{reading_at}
 use Rattle.quarters.specs.declared.Calendar.{Calendar}
 use Rattle.book.specs.declared.Engagement.{Engagement}
 use Rattle.quarters.specs.Quarters.{quarters_of, origin_of}
@@ -29,10 +30,12 @@ use Rattle.settlement.specs.DaysInner.{Gathered}
 use Rattle.integers.proofs.BitsLaws.{bit-or}
 use Rattle.integers.proofs.RangesLaws.{length-range, get_d-made, get_d-mem}
 
--- what is shown of an engagement fits the sections and is the book's: all that judging and settling it ask
+-- what is shown of an engagement fits the sections and is the book's, and so are the readings of every point: all that judging and settling it ask
 pub record Drawn (bytes engagements masks : List ℕ) (i : ℕ) : Type 0 where
   pub fits : Fits (shown_in bytes engagements masks i) (calendar_section bytes) (readings_of bytes (engagement_at engagements i).point)
   pub shows : Shows (shown_in bytes engagements masks i) (calendar_section bytes) (readings_of bytes (engagement_at engagements i).point) (book_with bytes engagements)
+  pub few : (shown_in bytes engagements masks i).e.point < 256
+  pub all : (p k : ℕ) → (book_with bytes engagements).reading p k ≡ reading_at (reading_section bytes) (origin_of (calendar_of bytes) p + k)
 
 module _ {bytes engagements : List ℕ} (s : Opened bytes engagements) where
   -- the points are as many as the header says, the engagements as the length says
@@ -125,6 +128,8 @@ module _ {bytes engagements : List ℕ} (s : Opened bytes engagements) where
               takes = refl;
               wants = refl;
             };
+        few = point-few i h;
+        all = λ p k. refl;
       }
 
   -- the refusals from row i on: that of row i, or of those after it

@@ -52,6 +52,20 @@ book_with bytes engagements =
 unfoldable pub engaged_in : List ℕ → ℕ → ℕ → Bool
 engaged_in engagements p d = any_of (is_on p d) (engagements_in engagements)
 
+-- what a calendar's categories, a table and a register show of an engagement, with masks of days for the points
+unfoldable pub shown_of : Calendar → List ℕ → List ℕ → List ℕ → List ℕ → Engagement → Shown
+shown_of c calendar table register masks e =
+    let point : Point = point_at register e.point in
+    let category : ℕ = category_at calendar e.day in
+    record {
+      c = c;
+      e = e;
+      point = point;
+      closed = bit_or point.mask (get_or masks e.point 0);
+      x = x_at table category;
+      y = y_at table category;
+    }
+
 -- what they show of engagement i, with the days on which each point has one
 unfoldable pub shown_in : List ℕ → List ℕ → List ℕ → ℕ → Shown
 shown_in bytes engagements masks i =

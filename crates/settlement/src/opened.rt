@@ -3,7 +3,7 @@ ghost use Rattle.settlement.specs.SectionsInner.{Opened, Spread};
 ghost use Rattle.settlement.specs.DaysInner.{Gathered};
 
 use crate::days::MOST_POINTS;
-use crate::sections::section;
+use crate::sections::{section, shown_of};
 use baseline::case::Case;
 use baseline::shown::Shown;
 use book::{Engagement, Section};
@@ -75,23 +75,20 @@ impl<'a> OpenBook<'a> {
         book::engagements::engagement_at(self.engagements, i)
     }
 
-    // What the book shows of engagement i.
+    // What the book shows of engagement i, with the days on which its point has one.
     pub fn shown_at(&self, i: usize) -> Shown
         requires { i < engagement_count_in self.now.engagements.now }
         ensures { result ≡ shown_in self.now.book.now self.now.engagements.now self.now.engaged.now i }
     {
         let e = self.engagement(i);
-        let point = book::register::point_at(self.register, e.point as usize);
-        let closed = point.mask | self.engaged[e.point as usize];
-        let category = book::tables::category(self.calendar, e.day as usize) as usize;
-        Shown {
-            c: self.c.calendar,
+        shown_of(
+            self.c.calendar,
+            self.calendar,
+            self.table,
+            self.register,
+            self.engaged,
             e,
-            point,
-            closed,
-            x: book::tables::x_of(self.table, category) as usize,
-            y: book::tables::y_of(self.table, category) as usize,
-        }
+        )
     }
 
     // The same with the categories, and with the readings of its point.

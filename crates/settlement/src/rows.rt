@@ -126,7 +126,7 @@ impl Terms {
 
     // A quarter-hour's row: baseline, delivered volume, and the source, FSP and injection corrections. They are stored one by one: an array would be
     // copied, which takes longer.
-    fn write_row(self, level: u64, raised: u32, row: &mut [i64])
+    pub fn write_row(self, level: u64, raised: u32, row: &mut [i64])
         requires { (row_width ≤ length row.old) × (level ≤ greatest) }
         ensures { row.new ≡ sets row.old 0 (row_from self.version self.e.direction self.point (grains self.e.requested) (baseline_of level) (watts_of raised)) }
     {

@@ -5,7 +5,7 @@ use Rattle.baseline.specs.RanksLaws.{scan-start, scan-yes, scan-no, scan-full, s
 use Rattle.baseline.proofs.case.Case.rank_days.Goals as goal
 
 pub loop-day-init : goal.loop-day-init
-loop-day-init c = (refl, omega arith, refl, λ b shows. scan-start b c.args.self.now.shown.e)
+loop-day-init c = (refl, omega arith, c.requires, λ b shows. scan-start b c.args.self.now.shown.e)
 
 pub returns-then-ranking-y-clause-ranked : goal.returns-then-ranking-y-clause-ranked
 returns-then-ranking-y-clause-ranked c = λ b shows.

@@ -25,11 +25,16 @@ less-small x sum some few small = mean-small (12 * x) sum 4294967295 (shares-12x
 
 pub mean-less-requires : goal.mean-less-requires
 mean-less-requires c = let x = length c.args.self.now.starts.now in
-    (shares-12x x c.args.self.now.some c.args.self.now.few, omega (arith, c.sum.ensures.small, mul_comm x 12))
+    let summed = sum-of _ _ c.sum.result c.sum.ensures in
+    (shares-12x x c.args.self.now.some c.args.self.now.few, omega (arith, c.unwrap_or-days.ensures, summed.small, mul_comm x 12))
 
 pub overflow_sub-result : goal.overflow_sub-result
-overflow_sub-result c = let self = c.args.self.now in
-    omega (arith, c.mean-less.ensures, less-small (length self.starts.now) c.sum.result self.some self.few c.sum.ensures.small, c.raises.ensures)
+overflow_sub-result c =
+    let self = c.args.self.now in
+    let x = length self.starts.now in
+    let days = start_runs self.readings.now c.args.place 24 12 self.starts.now in
+    let summed : Summed days (x * 12) c.unwrap_or-days.result = rw c.unwrap_or-days.ensures (sum-of days (x * 12) c.sum.result c.sum.ensures) in
+    omega (arith, c.mean-less.ensures, less-small x c.unwrap_or-days.result self.some self.few summed.small, c.raises.ensures)
 
 pub returns : goal.returns
 returns c =
@@ -39,13 +44,15 @@ returns c =
     let window = window_in self.readings.now c.args.q in
     let days = start_runs self.readings.now c.args.place 24 12 self.starts.now in
     let summed : Summed window 12 own = rw c.unwrap_or-own.ensures (sum-of window 12 c.window.result c.window.ensures) in
-    let less = less-small x c.sum.result self.some self.few c.sum.ensures.small in
-    let answer : c.mean-mean.result.count + c.raises.result - c.mean-less.result.count ≡ own * share 12 + grains (2 * raise) - c.sum.result * share (12 * x) = ap₂ ◌-◌ (ap₂ ◌+◌ c.mean-mean.ensures c.raises.ensures) c.mean-less.ensures in
+    let sum = c.unwrap_or-days.result in
+    let others : Summed days (x * 12) sum = rw c.unwrap_or-days.ensures (sum-of days (x * 12) c.sum.result c.sum.ensures) in
+    let less = less-small x sum self.some self.few others.small in
+    let answer : c.mean-mean.result.count + c.raises.result - c.mean-less.result.count ≡ own * share 12 + grains (2 * raise) - sum * share (12 * x) = ap₂ ◌-◌ (ap₂ ◌+◌ c.mean-mean.ensures c.raises.ensures) c.mean-less.ensures in
     rw answer
     (record {
-      level = λ h k. difference (grains raise) (grains (2 * raise)) (sum_z watts window *ℤ pos (share 12)) (sum_z watts days *ℤ pos (share (12 * x))) (own * share 12) (c.sum.result * share (12 * x))
+      level = λ h k. difference (grains raise) (grains (2 * raise)) (sum_z watts window *ℤ pos (share 12)) (sum_z watts days *ℤ pos (share (12 * x))) (own * share 12) (sum * share (12 * x))
           (mean-over 12 raise (sum_z watts window) own twelve (summed.over h))
-          (mean-over (12 * x) raise (sum_z watts days) c.sum.result (shares-12x x self.some self.few) (subst (λ (n : ℕ). Over (raise * n) (sum_z watts days) c.sum.result) (mul_comm x 12) (c.sum.ensures.over k)))
+          (mean-over (12 * x) raise (sum_z watts days) sum (shares-12x x self.some self.few) (subst (λ (n : ℕ). Over (raise * n) (sum_z watts days) sum) (mul_comm x 12) (others.over k)))
           (omega arith);
       small = omega (arith, mean-small 12 own 4294967295 twelve summed.small);
     })
