@@ -12,7 +12,7 @@ fn answer(rt: &impl Print, judged: Result<(), Refused>) -> io::Result<()> {
 }
 
 fn main(rt: HostRuntime) -> io::Result<()> {
-    cases::input::each_case(&rt, cases::BOOK_ROOM, |(), book| {
+    cases::input::each_case(&rt, cases::TEXT_MOST, cases::BOOK_ROOM, |(), book| {
         answer(&rt, judging::judge::judge_book(book))
     })
 }

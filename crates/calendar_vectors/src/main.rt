@@ -11,6 +11,9 @@ use calendar::dates::{Month, month_length};
 use moments::ids;
 use std::io;
 
+// How much of the input is read.
+const TEXT_MOST: u64 = 65536;
+
 // The day of a calendar on which the clocks change, as it is printed: counted from 1, or 0.
 fn changes_on(clock: Clock) -> u64 {
     match clock {
@@ -76,7 +79,15 @@ fn print_judged(rt: &impl Print, line: &[u8]) -> io::Result<()> {
     }
 }
 
+// A line that no line feed ends is passed over.
+fn print_line(rt: &impl Print, line: &[u8]) -> io::Result<()> {
+    match line.strip_suffix(b"\n") {
+        Some(line) => print_judged(rt, line),
+        None => Ok(()),
+    }
+}
+
 fn main(rt: HostRuntime) -> io::Result<()> {
     print_months(&rt)?;
-    cases::input::each_line(&rt, |line| print_judged(&rt, line))
+    cases::input::each_line(&rt, TEXT_MOST, |line| print_line(&rt, line))
 }

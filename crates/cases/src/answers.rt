@@ -3,6 +3,11 @@ use crate::lent::kept;
 use std::fmt::Display;
 use std::io;
 
+// A number alone.
+pub fn number(rt: &impl Print, n: u64) -> io::Result<()> {
+    print!(rt; "{n}")
+}
+
 // The numbers of a row, parted by spaces.
 fn row<T: Display>(rt: &impl Print, numbers: &[T]) -> io::Result<()> {
     let mut gap = "";

@@ -65,6 +65,8 @@ impl<const N: usize> Hex<N> {
 
 // No bytes.
 impl<const N: usize> Default for Hex<N> {
+    ghost is_default = { λ h. (h.bytes ≡ replicate N 0) × (h.length ≡ 0) };
+
     fn default() -> Hex<N> {
         Hex {
             bytes: [0; N],

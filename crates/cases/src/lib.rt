@@ -8,5 +8,7 @@ pub mod lent;
 pub mod sparse;
 pub mod words;
 
-// Room for a largest book: 256 points, 29 days, 512 engagements.
+// How much of its input a program reads, and room for a largest book: 256 points, 29 days, 512 engagements.
+pub const TEXT_MOST: u64 = 700000;
+
 pub const BOOK_ROOM: usize = 3000000;

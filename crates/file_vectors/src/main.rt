@@ -3,6 +3,7 @@
 #![tactic(auto)]
 
 ghost use Rattle.std.specs.Prelude.{◌*◌, ◌≤◌, length, IfOk};
+ghost use Rattle.file_vectors.specs.CaseInner.{Says};
 ghost use Rattle.volumes.specs.Settlement.{row_width};
 
 use cases::hex::Hex;
@@ -12,6 +13,11 @@ use cases::{answers, lent};
 use refusals::Refused;
 use settlement::rows::ROW_WIDTH;
 use std::io;
+
+// How much of the input is read, and room for the largest book: 180 points, 33 days.
+const TEXT_MOST: u64 = 400000;
+
+const BOOK_ROOM: usize = 2400000;
 
 // Room for the rows and the file of each case.
 const ROWS_ROOM: usize = 8704;
@@ -32,6 +38,8 @@ struct FileCase {
 }
 
 impl FromWords for FileCase {
+    ghost says = { λ line case left. Says line case.kind case.receiver case.rows case.file case.id.bytes case.id.length case.moment.bytes case.moment.length left };
+
     fn from_words(words: &mut Words) -> Option<FileCase> {
         let kind = u8::try_from(words.number()?).ok()?;
         let receiver = words.number()?;
@@ -106,7 +114,7 @@ fn file_case(
 fn main(rt: HostRuntime) -> io::Result<()> {
     let mut rows = [0; ROWS_ROOM];
     let mut file = [0; FILE_ROOM];
-    cases::input::each_case(&rt, cases::BOOK_ROOM, |case: FileCase, book| {
+    cases::input::each_case(&rt, TEXT_MOST, BOOK_ROOM, |case: FileCase, book| {
         file_case(&rt, &case, book, &mut rows, &mut file)
     })
 }

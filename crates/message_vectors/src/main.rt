@@ -11,6 +11,9 @@ mod writing;
 use cases::words::Words;
 use std::io;
 
+// How much of the input is read.
+const TEXT_MOST: u64 = 1000000;
+
 // Room for a file, and for its rows.
 const FILE_ROOM: usize = 20000;
 
@@ -40,5 +43,7 @@ fn run_line(rt: &impl Print, line: &[u8], base: &mut Vec<u8>) -> io::Result<()> 
 
 fn main(rt: HostRuntime) -> io::Result<()> {
     let mut base = Vec::new(rt.alloc());
-    cases::input::each_line(&rt, |line| run_line(&rt, line, &mut base))
+    cases::input::each_line(&rt, TEXT_MOST, |line| {
+        run_line(&rt, line.strip_suffix(b"\n").unwrap_or(line), &mut base)
+    })
 }

@@ -3,7 +3,6 @@
 
 ghost use Rattle.std.specs.Prelude.{◌≡◌, ◌≤◌, length};
 ghost use Rattle.text.specs.WrittenInner.{Wrote};
-ghost use Rattle.refusals.specs.Sent.{sent_back};
 ghost use Rattle.requests.specs.LineInner.{request_of};
 ghost use Rattle.outputs.specs.Output.{input_most, rows_lent, file_lent, refused_line, CutAlike, Printed};
 ghost use Rattle.outputs.specs.OutputInner.{Filed};
@@ -13,14 +12,14 @@ use requests::Asked;
 
 // Writes `refused NUMBER ITEM` and a line feed; answers how many bytes. By text's writers and not by Display, whose contract doesn't say the bytes.
 #[tactic(auto, using(crate::proofs::OutputLaws::few_places))]
-fn put_refused(out: &mut [u8], refused: Refused) -> usize
+pub fn put_refused(out: &mut [u8], number: u64, item: u64) -> usize
     requires { 50 ≤ length out.old }
-    ensures { Wrote out.old 0 (refused_line (sent_back refused).number (sent_back refused).item) out.new result }
+    ensures { Wrote out.old 0 (refused_line number item) out.new result }
 {
     let a = text::put(out, 0, b"refused ");
-    let b = text::put_plain(out, a, refused.number());
+    let b = text::put_plain(out, a, number);
     let c = text::put(out, b, b" ");
-    let d = text::put_plain(out, c, refused.item() as u64);
+    let d = text::put_plain(out, c, item);
     text::put(out, d, b"\n")
 }
 
@@ -65,7 +64,7 @@ pub fn answer(input: &[u8], rows: &mut [i64; 10240], out: &mut [u8; 65536]) -> u
 {
     match file(input, rows, out) {
         Ok(count) => count,
-        Err(refused) => put_refused(out, refused),
+        Err(refused) => put_refused(out, refused.number(), refused.item() as u64),
     }
 }
 

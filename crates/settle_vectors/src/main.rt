@@ -2,7 +2,8 @@
 // the refusal, and `changed` if a number that is no part of the answer is not as it was.
 #![tactic(auto)]
 
-ghost use Rattle.std.specs.Prelude.{◌*◌, ◌≤◌, length};
+ghost use Rattle.std.specs.Prelude.{◌≡◌, ◌*◌, ◌≤◌, length, Some};
+ghost use Rattle.cases.specs.WordsInner.{word_of, rest_of, number_of};
 ghost use Rattle.volumes.specs.Settlement.{row_width};
 ghost use Rattle.settle_vectors.specs.FitsInner.{RowsFit};
 
@@ -25,6 +26,8 @@ struct SettleCase {
 }
 
 impl FromWords for SettleCase {
+    ghost says = { λ line case left. (number_of (word_of line) ≡ Some case.lent) × (left ≡ rest_of line) };
+
     fn from_words(words: &mut Words) -> Option<SettleCase> {
         let lent = words.number_up_to(ROOM)?;
         Some(SettleCase { lent })
@@ -68,7 +71,7 @@ fn settle_case(
 // Beside what `each_case` does, only the room and the call are left.
 fn main(rt: HostRuntime) -> io::Result<()> {
     let mut rows = [0; ROOM];
-    cases::input::each_case(&rt, cases::BOOK_ROOM, |case, book| {
+    cases::input::each_case(&rt, cases::TEXT_MOST, cases::BOOK_ROOM, |case, book| {
         settle_case(&rt, case, book, &mut rows)
     })
 }

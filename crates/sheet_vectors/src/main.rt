@@ -2,7 +2,8 @@
 // the sums that aren't 0 or the refusal, and `changed` if a number that is no part of the answer is not as it was.
 #![tactic(auto)]
 
-ghost use Rattle.std.specs.Prelude.{◌≤◌, length, IfOk};
+ghost use Rattle.std.specs.Prelude.{◌≡◌, ◌≤◌, length, Some, IfOk};
+ghost use Rattle.cases.specs.WordsInner.{word_of, rest_of, number_of};
 
 use cases::input::FromWords;
 use cases::words::Words;
@@ -22,6 +23,9 @@ struct SheetCase {
 }
 
 impl FromWords for SheetCase {
+    ghost says = { λ line case left. (number_of (word_of line) ≡ Some case.party) × (number_of (word_of (rest_of line)) ≡ Some case.lent)
+        × (left ≡ rest_of (rest_of line)) };
+
     fn from_words(words: &mut Words) -> Option<SheetCase> {
         let party = u16::try_from(words.number()?).ok()?;
         let lent = words.number_up_to(ROOM)?;
@@ -65,7 +69,7 @@ fn sheet_case(
 // Beside what `each_case` does, only the room and the call are left.
 fn main(rt: HostRuntime) -> io::Result<()> {
     let mut sums = [0; ROOM];
-    cases::input::each_case(&rt, cases::BOOK_ROOM, |case, book| {
+    cases::input::each_case(&rt, cases::TEXT_MOST, cases::BOOK_ROOM, |case, book| {
         sheet_case(&rt, case, book, &mut sums)
     })
 }

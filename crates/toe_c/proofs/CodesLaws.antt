@@ -64,6 +64,23 @@ unfolding with_facts
 enough lent (Ok f) h = rw (le-leb 8 lent h)
 enough lent (Err r) h = refl
 
+-- fewer are as good as none
+too-few : (lent : ℕ) (r : Result FileFacts Refusal) → lent < 8 → with_facts lent r ≡ with_facts 0 r
+unfolding with_facts
+too-few lent (Ok f) h = rw (lt-leb 8 lent h)
+too-few lent (Err r) h = refl
+
+-- with none nothing changes
+rows-kept : (r : Result FileFacts Refusal) (filled before : List ℕ) → before ≡ rows_by (with_facts 0 r) filled before
+unfolding with_facts
+rows-kept (Ok f) filled before = refl
+rows-kept (Err r) filled before = refl
+
+facts-kept : (r : Result FileFacts Refusal) (before : List ℕ) → before ≡ facts_by (with_facts 0 r) before
+unfolding with_facts
+facts-kept (Ok f) before = refl
+facts-kept (Err r) before = refl
+
 -- a reading that is refused leaves the rows
 kept-rows : {file before after : List ℕ} {e : Refused} → ReadCalled file before after (Err e) → after ≡ before
 kept-rows {file} {before} {e = e} c = (one-reading c (called-refused file before e c.answer)).1

@@ -98,6 +98,9 @@ says_small : {A : Type 0} (x : Option Refusal) (a : A) → AllSmall x → SmallR
 says_small none a h = tt
 says_small (some r) a h = h
 
+by-small : (x : Option Refusal) (n : ℕ) → AllSmall x → SmallReply (says x n)
+by-small x n h = says_small x n h
+
 -- of an answer by its refusal
 small-by : {A : Type 0} (x : Option Refusal) (a : A) {r : Result A Refusal} → AllSmall x → r ≡ says x a → SmallReply r
 small-by x a h e = rw e (says_small x a h)

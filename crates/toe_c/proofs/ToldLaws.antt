@@ -29,7 +29,7 @@ use Rattle.writer.specs.Rows.{is_rows, rows_message}
 use Rattle.writer.specs.WriteCalls.{text_from, write_refusal, write_answer, WriteCalled}
 use Rattle.reports.specs.Calls.{sheet_refusal, sheet_answer, SheetCalled, text_of, file_refusal, file_answer, FileCalled}
 use Rattle.series.specs.VolumesLaws.{volumes-most}
-use Rattle.toe_c.specs.Codes.{reply, code_of, Tells, with_facts, bytes_in, rows_read}
+use Rattle.toe_c.specs.Codes.{reply, itself, code_of, Tells, with_facts, bytes_in, rows_read}
 use Rattle.toe_c.specs.SmallInner.{SmallReply}
 use Rattle.toe_c.proofs.SmallLaws.{decoded}
 use Rattle.toe_c.specs.FileSizeLaws.{file-few}
@@ -50,6 +50,9 @@ told-by count p code e h k = subst (Tells (reply count p)) (sym e) (tells count 
 says_few : {A : Type 0} (count : A → ℕ) (x : Option Refusal) (a : A) → (x ≡ none → count a < 2 ^ 63) → Few count (says x a)
 says_few count none a k = k refl
 says_few count (some r) a k = tt
+
+by-few : (x : Option Refusal) (n : ℕ) → (x ≡ none → n < 2 ^ 63) → Few itself (says x n)
+by-few x n k = says_few itself x n k
 
 -- of an answer by its refusal
 few-by : {A : Type 0} (count : A → ℕ) (x : Option Refusal) (a : A) {r : Result A Refusal} → (x ≡ none → count a < 2 ^ 63) → r ≡ says x a → Few count r

@@ -21,5 +21,7 @@ fn answer(rt: &impl Print, input: &[u8]) -> io::Result<()> {
 }
 
 fn main(rt: HostRuntime) -> io::Result<()> {
-    cases::input::each_case(&rt, cases::BOOK_ROOM, |(), input| answer(&rt, input))
+    cases::input::each_case(&rt, cases::TEXT_MOST, cases::BOOK_ROOM, |(), input| {
+        answer(&rt, input)
+    })
 }

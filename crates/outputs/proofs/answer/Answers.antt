@@ -6,4 +6,5 @@ pub returns-in-Ok : goal.returns-in-Ok
 returns-in-Ok c = printed-file c.args.input.now c.args.rows.now _ c.args.out.now _ c.in-Ok.count c.in-Ok.ensures
 
 pub returns-in-Err : goal.returns-in-Err
-returns-in-Err c = printed-refused c.args.input.now c.args.rows.now _ c.args.out.now _ c.in-Err.refused _ _ c.in-Err.ensures c.put_refused.ensures
+returns-in-Err c =
+    printed-refused c.args.input.now c.args.rows.now _ c.args.out.now _ c.in-Err.refused _ _ c.in-Err.ensures (rw (← c.number.ensures, ← c.item.ensures) c.put_refused.ensures)

@@ -6,6 +6,4 @@ use Rattle.outputs.proofs.put_refused.Goals as goal
 
 pub returns : goal.returns
 unfolding refused_line bytes
-returns c =
-    rw (← c.number.ensures, ← c.item.ensures)
-    (and_then (and_then (and_then (and_then c.put-a.ensures c.put_plain-b.ensures) c.put-c.ensures) c.put_plain-d.ensures) c.put.ensures)
+returns c = and_then (and_then (and_then (and_then c.put-a.ensures c.put_plain-b.ensures) c.put-c.ensures) c.put_plain-d.ensures) c.put.ensures
