@@ -1,8 +1,9 @@
--- One day more, and one start more; a reading that is missing of the first days is missing of all.
-use Rattle.std.specs.Prelude.{◌≡◌, refl, Bool, false, ◌&&◌, ℕ, suc, ◌+◌, ◌*◌, ◌%◌, ◌≤◌, ◌<◌, length, take, drop, get_or, set}
-use Rattle.std.proofs.Common.{sym, ap, ◌∙◌, mul-le-mul, arith, take-suc, take-suc-set, take-append-drop}
-use mathlib.Core.List.{List, [], ◌∷◌, ◌++◌, map, map-append, flat_map}
+-- One day more, and one start more; all is there of the days where it is of each.
+use Rattle.std.specs.Prelude.{◌≡◌, refl, ◌&&◌, ℕ, suc, ◌+◌, ◌*◌, ◌%◌, ◌≤◌, ◌<◌, length, take, get_or, set}
+use Rattle.std.proofs.Common.{sym, ap, ◌∙◌, mul-le-mul, arith, take-suc, take-suc-set}
+use mathlib.Core.List.{List, [], ◌∷◌, ◌++◌, map, map-append, append-nil, flat_map}
 use Rattle.integers.proofs.ListsLaws.{flat_map-append}
+use Rattle.wire.specs.Readings.{Reading}
 use Rattle.volumes.specs.Baseline.{complete}
 use Rattle.volumes.proofs.BaselineLaws.{complete-append}
 use Rattle.quarters.specs.declared.Calendar.{Calendar}
@@ -31,12 +32,16 @@ starts_more c keys starts j h k e =
 pub product-few : (j n : ℕ) → j ≤ 10 → n ≤ 12 → j * n ≤ 120
 product-few j n h k = mul-le-mul {n₁ = j} {m₁ = n} {n₂ = 10} {m₂ = 12} h k
 
--- readings that are not all there of the first j days are not all there
-pub runs-missed : (readings starts : List ℕ) (place back n j : ℕ) → complete (start_runs readings place back n (take j starts)) ≡ false → complete (start_runs readings place back n starts) ≡ false
-runs-missed readings starts place back n j h =
+-- all is there of one day more where it is of those before and of that day
+pub wholes-more : (readings starts : List ℕ) (place back n j : ℕ) → j < length starts
+    → complete (start_runs readings place back n (take (j + 1) starts)) ≡ (complete (start_runs readings place back n (take j starts)) && complete (start_run readings place back n (get_or starts j 0)))
+unfolding flat_map
+wholes-more readings starts place back n j h =
     let run = start_run readings place back n in
-    let rest = flat_map run (drop j starts) in
-    ap (λ (l : List ℕ). complete (flat_map run l)) (sym (take-append-drop j starts))
-    ∙ ap complete (flat_map-append run (take j starts) (drop j starts))
-    ∙ complete-append (flat_map run (take j starts)) rest
-    ∙ ap (λ (b : Bool). b && complete rest) h
+    let s = get_or starts j 0 in
+    let next : j + 1 ≡ suc j = omega arith in
+    ap (λ (m : ℕ). complete (flat_map run (take m starts))) next
+    ∙ ap (λ (l : List ℕ). complete (flat_map run l)) (take-suc starts j 0 h)
+    ∙ ap complete (flat_map-append run (take j starts) (s ∷ []))
+    ∙ complete-append (flat_map run (take j starts)) (run s ++ [])
+    ∙ ap (λ (l : List Reading). complete (flat_map run (take j starts)) && complete l) (append-nil (run s))

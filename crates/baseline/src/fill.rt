@@ -14,6 +14,7 @@ use crate::judge::looks_back;
 use crate::ranking::Ranking;
 use crate::shown::Shown;
 use crate::taken::Taken;
+use grains::Grains;
 
 impl Shown {
     // The mean of what stands for each quarter-hour on the days that are taken, and an addend.
@@ -40,6 +41,7 @@ impl<'a> Case<'a> {
         let taken = Taken {
             readings: self.readings,
             starts,
+            share: Grains::mean(1, starts.len() as u64).count,
         };
         let place = self.shown.reference_quarter(0);
         let add = taken.addend(self.shown.point.method, place, self.start());

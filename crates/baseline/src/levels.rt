@@ -40,8 +40,7 @@ impl<'a> Taken<'a> {
         requires { Lie self.now.readings.now self.now.starts.now place 0 1 }
         ensures { Means (start_runs self.now.readings.now place 0 1 self.now.starts.now) (length self.now.starts.now) result }
     {
-        let sum = self.sum(place, 0, 1).unwrap_or(0);
-        Grains::mean(sum, self.starts.len() as u64).count
+        self.tally(place, 0, 1).1 * self.share
     }
 
     // The addend of method 2 and two raises: the mean of the window before quarter-hour q less that of the days' windows, which are from 24 before their quarter-hour `place`.

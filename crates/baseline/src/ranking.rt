@@ -1,5 +1,5 @@
 // The latest eligible days, ranked by keys: a day's sum, raised, and behind it the day.
-ghost use Rattle.std.specs.Prelude.{◌≡◌, [], ◌∷◌, ◌++◌, ◌+◌, ◌*◌, ◌≤◌, ◌<◌, length, take};
+ghost use Rattle.std.specs.Prelude.{◌≡◌, [], ◌∷◌, ◌++◌, ◌+◌, ◌*◌, ◌≤◌, ◌<◌, length, take, drop};
 ghost use Rattle.book.specs.Book.{Book};
 ghost use Rattle.baseline.specs.RankingInner.{inserted};
 ghost use Rattle.baseline.specs.RanksInner.{RankedTo};
@@ -45,6 +45,7 @@ impl Ranking {
         requires { self.old.found < 20 }
         ensures found { self.new.found ≡ self.old.found + 1 }
         ensures keys { take self.new.found self.new.keys ≡ inserted key (take self.old.found self.old.keys) }
+        ensures behind { drop self.new.found self.new.keys ≡ drop self.new.found self.old.keys }
         ensures room { length self.new.keys ≡ length self.old.keys }
     {
         let last = insert(&mut self.keys[..self.found], key);
@@ -55,11 +56,12 @@ impl Ranking {
 
 impl<'a> Case<'a> {
     // Ranks the Y latest eligible days before the engagement's. A day's sum and the day are one number, so that among equal sums the later day's is the greater, and
-    // days are put in order as numbers are. The ranking is lent: given back by value its keys would be copied, for which the library would need `memcpy` from outside.
+    // days are put in order as numbers are. The keys behind them stay. The ranking is lent: given back by value its keys would be copied, for which the library would need `memcpy` from outside.
     #[tactic(auto, using(crate::proofs::JudgedLaws::ranks_judged))]
     pub fn rank_days(&self, ranking: &mut Ranking)
         requires { length ranking.old.keys ≡ 20 }
         ensures few { ranking.new.found ≤ self.now.shown.y }
+        ensures behind { drop ranking.new.found ranking.new.keys ≡ drop ranking.new.found ranking.old.keys }
         ensures room { length ranking.new.keys ≡ 20 }
         ensures ranked { (b : Book) → CaseOf self.now b → RankedTo b self.now.shown.e self.now.shown.y (take ranking.new.found ranking.new.keys) }
     {

@@ -1,5 +1,6 @@
 -- The keys tell the days that are taken, so what is read there are the readings that the baselines are made of.
-use Rattle.std.proofs.Common.{refl, ℕ, List, take, arith, get_or}
+use Rattle.std.proofs.Common.{refl, ℕ, List, take, length, arith, get_or, length-take-le}
+use Rattle.grains.specs.GrainsLaws.{shares-x}
 use Rattle.wire.specs.Readings.{Reading}
 use Rattle.volumes.specs.Quarters.{start}
 use Rattle.baseline.specs.ShownInner.{window_in}
@@ -18,6 +19,14 @@ addend-add-requires c =
     let took = took-days a.settled ranking.keys ranking.found (omega (arith, c.rank_days.ensures.few, c.rank_days.ensures.room, a.fits.x_of_y.twenty)) c.requires.1 a.fits.x_of_y.order (c.rank_days.ensures.ranked a.book a.settled.shows) in
     let m = stands _ _ _ a.fits in
     (λ w. rw (c.start_days.ensures, c.reference_quarter-place.ensures.is) (lie-windows a.settled keys a.fits took w), omega (arith, m.inside, m.roomy, c.start.ensures))
+
+-- X days are taken
+pub mean-requires : goal.mean-requires
+mean-requires c =
+    let x = c.args.self.now.shown.x in
+    let few = c.requires.0.fits.x_of_y in
+    let many = length-take-le x c.rank_days.new.ranking.keys (omega (arith, few.order, few.twenty, c.rank_days.ensures.room)) in
+    (shares-x (length c.start_days.new.keys) (omega (arith, few.one, c.start_days.auto.keys, many)) (omega (arith, few.ten, c.start_days.auto.keys, many)), omega (arith, few.one, c.start_days.auto.keys, many))
 
 pub fill_means-requires : goal.fill_means-requires
 fill_means-requires c =

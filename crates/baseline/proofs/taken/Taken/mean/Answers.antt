@@ -8,24 +8,19 @@ use Rattle.wire.specs.ReadingsInner.{raise}
 use Rattle.volumes.specs.Baseline.{watts}
 use Rattle.baseline.specs.RunsInner.{start_runs}
 use Rattle.baseline.specs.TallyInner.{Summed}
-use Rattle.baseline.specs.TallyLaws.{sum-of}
 use Rattle.baseline.proofs.taken.Taken.mean.Goals as goal
-
-pub mean-requires : goal.mean-requires
-mean-requires c = let x = length c.args.self.now.starts.now in
-    let summed = sum-of _ _ c.sum.result c.sum.ensures in
-    (shares-x x c.args.self.now.some c.args.self.now.few, omega (arith, c.unwrap_or-sum.ensures, summed.small, mul-one x))
 
 pub returns : goal.returns
 returns c =
     let self = c.args.self.now in
     let x = length self.starts.now in
-    let sum = c.unwrap_or-sum.result in
+    let sum = c.tally.result.1 in
     let days = start_runs self.readings.now c.args.place 0 1 self.starts.now in
     let total = sum_z watts days in
-    let summed : Summed days (x * 1) sum = rw c.unwrap_or-sum.ensures (sum-of days (x * 1) c.sum.result c.sum.ensures) in
+    let summed : Summed days (x * 1) sum = c.tally.ensures.sum in
     let shares = shares-x x self.some self.few in
-    record {
-      level = λ h. rw c.mean.ensures (mean-over x raise total sum shares (subst (λ (n : ℕ). Over (raise * n) total sum) (mul-one x) (summed.over h)));
-      small = rw c.mean.ensures (mean-small x sum 4294967295 shares (omega (arith, summed.small, mul-one x)));
-    }
+    rw self.shared
+    (record {
+      level = λ h. mean-over x raise total sum shares (subst (λ (n : ℕ). Over (raise * n) total sum) (mul-one x) (summed.over h));
+      small = mean-small x sum 4294967295 shares (omega (arith, summed.small, mul-one x));
+    })
