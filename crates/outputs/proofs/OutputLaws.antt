@@ -36,15 +36,36 @@ pub ruleset few_places = (digits-few)
 
 -- ---- what is printed
 
+-- of any refusal, where the rows are as they were
+module _ (input : List ℕ) where
+  pub refusal-printed : (r : Refusal) (rows : List ℤ) (before after : List ℕ) (q : ℕ) → judged (length input) (line.parse input) ≡ some r
+      → Wrote before 0 (refused_line r.number r.item) after q → Printed input rows rows before after q
+  unfolding output afterwards
+  refusal-printed r rows before after q e w =
+      record {
+        counted = rw e (w.behind ∙ zero-add (length (refused_line r.number r.item)));
+        file = rw e (w.list ∙ written_over before (refused_line r.number r.item));
+        rows = rw e;
+      }
+
+  pub no_line-printed : (rows : List ℤ) (before after : List ℕ) (q : ℕ) → None ≡ request_of input → Wrote before 0 (refused_line 12 0) after q → Printed input rows rows before after q
+  no_line-printed rows before after q e w = refusal-printed (record { number = 12; item = 0 }) rows before after q (ap (judged (length input)) (found_none input e)) w
+
+  pub too_long-printed : (a : Asked) (rows : List ℤ) (before after : List ℕ) (q : ℕ) → Some a ≡ request_of input → input_most < length input
+      → Wrote before 0 (refused_line 2 0) after q → Printed input rows rows before after q
+  unfolding refusal_for
+  too_long-printed a rows before after q l h w =
+      refusal-printed (record { number = 2; item = 0 }) rows before after q (ap (judged (length input)) (found input a l).parsed ∙ rw (lt-leb (length input) input_most h)) w
+
 -- what the file that is asked for leaves, by its judgement
-record Left (input : List ℕ) (x : Option Refusal) (rows_before rows_after : List ℤ) (before after : List ℕ) (r : Result ℕ Refused) : Type 0 where
+record Left (input : List ℕ) (x : Option Refusal) (rows_before rows_after : List ℤ) (before after : List ℕ) (r : Result ℕ Refusal) : Type 0 where
   judgement : judged (length input) (line.parse input) ≡ x
-  answer : said r ≡ says x (length (file_in (line.parse input)))
+  answer : r ≡ says x (length (file_in (line.parse input)))
   rows : rows_after ≡ afterwards x (rows_in (line.parse input)) rows_before
   file : after ≡ afterwards x (file_in (line.parse input)) before
 
 module _ (input : List ℕ) (rows_before rows_after : List ℤ) (before between : List ℕ) where
-  left : {r : Result ℕ Refused} → Filed input rows_before rows_after before between r → Left input (judged (length input) (line.parse input)) rows_before rows_after before between r
+  left : {r : Result ℕ Refused} → Filed input rows_before rows_after before between r → Left input (judged (length input) (line.parse input)) rows_before rows_after before between (said r)
   left f = record { judgement = refl; answer = f.answer; rows = f.rows; file = f.file }
 
   accepted-by : (x : Option Refusal) (count : ℕ) → Left input x rows_before rows_after before between (Ok count) → Printed input rows_before rows_after before between count
@@ -57,22 +78,18 @@ module _ (input : List ℕ) (rows_before rows_after : List ℤ) (before between 
   pub printed-file : (count : ℕ) → Filed input rows_before rows_after before between (Ok count) → Printed input rows_before rows_after before between count
   printed-file count f = accepted-by (judged (length input) (line.parse input)) count (left f)
 
-  refused-by : (x : Option Refusal) (e : Refused) (after : List ℕ) (q : ℕ) → Left input x rows_before rows_after before between (Err e)
-      → Wrote between 0 (refused_line (sent_back e).number (sent_back e).item) after q → Printed input rows_before rows_after before after q
-  unfolding output afterwards
+  refused-by : (x : Option Refusal) (e : Refusal) (after : List ℕ) (q : ℕ) → Left input x rows_before rows_after before between (Err e)
+      → Wrote between 0 (refused_line e.number e.item) after q → Printed input rows_before rows_after before after q
+  unfolding afterwards
   refused-by none e after q k w = let z : ◌≡◌ {A = ℕ} 0 1 = cc k.answer in absurd (omega arith)
   refused-by (some r) e after q k w =
-      let s : sent_back e ≡ r = cc k.answer in
+      let s : e ≡ r = cc k.answer in
       let w' : Wrote before 0 (refused_line r.number r.item) after q = rw (← s, ← k.file) w in
-      record {
-        counted = rw k.judgement (w'.behind ∙ zero-add (length (refused_line r.number r.item)));
-        file = rw k.judgement (w'.list ∙ written_over before (refused_line r.number r.item));
-        rows = rw k.judgement k.rows;
-      }
+      rw k.rows (refusal-printed input r rows_before before after q k.judgement w')
 
   pub printed-refused : (e : Refused) (after : List ℕ) (q : ℕ) → Filed input rows_before rows_after before between (Err e)
       → Wrote between 0 (refused_line (sent_back e).number (sent_back e).item) after q → Printed input rows_before rows_after before after q
-  printed-refused e after q f w = refused-by (judged (length input) (line.parse input)) e after q (left f) w
+  printed-refused e after q f w = refused-by (judged (length input) (line.parse input)) (sent_back e) after q (left f) w
 
 -- the output lies in the buffer
 pub printed-fits : {input : List ℕ} {rows_before rows_after : List ℤ} {before after : List ℕ} {count : ℕ} → Printed input rows_before rows_after before after count → count ≤ length after
@@ -159,41 +176,59 @@ module _ (input : List ℕ) (a : Asked) (l : Some a ≡ request_of input) where
 pub ruleset parts_inside = (inside-id, inside-moment, inside-book)
 
 -- an answer without the number of settlement rows
-abbrev pub bytes_of : Result (ℕ × ℕ) Refused → Result ℕ Refused
+abbrev pub bytes_of : {R : Type 0} → Result (ℕ × ℕ) R → Result ℕ R
 bytes_of (Ok counts) = Ok counts.1
 bytes_of (Err e) = Err e
 
-bytes-of : (x : Option Refusal) (m n : ℕ) (r : Result (ℕ × ℕ) Refused) → said r ≡ says x (m, n) → said (bytes_of r) ≡ says x n
-bytes-of none m n (Ok counts) e = let c : counts ≡ (m, n) = cc in ap (λ (k : ℕ × ℕ). Ok k.1) c
-bytes-of none m n (Err f) e = let z : ◌≡◌ {A = ℕ} 0 1 = cc in absurd (omega arith)
-bytes-of (some s) m n (Ok counts) e = let z : ◌≡◌ {A = ℕ} 0 1 = cc in absurd (omega arith)
-bytes-of (some s) m n (Err f) e = let c : sent_back f ≡ s = cc in ap Err c
+bytes-says : (x : Option Refusal) (m n : ℕ) → bytes_of (says x (m, n)) ≡ says x n
+bytes-says none m n = refl
+bytes-says (some r) m n = refl
 
-module _ (input : List ℕ) (a : Asked) (l : Some a ≡ request_of input) (h : length input ≤ input_most) (rows_before rows_after : List ℤ) (before after : List ℕ) (eʳ : length rows_before ≡ rows_lent) (eᶠ : length before ≡ file_lent) where
+bytes-said : (r : Result (ℕ × ℕ) Refused) → said (bytes_of r) ≡ bytes_of (said r)
+bytes-said (Ok counts) = refl
+bytes-said (Err e) = refl
+
+module _ (input : List ℕ) (a : Asked) (l : Some a ≡ request_of input) where
   -- the parts are what the slices hold
-  parts-on : (r : Result (ℕ × ℕ) Refused)
-      → FileCalled (take (length input - a.book) (drop a.book input)) a.kind a.receiver (take (a.id + a.id_length - a.id) (drop a.id input)) (take (a.moment + 29 - a.moment) (drop a.moment input)) rows_before rows_after before after (said r)
-      → FileCalled (book_part input a) a.kind a.receiver (id_part input a) (moment_part input a) rows_before rows_after before after (said r)
-  parts-on r c =
+  pub parts-on : (kind receiver : ℕ) (rows_before rows_after : List ℤ) (before after : List ℕ) (r : Result (ℕ × ℕ) Refusal)
+      → FileCalled (take (length input - a.book) (drop a.book input)) kind receiver (take (a.id + a.id_length - a.id) (drop a.id input)) (take (a.moment + 29 - a.moment) (drop a.moment input)) rows_before rows_after before after r
+      → FileCalled (book_part input a) kind receiver (id_part input a) (moment_part input a) rows_before rows_after before after r
+  parts-on kind receiver rows_before rows_after before after r c =
       let b : take (length input - a.book) (drop a.book input) ≡ book_part input a = take_all (length input - a.book) (drop a.book input) (omega (arith, length-drop a.book input)) in
       let i : a.id + a.id_length - a.id ≡ a.id_length = omega arith in
       let m : a.moment + 29 - a.moment ≡ 29 = omega arith in
       rw (b, i, m) at c
 
-  called-on : (r : Result (ℕ × ℕ) Refused) → FileCalled (book_part input a) a.kind a.receiver (id_part input a) (moment_part input a) rows_before rows_after before after (said r) → Filed input rows_before rows_after before after (bytes_of r)
-  unfolding refusal_on text_on rows_on file_answer
-  called-on r c =
-      let f = found input a l in
-      let j : judged (length input) (line.parse input) ≡ refusal_on input a = refusal-on input f.words f.rest f.parsed h ∙ ap (refusal_on input) (sym f.is) in
-      let t : file_in (line.parse input) ≡ text_on input a = text-on input f.words f.rest f.parsed ∙ ap (text_on input) (sym f.is) in
-      let s : rows_in (line.parse input) ≡ rows_on input a = rows-on input f.words f.rest f.parsed ∙ ap (rows_on input) (sym f.is) in
-      record {
-        answer = rw (j, t) (bytes-of (refusal_on input a) (row_count (book_of (book_part input a))) (length (text_on input a)) r (rw (← eʳ, ← eᶠ) c.answer));
-        rows = rw (j, s, ← eʳ, ← eᶠ) c.rows;
-        file = rw (j, t, ← eʳ, ← eᶠ) c.file;
-      }
+  module _ (h : length input ≤ input_most) (rows_before rows_after : List ℤ) (before after : List ℕ) (eʳ : length rows_before ≡ rows_lent) (eᶠ : length before ≡ file_lent) where
+    abbrev Called : Result (ℕ × ℕ) Refusal → Type 0
+    Called r = FileCalled (book_part input a) a.kind a.receiver (id_part input a) (moment_part input a) rows_before rows_after before after r
 
-  pub filed : (r : Result (ℕ × ℕ) Refused)
-      → FileCalled (take (length input - a.book) (drop a.book input)) a.kind a.receiver (take (a.id + a.id_length - a.id) (drop a.id input)) (take (a.moment + 29 - a.moment) (drop a.moment input)) rows_before rows_after before after (said r)
-      → Filed input rows_before rows_after before after (bytes_of r)
-  filed r c = called-on r (parts-on r c)
+    called-on : (r : Result (ℕ × ℕ) Refusal) → Called r → Left input (judged (length input) (line.parse input)) rows_before rows_after before after (bytes_of r)
+    unfolding refusal_on text_on rows_on file_answer
+    called-on r c =
+        let f = found input a l in
+        let j : judged (length input) (line.parse input) ≡ refusal_on input a = refusal-on input f.words f.rest f.parsed h ∙ ap (refusal_on input) (sym f.is) in
+        let t : file_in (line.parse input) ≡ text_on input a = text-on input f.words f.rest f.parsed ∙ ap (text_on input) (sym f.is) in
+        let s : rows_in (line.parse input) ≡ rows_on input a = rows-on input f.words f.rest f.parsed ∙ ap (rows_on input) (sym f.is) in
+        let e : r ≡ says (refusal_on input a) (row_count (book_of (book_part input a)), length (text_on input a)) = rw (← eʳ, ← eᶠ) c.answer in
+        record {
+          judgement = refl;
+          answer = rw (j, t) (ap bytes_of e ∙ bytes-says (refusal_on input a) (row_count (book_of (book_part input a))) (length (text_on input a)));
+          rows = rw (j, s, ← eʳ, ← eᶠ) c.rows;
+          file = rw (j, t, ← eʳ, ← eᶠ) c.file;
+        }
+
+    pub file-accepted : (n count : ℕ) → Called (Ok (n, count)) → Printed input rows_before rows_after before after count
+    file-accepted n count c = accepted-by input rows_before rows_after before after (judged (length input) (line.parse input)) count (called-on (Ok (n, count)) c)
+
+    pub file-refused : (number item : ℕ) (out : List ℕ) (q : ℕ) → Called (Err (record { number = number; item = item })) → Wrote after 0 (refused_line number item) out q → Printed input rows_before rows_after before out q
+    file-refused number item out q c w =
+        let e : Refusal = record { number = number; item = item } in
+        refused-by input rows_before rows_after before after (judged (length input) (line.parse input)) e out q (called-on (Err e) c) w
+
+    pub filed : (r : Result (ℕ × ℕ) Refused)
+        → FileCalled (take (length input - a.book) (drop a.book input)) a.kind a.receiver (take (a.id + a.id_length - a.id) (drop a.id input)) (take (a.moment + 29 - a.moment) (drop a.moment input)) rows_before rows_after before after (said r)
+        → Filed input rows_before rows_after before after (bytes_of r)
+    filed r c =
+        let k = called-on (said r) (parts-on a.kind a.receiver rows_before rows_after before after (said r) c) in
+        record { answer = bytes-said r ∙ k.answer; rows = k.rows; file = k.file }

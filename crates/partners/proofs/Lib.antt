@@ -1,3 +1,4 @@
 pub mod RolesLaws
 pub mod DirectionsLaws
 pub mod NextLaws
+pub mod PlacedLaws
