@@ -36,7 +36,7 @@ impl Change {
 
 /// 28 March 2021 and 29 October 2023, each with days behind it.
 const MARCH: Change = Change::new(2021, 3, 3, 30, 92);
-const OCTOBER: Change = Change::new(2023, 10, 3, 31, 100);
+pub const OCTOBER: Change = Change::new(2023, 10, 3, 31, 100);
 pub const CHANGES: [Change; 2] = [MARCH, OCTOBER];
 
 /// Gives readings from place `from` up to `to` that name their day and quarter-hour; earlier days have more watts.

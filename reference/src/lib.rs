@@ -10,6 +10,7 @@ pub mod message;
 pub mod message_cases;
 pub mod program;
 pub mod random;
+pub mod rank_cases;
 pub mod refusal;
 pub mod report_cases;
 pub mod series;

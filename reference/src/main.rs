@@ -1,6 +1,6 @@
 //! Writes stored cases and their expected answers; see README.md.
 
-use reference::{book_cases, calendar, case_text, message_cases, report_cases, settle_cases};
+use reference::{book_cases, calendar, case_text, message_cases, rank_cases, report_cases, settle_cases};
 use std::io::{Read, Write};
 use std::process::ExitCode;
 
@@ -10,7 +10,7 @@ const USAGE: &str = "usage: reference NAME-cases              the cases
        reference settle-random SEED COUNT
        reference index                   what each line of all cases tests
        reference months                  the same lines as brussels.py prints
-NAME is one of book, settle, write, read, sheet, file, program; see README.md.
+NAME is one of book, rank, settle, write, read, sheet, file, program; see README.md.
 ";
 
 fn main() -> ExitCode {
@@ -39,6 +39,8 @@ fn output(words: &[&str]) -> Option<String> {
         }
         ["book-cases"] => book_cases::cases_text(&book_cases::cases()),
         ["book-answers"] => book_cases::answers(&input()),
+        ["rank-cases"] => rank_cases::cases_text(&rank_cases::cases()),
+        ["rank-answers"] => rank_cases::answers(&input()),
         ["settle-cases"] => settle_cases::cases_text(&settle_cases::cases()),
         ["settle-answers"] => settle_cases::answers(&input()),
         ["write-cases"] => message_cases::write_cases_text(),
@@ -65,6 +67,7 @@ fn input() -> String {
 /// What CASES.md holds.
 fn index() -> String {
     let books = book_cases::cases().into_iter().map(|case| case.what);
+    let rankings = rank_cases::cases().into_iter().map(|case| case.what);
     let settlings = settle_cases::cases().into_iter().map(|case| case.what);
     let writings = message_cases::write_cases().into_iter().map(|case| case.what);
     let readings = message_cases::read_whats().into_iter();
@@ -73,6 +76,7 @@ fn index() -> String {
     let programs = report_cases::program_cases().into_iter().map(|case| case.what);
     let sections = [
         case_text::index("book-cases: refusals 1 to 7", books),
+        case_text::index("rank-cases: the ranked reference days", rankings),
         case_text::index("settle-cases: the settling call", settlings),
         case_text::index("write-cases: writing from rows", writings),
         case_text::index("read-cases: the reader", readings),

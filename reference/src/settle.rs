@@ -1,6 +1,6 @@
 //! Baselines, delivered volumes, corrections, and refusals 8, 9 and 10.
 
-use crate::book::{Book, Engagement, decode};
+use crate::book::{Book, Choice, Engagement, decode};
 use crate::refusal::{Refusal, refused};
 
 /// "One watt is 30,240 grains; all results are whole grains."
@@ -171,22 +171,47 @@ fn is_eligible(book: &Book, engagement: &Engagement, day: usize, adjusted: bool)
             || reference_window(book, engagement, day).is_some() && !window_touches_clock_change(book, engagement, day))
 }
 
-/// "The Y latest eligible days are taken; of them the X with the greatest sum over the engagement's
-/// quarter-hours, the later day first among equal sums": a reading that two of them look at counts twice. None if
-/// fewer than Y are eligible: 9.
+/// A reference day and the sum over the engagement's quarter-hours of what they look at on it.
+#[derive(Clone, Copy, Debug, PartialEq, Eq)]
+pub struct RankedDay {
+    pub day: usize,
+    pub watts: i64,
+}
+
+/// X and Y of the category of the engagement's day.
+fn choice(book: &Book, engagement: &Engagement) -> Choice {
+    book.choices[book.calendar[engagement.day as usize] as usize]
+}
+
+/// "The Y latest eligible days are taken", fewer where fewer are eligible, ranked by "the greatest sum over the
+/// engagement's quarter-hours, the later day first among equal sums": a reading that two of them look at counts twice.
+fn ranked_days(book: &Book, engagement: &Engagement, adjusted: bool) -> Vec<RankedDay> {
+    let eligible = (0..engagement.day as usize).rev().filter(|&day| is_eligible(book, engagement, day, adjusted));
+    let latest = eligible.take(choice(book, engagement).y as usize);
+    let sum = |day: usize| -> i64 { reference_readings(book, engagement, day).unwrap().iter().sum() };
+    let mut ranked: Vec<RankedDay> = latest.map(|day| RankedDay { day, watts: sum(day) }).collect();
+    ranked.sort_by_key(|ranked| (ranked.watts, ranked.day));
+    ranked.reverse();
+    ranked
+}
+
+/// The ranked days of the book's engagement of this number, counted from 0, or none if the book has no such engagement:
+/// with method 2's windows where its point has that method, and of method 0 as of method 1.
+pub fn rank(bytes: &[u8], number: usize) -> Result<Option<Vec<RankedDay>>, Refusal> {
+    let book = decode(bytes)?;
+    let method = |engagement: &Engagement| book.register[engagement.point as usize].method;
+    let ranked = |engagement: &Engagement| ranked_days(&book, engagement, method(engagement) == 2);
+    Ok(book.engagements.get(number).map(ranked))
+}
+
+/// "The Y latest eligible days are taken; of them the X with the greatest sum". None if fewer than Y are eligible: 9.
 fn chosen_days(book: &Book, engagement: &Engagement, adjusted: bool) -> Option<Vec<usize>> {
-    let settled = engagement.day as usize;
-    let choice = book.choices[book.calendar[settled] as usize];
-    let eligible = (0..settled).rev().filter(|&day| is_eligible(book, engagement, day, adjusted));
-    let latest: Vec<usize> = eligible.take(choice.y as usize).collect();
-    if latest.len() < choice.y as usize {
+    let choice = choice(book, engagement);
+    let ranked = ranked_days(book, engagement, adjusted);
+    if ranked.len() < choice.y as usize {
         return None;
     }
-    let sum = |day: usize| -> i64 { reference_readings(book, engagement, day).unwrap().iter().sum() };
-    let mut ranked: Vec<(i64, usize)> = latest.into_iter().map(|day| (sum(day), day)).collect();
-    ranked.sort();
-    ranked.reverse();
-    Some(ranked.into_iter().take(choice.x as usize).map(|(_, day)| day).collect())
+    Some(ranked.into_iter().take(choice.x as usize).map(|ranked| ranked.day).collect())
 }
 
 /// The mean of some whole watts, in grains; 30,240 is a multiple of every count that comes here.

@@ -1,6 +1,6 @@
 //! What the proved programs are run on and held to is what this crate makes.
 
-use reference::{book_cases, message_cases, report_cases, settle_cases};
+use reference::{book_cases, message_cases, rank_cases, report_cases, settle_cases};
 
 fn stored(program: &str, name: &str) -> String {
     std::fs::read_to_string(format!("../crates/{program}/{name}")).unwrap()
@@ -11,6 +11,13 @@ fn book_vectors() {
     let cases = book_cases::cases_text(&book_cases::cases());
     assert!(stored("book_vectors", "stdin") == cases);
     assert!(stored("book_vectors", "stdout") == book_cases::answers(&cases));
+}
+
+#[test]
+fn ranking_vectors() {
+    let cases = rank_cases::cases_text(&rank_cases::cases());
+    assert!(stored("ranking_vectors", "stdin") == cases);
+    assert!(stored("ranking_vectors", "stdout") == rank_cases::answers(&cases));
 }
 
 #[test]

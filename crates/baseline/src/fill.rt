@@ -35,7 +35,7 @@ impl<'a> Case<'a> {
         ensures { Levels self.now.shown self.now.calendar.now self.now.readings.now levels.new }
     {
         let mut ranking = Ranking::new();
-        self.rank_days(&mut ranking);
+        self.fill_ranking(&mut ranking);
         let starts = &mut ranking.keys[..self.shown.x];
         crate::taken::start_days(self.shown.c, starts);
         let taken = Taken {

@@ -73,7 +73,7 @@ impl<'a> Case<'a> {
             return false;
         }
         let mut ranking = Ranking::new();
-        self.rank_days(&mut ranking);
+        self.fill_ranking(&mut ranking);
         ranking.found < self.shown.y
     }
 

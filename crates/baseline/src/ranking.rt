@@ -58,7 +58,7 @@ impl<'a> Case<'a> {
     // Ranks the Y latest eligible days before the engagement's. A day's sum and the day are one number, so that among equal sums the later day's is the greater, and
     // days are put in order as numbers are. The keys behind them stay. The ranking is lent: given back by value its keys would be copied, for which the library would need `memcpy` from outside.
     #[tactic(auto, using(crate::proofs::JudgedLaws::ranks_judged))]
-    pub fn rank_days(&self, ranking: &mut Ranking)
+    pub fn fill_ranking(&self, ranking: &mut Ranking)
         requires { length ranking.old.keys ≡ 20 }
         ensures few { ranking.new.found ≤ self.now.shown.y }
         ensures behind { drop ranking.new.found ranking.new.keys ≡ drop ranking.new.found ranking.old.keys }
@@ -75,5 +75,16 @@ impl<'a> Case<'a> {
                 ranking.put(sum * 64 + (day as u64));
             }
         }
+    }
+
+    // The same in a ranking of its own, for whoever lends none: no call of the library's goes by it.
+    pub fn rank_days(&self) -> Ranking
+        ensures few { result.found ≤ self.now.shown.y }
+        ensures room { length result.keys ≡ 20 }
+        ensures ranked { (b : Book) → CaseOf self.now b → RankedTo b self.now.shown.e self.now.shown.y (take result.found result.keys) }
+    {
+        let mut ranking = Ranking::new();
+        self.fill_ranking(&mut ranking);
+        ranking
     }
 }

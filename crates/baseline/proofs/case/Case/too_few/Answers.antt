@@ -6,5 +6,5 @@ use Rattle.baseline.proofs.case.Case.too_few.Goals as goal
 
 pub returns : goal.returns
 returns c = λ b shows.
-    let found = c.rank_days.new.ranking in
-    days-found _ b _ _ _ (sym c.looks_back.ensures ∙ c.if-not-looks_back.false) shows.wants (sym (key-count (c.rank_days.ensures.ranked b shows)) ∙ length-take-le found.found found.keys (omega (arith, c.rank_days.ensures.few, c.rank_days.ensures.room, c.args.self.now.fits.x_of_y.twenty)))
+    let found = c.fill_ranking.new.ranking in
+    days-found _ b _ _ _ (sym c.looks_back.ensures ∙ c.if-not-looks_back.false) shows.wants (sym (key-count (c.fill_ranking.ensures.ranked b shows)) ∙ length-take-le found.found found.keys (omega (arith, c.fill_ranking.ensures.few, c.fill_ranking.ensures.room, c.args.self.now.fits.x_of_y.twenty)))

@@ -2,7 +2,7 @@
 use Rattle.std.proofs.Common.{refl, sym, ap, ◌∙◌, arith, take, drop, drop-drop, length-take, length-take-le, ◌+◌, ◌-◌, ◌≡◌, ℕ, List}
 use Rattle.baseline.specs.ShownLaws.{stands}
 use Rattle.baseline.specs.RanksLaws.{scan-start, scan-yes, scan-no, scan-full, scan-few}
-use Rattle.baseline.proofs.case.Case.rank_days.Goals as goal
+use Rattle.baseline.proofs.case.Case.fill_ranking.Goals as goal
 
 -- what stays from a place on stays from the next one on
 further : (n : ℕ) (a b : List ℕ) → drop n a ≡ drop n b → drop (n + 1) a ≡ drop (n + 1) b
