@@ -1,5 +1,5 @@
-// Ranks the days before an engagement of the book of each line of standard input, whose number the line says. Prints each day that was ranked, with the watts
-// of what stands on it for the engagement's quarter-hours, or the refusal.
+// Ranks the reference days of an engagement of the book of each line of standard input; the line's first word is the engagement's number, from 0. Prints how many
+// days are ranked, and each with its sum in watts; or that there is no such engagement; or the book's refusal.
 #![tactic(auto)]
 
 use baseline::case::Case;
@@ -9,7 +9,7 @@ use settlement::days::MOST_POINTS;
 use settlement::opened::OpenBook;
 use std::io;
 
-// The number of an engagement, a line's first word. It says nothing of what a line says: the trait asks for no more.
+// The number of an engagement. `says` is left out: nothing is promised of it.
 #[derive(Clone, Copy, Debug, PartialEq, Eq)]
 struct Which {
     engagement: usize,
