@@ -55,7 +55,7 @@ fn read_case<'a, C: FromWords>(line: &[u8], room: &'a mut [u8]) -> Option<(C, &'
 }
 
 // Gives what each line of the first `most` bytes says, and its book, to what runs a case; a line that doesn't say them, or whose book has no room, is no case.
-// By `each_line` it was tried: that the closure which it takes can be called didn't close from `IsAlwaysCallable run`.
+// Not by `each_line`: the closure that it would take needs two clauses, and a proof by hand that it can be called again (docs/LOOK-BACK.md, "Brought back").
 pub fn each_case<R: Input + Print + Alloc, C: FromWords, F: FnMut(C, &[u8]) -> io::Result<()>>(
     rt: &R,
     most: u64,
